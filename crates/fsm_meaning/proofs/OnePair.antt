@@ -1,10 +1,8 @@
 -- An expression without a choice relates its two words and no others.
-use Rattle.std.proofs.Common.{◌≡◌, ◌++◌, List, [], ◌∷◌, map, refl, sym, ◌∙◌, ap, subst}
-use Rattle.fsm_base.specs.declared.letters.Bound.{Bound}
-use Rattle.fsm_base.specs.declared.letters.Bound.TheVariants.{Edge, Inner}
-use Rattle.fsm_words.specs.Words.{IsConcatenation}
-use Rattle.regex_ast.specs.Terms.{Term, empty, any, edge, atom, letters, group, maybe, not_one, cross, suffixed, prefixed, ignore, concat, chain, only, rules, steps, Terms, no_term, then_term}
-use Rattle.fsm_meaning.specs.Relation.{In, Relates, RelatesEach, inner, IsConcatenationOfPairs}
+use Rattle.std.proofs.Common.{◌≡◌, ◌++◌, List, [], ◌∷◌, map, refl, sym, ◌∙◌, ap}
+use Rattle.fsm_base.specs.declared.letters.Bound.TheVariants.{Inner}
+use Rattle.regex_ast.specs.Terms.{Term, empty, atom, letters, cross, concat, Terms, no_term, then_term}
+use Rattle.fsm_meaning.specs.Relation.{In, Relates, RelatesEach, inner}
 use Rattle.fsm_meaning.specs.OnePair.{IsLeaf, IsPart, AreParts, IsPlain, leaf_word, part_upper, part_lower, parts_upper, parts_lower, upper_word, lower_word, RelatesOne}
 
 -- words that are the same with room for the edge are the same

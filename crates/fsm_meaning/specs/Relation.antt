@@ -5,7 +5,7 @@ use Rattle.std.specs.Prelude.{◌≡◌, ◌++◌, List, [], ◌∷◌, map}
 use Rattle.fsm_base.specs.declared.letters.Bound.{Bound}
 use Rattle.fsm_base.specs.declared.letters.Bound.TheVariants.{Edge, Inner}
 use Rattle.fsm_words.specs.Words.{IsConcatenation}
-use Rattle.regex_ast.specs.Terms.{Term, empty, any, edge, atom, letters, group, maybe, not_one, cross, suffixed, prefixed, ignore, concat, chain, only, rules, steps, Terms, no_term, then_term}
+use Rattle.regex_ast.specs.Terms.{Term, empty, edge, atom, letters, cross, concat, Terms, no_term, then_term}
 
 -- a word without the edge, as one that might have it
 abbrev pub inner : {L : Type 0} → List L → List (Bound L)

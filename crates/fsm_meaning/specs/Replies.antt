@@ -1,6 +1,6 @@
 -- The reply to a line that is looked up: bytes, with the version's number first. `long`, `line`, `net`
 -- and `symbol` are tried in this order, and then the related texts are told.
-use Rattle.std.specs.Prelude.{◌≡◌, ◌≤◌, ◌++◌, ℕ, List, [], ◌∷◌, length, All, Option, None, Some, Result, Ok, Err, codes, decimal}
+use Rattle.std.specs.Prelude.{◌≡◌, ◌≤◌, ◌++◌, ◌==◌, if◌then◌else◌, ℕ, List, [], ◌∷◌, length, All, Option, None, Some, Ok, Err, codes, decimal}
 use Rattle.std.specs.List.{flat_map}
 use Rattle.fsm_base.specs.Cut.{cut}
 use Rattle.fsm_meaning.specs.Answers.{Texts, Found, strings, more, loop, Answers}
