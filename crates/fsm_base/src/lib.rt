@@ -3,12 +3,17 @@
 //! - [`Letter`], [`Sym`], [`Pair`], [`Bound`]: what automata read.
 //! - [`Text`]: a text, ordered by its bytes.
 //! - [`SymbolTable`]: the texts of the symbols, by their numbers.
+//! - [`Alphabet`]: symbols with their texts; [`Alphabet::tokens`] cuts a text into symbols, and
+//!   [`Alphabet::text`] joins them again.
 #![tactic(auto)]
 
+mod alphabet;
 mod letters;
+mod longest;
 mod symbols;
 mod text;
 
+pub use alphabet::{Alphabet, TokensError};
 pub use letters::{Bound, Letter, Pair, Sym};
 pub use symbols::SymbolTable;
 pub use text::Text;
