@@ -5,7 +5,8 @@ use Rattle.std.proofs.lemmas.Bool.Decides.{Decides-eqb, nat_tests}
 use Rattle.std.proofs.lemmas.Cmp.{ranked, upto, nat_cmp_total, nat_list_cmp_total, tied_itself}
 use Rattle.std.specs.Cmp.{IsTotalOrder}
 use Rattle.std.specs.Cmp.Lexicographic.{slice_cmp}
-use Rattle.std.specs.List.{common_prefix_len}
+use Rattle.std.proofs.lemmas.List.Folds.{length-prefix_len}
+use Rattle.std.specs.List.{common_prefix_len, prefix_len, take_while, zip}
 use Rattle.std.specs.Ordering.{nat_cmp, is_le, is_lt, is_gt, ordering_then, ordering_reverse, MatchOrdering}
 use Rattle.fsm_base.specs.Longest.{BeginsWith, IsLongest, BeginsWithNone}
 use Rattle.fsm_base.specs.Sorted.{IsUpTo, IsLastUpTo, NoneUpTo}
@@ -154,3 +155,12 @@ pub none_from_none_up_to : (texts : List (List ℕ)) (bytes front : List ℕ) �
 none_from_none_up_to texts bytes front narrowed none = λ text among begins.
     let here = narrowed.keeps text among begins in
     none text among (subst (λ v. IsUpTo text v) (sym here.1) (IsUpTo-front text here.0))
+
+-- how many bytes two texts share, by the pairs that are alike
+pub shared_is : (a b : List ℕ) → length (take_while (λ (pair : ℕ × ℕ). nat_eq pair.0 pair.1) (zip a b)) ≡ common_prefix_len nat_eq a b
+shared_is a b = length-prefix_len (λ (pair : ℕ × ℕ). nat_eq pair.0 pair.1) (zip a b) ∙ alike a b
+  where
+    alike : (a b : List ℕ) → prefix_len (λ (pair : ℕ × ℕ). nat_eq pair.0 pair.1) (zip a b) ≡ common_prefix_len nat_eq a b
+    alike [] b = refl
+    alike (x ∷ a) [] = refl
+    alike (x ∷ a) (y ∷ b) = ap (λ (n : ℕ). cond (nat_eq x y) (1 + n) 0) (alike a b)

@@ -9,7 +9,7 @@ ghost use Rattle.fsm_base.specs.Symbols.{IsTable};
 ghost use Rattle.fsm_base.specs.Tokens.{IsStopped};
 
 use indexmap::IndexMap;
-use std::alloc::{AllocError, Global};
+use std::alloc::{AllocError, AllocFailed, Global};
 use std::marker::Model;
 use thiserror::Error;
 
@@ -27,7 +27,29 @@ pub enum TokensError {
     },
     /// There is no memory.
     #[error(transparent)]
-    Memory(#[from(alloc)] AllocError),
+    Memory(AllocError),
+}
+
+impl From<AllocError> for TokensError {
+    ghost use Rattle.std.specs.Prelude.{◌≡◌};
+    ghost use Rattle.fsm_base.specs.declared.alphabet.TokensError.TheVariants.{Memory};
+
+    ghost from_gives = { λ refused error. error ≡ Memory refused };
+
+    fn from(refused: AllocError) -> TokensError {
+        TokensError::Memory(refused)
+    }
+}
+
+impl<T: Drop> From<AllocFailed<T>> for TokensError {
+    ghost use Rattle.std.specs.Prelude.{◌≡◌, alloc_error};
+    ghost use Rattle.fsm_base.specs.declared.alphabet.TokensError.TheVariants.{Memory};
+
+    ghost from_gives = { λ _ error. error ≡ Memory alloc_error };
+
+    fn from(_: AllocFailed<T>) -> TokensError {
+        TokensError::Memory(AllocError)
+    }
 }
 
 /// A closed alphabet: distinct symbols of a symbol table, with their texts.
