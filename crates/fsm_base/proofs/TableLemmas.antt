@@ -45,16 +45,17 @@ module _ {K X : Type 0} (eq : K → K → Bool) (f : K → X) (same : (a b : K) 
 pub IsDistinct-strings : {Y : Type 0} (ks : List (String Y)) → IsApart string_eq ks → IsDistinct (map string_bytes ks)
 IsDistinct-strings ks apart = IsDistinct-map string_eq string_bytes (λ a b e. (bytes_eq-Decides (string_bytes a) (string_bytes b)).1 e) ks apart
 
+-- an element of a front
+pub slice_get_front : {X : Type 0} (n : ℕ) (xs : List X) (i : ℕ) (x : X) → slice_get (take n xs) i ≡ Some x → slice_get xs i ≡ Some x
+slice_get_front zero [] i x at = at
+slice_get_front zero (y ∷ ys) i x at = cc
+slice_get_front (suc n) [] i x at = at
+slice_get_front (suc n) (y ∷ ys) zero x at = at
+slice_get_front (suc n) (y ∷ ys) (suc i) x at = slice_get_front n ys i x at
+
 -- the front of a list of distinct values
 pub IsDistinct-take : {X : Type 0} (n : ℕ) (xs : List X) → IsDistinct xs → IsDistinct (take n xs)
 IsDistinct-take n xs apart i j x at_i at_j = apart i j x (slice_get_front n xs i x at_i) (slice_get_front n xs j x at_j)
-  where
-    slice_get_front : {X : Type 0} (n : ℕ) (xs : List X) (i : ℕ) (x : X) → slice_get (take n xs) i ≡ Some x → slice_get xs i ≡ Some x
-    slice_get_front zero [] i x at = at
-    slice_get_front zero (y ∷ ys) i x at = cc
-    slice_get_front (suc n) [] i x at = at
-    slice_get_front (suc n) (y ∷ ys) zero x at = at
-    slice_get_front (suc n) (y ∷ ys) (suc i) x at = slice_get_front n ys i x at
 
 -- the front of a table is one
 pub IsTable-take : (n : ℕ) (texts : List (List ℕ)) → IsTable texts → IsTable (take n texts)

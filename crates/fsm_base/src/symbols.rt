@@ -80,7 +80,8 @@ impl SymbolTable {
 
     /// The text of a symbol, or `None` where the table has no symbol of this number.
     pub fn text_of(&self, sym: Sym) -> Option<&str>
-        ensures { option_map (λ text. text.now) result ≡ slice_get self.now sym.0 }
+        ensures text { option_map (λ text. text.now) result ≡ slice_get self.now sym.0 }
+        ensures formed { IsTable self.now }
     {
         let text = self.texts.get_index(sym.0 as usize)?;
         Some(text.as_str())

@@ -1,0 +1,79 @@
+use std::cmp::Ordering;
+use std::collections::HashMap;
+use std::test::Fail;
+
+use crate::{cut_takes_longest, Alphabet, Bound, Letter, Pair, Sym, SymbolTable, Text, TokensError};
+
+fn order<L: Letter>(a: L, b: L) -> Ordering {
+    a.cmp(&b)
+}
+
+#[test]
+fn letters_have_an_order(rt: HostRuntime) {
+    let copied = Pair {
+        up: Some(Sym(1)),
+        low: Some(Sym(1)),
+    };
+    let inserted = Pair {
+        up: None,
+        low: Some(Sym(1)),
+    };
+    assert_eq!(rt; order(Sym(1), Sym(2)), Ordering::Less);
+    assert_eq!(rt; order(copied, inserted), Ordering::Greater);
+    assert_eq!(rt; order(Bound::Edge, Bound::Inner(Sym(0))), Ordering::Less);
+    assert_eq!(rt; order(Bound::Inner(Sym(3)), Bound::Inner(Sym(3))), Ordering::Equal);
+}
+
+#[test]
+fn texts_are_ordered_by_bytes(rt: HostRuntime) -> Result<(), Fail> {
+    let alloc = rt.alloc();
+    for (a, b, want) in [
+        ("a", "ab", Ordering::Less),
+        ("z", "é", Ordering::Less),
+        ("b", "ab", Ordering::Greater),
+        ("", "", Ordering::Equal),
+    ] {
+        let (a, b) = (Text::of(alloc, a)?, Text::of(alloc, b)?);
+        assert_eq!(rt; a.cmp(&b), want);
+        assert_eq!(rt; a.partial_cmp(&b), Some(want));
+        assert_eq!(rt; a == b, want == Ordering::Equal);
+    }
+    let text = Text::from(String::from_str(alloc, "cat")?);
+    let mut counts = HashMap::new(alloc);
+    counts.insert(text.clone()?, 1u8)?;
+    assert_eq!(rt; counts.get(&text).copied(), Some(1));
+    assert_eq!(rt; text.as_str(), "cat");
+    assert_eq!(rt; text.into_string().as_str(), "cat");
+    Ok(())
+}
+
+#[test]
+fn the_longest_symbol_is_cut_first(rt: HostRuntime) -> Result<(), Fail> {
+    let alloc = rt.alloc();
+    let mut table = SymbolTable::new(alloc);
+    assert!(rt; table.is_empty());
+    let a = table.intern("a")?;
+    let ab = table.intern("ab")?;
+    assert!(rt; table.len() < 16_777_216);
+    assert_eq!(rt; table.intern("a")?, a);
+    assert_eq!(rt; (a, ab, table.len()), (Sym(0), Sym(1), 2));
+    assert_eq!(rt; table.text_of(ab), Some("ab"));
+
+    let alphabet = Alphabet::of(alloc, &table, &[a, ab])?;
+    assert_eq!(rt; alphabet.symbols(), [a, ab].as_slice());
+    for (text, want) in [("aab", [a, ab]), ("aba", [ab, a])] {
+        assert_eq!(rt; alphabet.tokens(alloc, text)?.as_slice(), want.as_slice(), "at {text}");
+    }
+    for (text, want) in [("ba", 1), ("aéa", 2), ("abb", 3)] {
+        match alphabet.tokens(alloc, text) {
+            Err(TokensError::NoSymbol { at }) => assert_eq!(rt; at, want, "at {text}"),
+            _ => assert!(rt; false, "{text} has a cut"),
+        }
+    }
+    assert_eq!(rt; alphabet.text(alloc, &[ab, a])?.as_str(), "aba");
+
+    table.keep(1);
+    assert_eq!(rt; table.text_of(ab), None);
+    cut_takes_longest();
+    Ok(())
+}
