@@ -26,33 +26,32 @@ edge_same {M} e f a b c =
     ap with_from a ∙ ap with_letter b ∙ ap with_to c
 
 module _ {L : Type 0} (d : Complete L) where
-
   pub HasArcs-none : HasArcs d (λ s _. s < 0) []
   HasArcs-none = record {
-      only = λ e h. absurd (Contains-nil_cases e h);
-      all = λ k e h _. absurd (omega arith);
-    }
+    only = λ e h. absurd (Contains-nil_cases e h);
+    all = λ k e h _. absurd (omega arith);
+  }
 
   pub HasArcs-row_none : (state : ℕ) (edges : List (Edge L)) → HasArcs d (λ s _. s < state) edges → HasArcs d (IsBefore state 0) edges
   HasArcs-row_none state edges h = record {
-      only = λ e c. let r = h.only e c in (r.0, inl r.1, r.2);
-      all = λ k e p arc. h.all k e (elim p [ inl l ↦ l | inr q ↦ absurd (omega arith) ]) arc;
-    }
+    only = λ e c. let r = h.only e c in (r.0, inl r.1, r.2);
+    all = λ k e p arc. h.all k e (elim p [ inl l ↦ l | inr q ↦ absurd (omega arith) ]) arc;
+  }
 
   pub HasArcs-row_more : (state i t : ℕ) (x : L) (edges : List (Edge L)) → slice_get d.letters i ≡ Some x → next_state d state i ≡ Some t → HasArcs d (IsBefore state i) edges → HasArcs d (IsBefore state (i + 1)) (edges ++ record { from = state; letter = Some x; to = t } ∷ [])
   HasArcs-row_more state i t x edges at go h =
       let new : Edge L = record { from = state; letter = Some x; to = t } in
       record {
         only = λ e c. elim (Contains-push_cases edges new e c) [
-            inl old ↦ let r = h.only e old in (r.0, elim r.1 [ inl l ↦ inl l | inr q ↦ inr (q.0, omega arith) ], r.2)
+          | inl old ↦ let r = h.only e old in (r.0, elim r.1 [ inl l ↦ inl l | inr q ↦ inr (q.0, omega arith) ], r.2)
           | inr same ↦
               let P : Edge L → Type 0 = λ y. (k : ℕ) × IsBefore state (i + 1) y.from k × IsArc d k y in
               subst P same (i, inr (refl, omega arith), (x, at, refl, go))
-          ];
+        ];
         all = λ k e p arc. elim p [
-            inl l ↦ Contains-append_left edges (new ∷ []) e (h.all k e (inl l) arc)
+          | inl l ↦ Contains-append_left edges (new ∷ []) e (h.all k e (inl l) arc)
           | inr q ↦ elim (cases_lt k i) [
-              inl l ↦ Contains-append_left edges (new ∷ []) e (h.all k e (inr (q.0, l)) arc)
+            | inl l ↦ Contains-append_left edges (new ∷ []) e (h.all k e (inr (q.0, l)) arc)
             | inr g ↦
                 let k_is : k ≡ i = omega arith in
                 let letter : arc.0 ≡ x = same_at d.letters i arc.0 x (subst (λ j. slice_get d.letters j ≡ Some arc.0) k_is arc.1) at in
@@ -61,20 +60,19 @@ module _ {L : Type 0} (d : Complete L) where
                 let is_letter : e.letter ≡ Some x = arc.2 ∙ ap Some letter in
                 let same : new ≡ e = edge_same new e (sym from) (sym is_letter) (sym to) in
                 subst (λ y. Contains (edges ++ new ∷ []) y) same (Contains-push edges new)
-            ]
-          ];
+          ]
+        ];
       }
 
   pub HasArcs-row_all : (state i : ℕ) (edges : List (Edge L)) → length d.letters ≤ i → HasArcs d (IsBefore state i) edges → HasArcs d (λ s _. s < state + 1) edges
   HasArcs-row_all state i edges past h = record {
-      only = λ e c. let r = h.only e c in (r.0, elim r.1 [ inl l ↦ omega arith | inr q ↦ omega arith ], r.2);
-      all = λ k e l arc.
-          let within : k < length d.letters = slice_get_within d.letters k arc.0 arc.1 in
-          h.all k e (elim (cases_lt e.from state) [ inl b ↦ inl b | inr g ↦ inr (omega arith, omega arith) ]) arc;
-    }
+    only = λ e c. let r = h.only e c in (r.0, elim r.1 [ inl l ↦ omega arith | inr q ↦ omega arith ], r.2);
+    all = λ k e l arc.
+        let within : k < length d.letters = slice_get_within d.letters k arc.0 arc.1 in
+        h.all k e (elim (cases_lt e.from state) [ inl b ↦ inl b | inr g ↦ inr (omega arith, omega arith) ]) arc;
+  }
 
   module _ (ok : IsComplete d) (m : Automaton L) (finals : m.finals ≡ d.finals) (n : ℕ) (past : length d.finals ≤ n) (arcs : HasArcs d (λ s _. s < n) m.edges) where
-
     pub arcs_letters : (x : L) → UsesLetter m x → Contains d.letters x
     arcs_letters x (e, c, is) =
         let r = arcs.only e c in
@@ -102,8 +100,8 @@ module _ {L : Type 0} (d : Complete L) where
         let inside : s * length d.letters + k < length d.next = slice_get_within d.next (s * length d.letters + k) t go in
         let full : length d.next ≡ length d.finals * length d.letters = ok.full in
         elim (cases_lt s (length d.finals)) [
-          inl l ↦ omega arith
-        | inr g ↦ let h : length d.finals * length d.letters ≤ s * length d.letters = mul-le-mul_right (length d.letters) g in absurd (omega arith)
+          | inl l ↦ omega arith
+          | inr g ↦ let h : length d.finals * length d.letters ≤ s * length d.letters = mul-le-mul_right (length d.letters) g in absurd (omega arith)
         ]
 
     pub arcs_up : {s : ℕ} {w : List L} → AcceptsFrom d s w → fsa.AcceptsFrom m s w

@@ -18,7 +18,6 @@ read_back d distinct s t k x w at go (read {t = u} j at' go' rest) =
     subst (λ v. AcceptsFrom d v w) same rest
 
 module _ {L : Type 0} (d : Complete L) (ok : IsComplete d) (w : List L) where
-
   -- the loop of `accepts`: what is left of the word is accepted from the state exactly where the word is accepted
   pub accepts_more : (s t k i : ℕ) (x : L) → i < length w → x ≡ get_or w i x → slice_get d.letters k ≡ Some x → next_state d s k ≡ Some t → (AcceptsFrom d s (drop i w) ↔ Accepts d w) → AcceptsFrom d t (drop (i + 1) w) ↔ Accepts d w
   accepts_more s t k i x within is at go both =

@@ -20,14 +20,14 @@ pub Contains-map : {X Y : Type 0} (f : X → Y) (xs : List X) (x : X) → Contai
 Contains-map f [] x h = absurd (Contains-nil_cases x h)
 Contains-map f (y ∷ ys) x h =
     elim (Contains-cons_cases y ys x h) [
-      inl e ↦ subst (λ z. Contains (f y ∷ map f ys) (f z)) e (Contains-head (f y) (map f ys))
-    | inr t ↦ Contains-tail (f y) (map f ys) (f x) (Contains-map f ys x t)
+      | inl e ↦ subst (λ z. Contains (f y ∷ map f ys) (f z)) e (Contains-head (f y) (map f ys))
+      | inr t ↦ Contains-tail (f y) (map f ys) (f x) (Contains-map f ys x t)
     ]
 
 pub Contains-map_cases : {X Y : Type 0} (f : X → Y) (xs : List X) (y : Y) → Contains (map f xs) y → (x : X) × Contains xs x × (f x ≡ y)
 Contains-map_cases f [] y h = absurd (Contains-nil_cases y h)
 Contains-map_cases f (x ∷ xs) y h =
     elim (Contains-cons_cases (f x) (map f xs) y h) [
-      inl e ↦ (x, Contains-head x xs, e)
-    | inr t ↦ let r = Contains-map_cases f xs y t in (r.0, Contains-tail x xs r.0 r.1, r.2)
+      | inl e ↦ (x, Contains-head x xs, e)
+      | inr t ↦ let r = Contains-map_cases f xs y t in (r.0, Contains-tail x xs r.0 r.1, r.2)
     ]

@@ -28,8 +28,8 @@ slice_get-append_cases [] ys k x e = inr (k, omega arith, e)
 slice_get-append_cases (y ∷ xs) ys zero x e = inl e
 slice_get-append_cases (y ∷ xs) ys (suc k) x e =
     elim (slice_get-append_cases xs ys k x e) [
-      inl h ↦ inl h
-    | inr h ↦ inr (h.0, omega arith, h.2)
+      | inl h ↦ inl h
+      | inr h ↦ inr (h.0, omega arith, h.2)
     ]
 
 pub slice_get-push : {X : Type 0} (xs : List X) (x : X) → slice_get (xs ++ x ∷ []) (length xs) ≡ Some x

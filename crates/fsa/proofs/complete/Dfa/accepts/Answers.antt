@@ -17,12 +17,13 @@ next-state-requires-clause-place g c =
     slice_get_within _ c.in-Some.place c.letter-item.result (rw c.letters-letters.ensures.letters at c.in-Some.ensures)
 
 pub loop-letter-preserved : goal.loop-letter-preserved
-loop-letter-preserved g c =
-    (c.next-state.ensures.within,
-     accepts_more c.args.self.now c.letters-letters.ensures.complete c.args.word.now c.loop-letter.state c.next-state.result c.in-Some.place c.loop-letter.letter-index c.letter-item.result
-       c.loop-letter-test.true c.letter-item.is (rw c.letters-letters.ensures.letters at c.in-Some.ensures) c.next-state.ensures.next c.loop-letter.invariant.1)
+loop-letter-preserved g c = (
+  c.next-state.ensures.within,
+  accepts_more c.args.self.now c.letters-letters.ensures.complete c.args.word.now c.loop-letter.state c.next-state.result c.in-Some.place c.loop-letter.letter-index c.letter-item.result
+      c.loop-letter-test.true c.letter-item.is (rw c.letters-letters.ensures.letters at c.in-Some.ensures) c.next-state.ensures.next c.loop-letter.invariant.1,
+)
 
 pub returns : goal.returns
 returns g c =
     accepts_all c.args.self.now c.letters-letters.ensures.complete c.args.word.now c.loop-letter.state c.loop-letter.letter-index c.is_final.result
-      c.loop-letter-test.false c.is_final.ensures c.loop-letter.invariant.1
+    c.loop-letter-test.false c.is_final.ensures c.loop-letter.invariant.1
