@@ -47,8 +47,8 @@ impl<L: Copy> Fsa<L> {
         })
     }
 
-    /// An automaton with these states and no edge.
-    pub(crate) fn of_states(alloc: Global, finals: Vec<bool>) -> Fsa<L>
+    /// An automaton with no edge, by which of its states are final. There is an entry for each state.
+    pub fn of_states(alloc: Global, finals: Vec<bool>) -> Fsa<L>
         requires { 0 < length finals.items }
         ensures { result ≡ record { edges = []; finals = finals.items } }
     {
@@ -108,6 +108,15 @@ impl<L: Copy> Fsa<L> {
         ensures formed { IsWellFormed self.now }
     {
         self.edges.as_slice()
+    }
+
+    /// Whether each state is final.
+    pub fn finals(&self) -> &[bool]
+        ensures finals { result.now ≡ self.now.finals }
+        ensures formed { IsWellFormed self.now }
+    {
+        let _ = &self.edges;
+        self.finals.as_slice()
     }
 
     /// Whether a state is final.
