@@ -1,12 +1,13 @@
 ghost use Rattle.std.specs.Prelude.{◌≡◌, [], ◌∷◌, IfOk};
 ghost use Rattle.fsm_base.specs.Alphabet.{symbols_of};
 
+use crate::{
+    Alphabet, Bound, Letter, Pair, Sym, SymbolTable, Text, TokensError, cut_takes_longest,
+};
 use std::alloc::{AllocError, Global};
 use std::cmp::Ordering;
 use std::collections::HashMap;
 use std::test::Fail;
-
-use crate::{cut_takes_longest, Alphabet, Bound, Letter, Pair, Sym, SymbolTable, Text, TokensError};
 
 fn order<L: Letter>(a: L, b: L) -> Ordering {
     a.cmp(&b)
@@ -25,7 +26,10 @@ fn letters_have_an_order(rt: HostRuntime) {
     assert_eq!(rt; order(Sym(1), Sym(2)), Ordering::Less);
     assert_eq!(rt; order(copied, inserted), Ordering::Greater);
     assert_eq!(rt; order(Bound::Edge, Bound::Inner(Sym(0))), Ordering::Less);
-    assert_eq!(rt; order(Bound::Inner(Sym(3)), Bound::Inner(Sym(3))), Ordering::Equal);
+    assert_eq!(rt;
+        order(Bound::Inner(Sym(3)), Bound::Inner(Sym(3))),
+        Ordering::Equal
+    );
 }
 
 #[test]
@@ -80,7 +84,11 @@ fn the_longest_symbol_is_cut_first(rt: HostRuntime) -> Result<(), Fail> {
     let alloc = rt.alloc();
     let alphabet = short_alphabet(alloc)?;
     for (text, want) in [("aab", [Sym(0), Sym(1)]), ("aba", [Sym(1), Sym(0)])] {
-        assert_eq!(rt; alphabet.tokens(alloc, text)?.as_slice(), want.as_slice(), "at {text}");
+        assert_eq!(rt;
+            alphabet.tokens(alloc, text)?.as_slice(),
+            want.as_slice(),
+            "at {text}"
+        );
     }
     for (text, want) in [("ba", 1), ("aéa", 2), ("abb", 3)] {
         match alphabet.tokens(alloc, text) {
@@ -95,7 +103,10 @@ fn the_longest_symbol_is_cut_first(rt: HostRuntime) -> Result<(), Fail> {
 fn a_word_is_joined(rt: HostRuntime) -> Result<(), Fail> {
     let alphabet = short_alphabet(rt.alloc())?;
     assert_eq!(rt; alphabet.symbols(), [Sym(0), Sym(1)].as_slice());
-    assert_eq!(rt; alphabet.text(rt.alloc(), &[Sym(1), Sym(0)])?.as_str(), "aba");
+    assert_eq!(rt;
+        alphabet.text(rt.alloc(), &[Sym(1), Sym(0)])?.as_str(),
+        "aba"
+    );
     cut_takes_longest();
     Ok(())
 }

@@ -9,5 +9,5 @@ text-requires g c =
     let a : Sym = record { 0 = 0 } in
     let ab : Sym = record { 0 = 1 } in
     subst (λ (v : List Sym). IsOver v (ab ∷ a ∷ [])) (sym c.in_ok-alphabet.ensures)
-      (All-cons (Contains (a ∷ ab ∷ [])) ab (a ∷ []) (1, omega arith, refl)
-        (All-cons (Contains (a ∷ ab ∷ [])) a [] (0, omega arith, refl) (All-nil (Contains (a ∷ ab ∷ [])))))
+    (All-cons (Contains (a ∷ ab ∷ [])) ab (a ∷ []) (1, omega arith, refl)
+    (All-cons (Contains (a ∷ ab ∷ [])) a [] (0, omega arith, refl) (All-nil (Contains (a ∷ ab ∷ [])))))
