@@ -1,0 +1,9 @@
+pub mod Buffers
+pub mod Causes
+pub mod Sinks
+pub mod Folders
+pub mod Gather
+pub mod Held
+pub mod Objects
+pub mod Lines
+pub mod Reading

@@ -1,0 +1,4 @@
+pub mod NetworkLemmas
+pub mod PairLemmas
+pub mod Sending
+pub mod SideLemmas

@@ -1,0 +1,80 @@
+use fsm_base::Text;
+use std::alloc::AllocError;
+
+/// Why a project or an edit of it is refused, in the order in which the reasons are numbered.
+#[derive(Clone, Copy, Debug, PartialEq, Eq, PartialOrd, Ord, Hash)]
+pub enum Why {
+    /// The manifest is missing.
+    NoProject,
+    /// A file has more bytes than a file may have.
+    LimitFile,
+    /// A byte isn't UTF-8.
+    NotUtf8,
+    /// A control character other than tab and newline.
+    Control,
+    /// A place where no token begins.
+    Token,
+    /// A token inside too many open brackets.
+    LimitNesting,
+    /// A statement that has no reading.
+    Statement,
+    /// A power `^n` with a number that is too large.
+    LimitPower,
+    /// A rule with too many mappings or contexts.
+    LimitRule,
+    /// Too many files.
+    LimitFiles,
+    /// Too many entries in a lexc file.
+    LimitEntries,
+    /// Too many flag features in a lexc file.
+    LimitFeatures,
+    /// A continuation that is no lexicon of its file.
+    UnknownLexicon,
+    /// A file that is named and isn't there.
+    NoFile,
+    /// A name, file, lexicon, set or key that is declared again.
+    Duplicate,
+    /// Too many names.
+    LimitNames,
+    /// Too many symbols.
+    LimitSymbols,
+    /// A required name that isn't defined.
+    UnknownName,
+    /// A definition that reaches itself through names.
+    Cycle,
+    /// A relation where a language is wanted.
+    NotALanguage,
+    /// A definition that weighs too much.
+    LimitWeight,
+    /// A centre whose language has the empty word.
+    EmptyCentre,
+    /// A splice of lines that aren't there.
+    BadSplice,
+    /// A form that can't be compiled yet.
+    NotBuilt,
+}
+
+/// What is wrong with a project, and where.
+#[derive(Debug, Drop)]
+pub struct Fault {
+    /// The file, `project` being the manifest.
+    pub file: Text,
+    /// The line, counted from 1; 0 is the file as a whole.
+    pub line: u32,
+    /// The reason.
+    pub why: Why,
+}
+
+/// What a reader of one source answers in place of its tree.
+#[derive(Debug, Drop)]
+pub enum ReadError {
+    /// The source's first fault, and its line, counted from 1; 0 is the source as a whole.
+    Fault {
+        /// The line.
+        line: u32,
+        /// The reason.
+        why: Why,
+    },
+    /// There was no memory.
+    Memory(AllocError),
+}
