@@ -1,6 +1,7 @@
 pub mod Lawful
 pub mod NetworkLemmas
 pub mod ReplyBytes
+pub mod Runs
 pub mod PairLemmas
 pub mod Sending
 pub mod SideLemmas

@@ -1,5 +1,6 @@
 -- What was read and written so far while the lines of an input are answered.
-use Rattle.std.specs.Prelude.{◌≡◌, ◌++◌, ℕ, true, false, List, [], Option, None, Some}
+use Rattle.std.specs.Prelude.{◌≡◌, ◌++◌, ◌^◌, ℕ, true, false, List, [], Option, None, Some, Result, Ok, Err}
+use Rattle.fsm_io.specs.declared.source.Failed.{Failed}
 use Rattle.std.specs.Io.KnownBytes.{Appends}
 use Rattle.fsm_io.specs.Reading.{LinesView, HasTold}
 use Rattle.fsm_meaning.specs.Transcripts.{IsTranscript, HasAnswered}
@@ -21,3 +22,14 @@ Turns R budget left0 left held0 held reader gathered (Some Finished) = Sofar R b
 Turns R budget left0 left held0 held reader gathered (Some WriteFailed) = HasAnswered R budget left0 left held0 held WriteFailed
 Turns R budget left0 left held0 held reader gathered (Some ReadFailed) = Sofar R budget left0 left held0 held reader gathered × (reader.ended ≡ false) × (reader.ahead ≡ [])
 Turns R budget left0 left held0 held reader gathered (Some Spent) = Sofar R budget left0 left held0 held reader gathered × (reader.ended ≡ false) × (reader.ahead ≡ []) × (reader.budget ≡ 0)
+
+-- how a flush went, by the ending that it leaves
+abbrev pub flushed : Ending → Result (Unit {0}) Failed
+flushed Finished = Ok tt
+flushed WriteFailed = Err (record {})
+flushed ReadFailed = Ok tt
+flushed Spent = Ok tt
+
+-- the greatest number of bytes taken from one source in a run
+unfoldable pub most_taken : ℕ
+most_taken = 2 ^ 40
