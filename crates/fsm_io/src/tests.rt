@@ -1,26 +1,39 @@
-use std::alloc::{AllocError, Global};
-use std::fs;
-use std::test::Fail;
-
-use fsm_base::Text;
-
 use crate::{
     DirFolder, Failed, Folder, FolderError, Found, LineEvent, Lines, MemoryFolder, MemorySink,
     MemorySource, Outbox, ReadSource, Sink, Source, WriteSink, write_all,
 };
+use fsm_base::Text;
+use std::alloc::{AllocError, Global};
+use std::fs;
+use std::test::Fail;
 
-fn source_of(alloc: Global, bytes: &[u8], piece: usize, failing: &[u64]) -> Result<MemorySource, AllocError> {
+fn source_of(
+    alloc: Global,
+    bytes: &[u8],
+    piece: usize,
+    failing: &[u64],
+) -> Result<MemorySource, AllocError> {
     let bytes = Vec::from_slice(alloc, bytes)?;
     let failing = Vec::from_slice(alloc, failing)?;
     Ok(MemorySource::new(bytes, piece.max(1), failing))
 }
 
-fn sink_of(alloc: Global, room: usize, piece: usize, failing: &[u64]) -> Result<MemorySink, AllocError> {
+fn sink_of(
+    alloc: Global,
+    room: usize,
+    piece: usize,
+    failing: &[u64],
+) -> Result<MemorySink, AllocError> {
     MemorySink::new(alloc, room, piece.max(1), Vec::from_slice(alloc, failing)?)
 }
 
 /// The first events, each on a line of its own: a line after `=`, another event by its sign.
-fn events<S: Source>(alloc: Global, source: &mut S, budget: u64, count: usize) -> Result<Vec<u8>, AllocError> {
+fn events<S: Source>(
+    alloc: Global,
+    source: &mut S,
+    budget: u64,
+    count: usize,
+) -> Result<Vec<u8>, AllocError> {
     let mut lines = Lines::open(alloc, budget)?;
     let mut told = Vec::new(alloc);
     for _ in 0..count {
@@ -47,7 +60,14 @@ fn lines_of_a_source(rt: HostRuntime) -> Result<(), Fail> {
         (b"ab\ncd", 1, &[], 100, 4, b"=ab\n=cd\nend\nend\n"),
         (b"ab\ncd", 99, &[], 100, 3, b"=ab\n=cd\nend\n"),
         (b"ab\ncd", 1, &[2], 100, 4, b"failed\n=ab\n=cd\nend\n"),
-        (b"ab\ncd", 1, &[5, 6], 100, 5, b"=ab\nfailed\nfailed\n=cd\nend\n"),
+        (
+            b"ab\ncd",
+            1,
+            &[5, 6],
+            100,
+            5,
+            b"=ab\nfailed\nfailed\n=cd\nend\n",
+        ),
         (b"abcd", 99, &[], 3, 2, b"over\nover\n"),
         (b"ab\ncd", 2, &[], 3, 2, b"=ab\nover\n"),
         (b"ab\ncd", 2, &[], 6, 3, b"=ab\n=cd\nend\n"),
