@@ -1,0 +1,28 @@
+-- The terms of a row of expressions, from the items of the `Vec` that holds them.
+use Rattle.std.proofs.Common.{◌≡◌, ℕ, List, [], ◌∷◌, map, Vec, Global, refl, ap, ◌∙◌}
+use Rattle.regex_ast.specs.Terms.{Term, Terms, term, terms, then_term, concat}
+use Rattle.regex_ast.specs.declared.expr.Expr.{Expr, Concat, Concat', Row_of-Expr, items_hidden-the_row-Expr-0, end_of-Expr, more_of-Expr, items-the_row-Expr}
+use Rattle.regex_ast.specs.declared.expr.Raw.{Raw}
+use Rattle.regex_reader.specs.Form.{terms_of}
+
+-- by the list of the row's items
+terms_of_row : {n : _} → (row : Row_of-Expr Raw n) → terms row ≡ terms_of (map term (items-the_row-Expr Raw n row))
+terms_of_row end_of-Expr = refl
+terms_of_row (more_of-Expr e row) = ap (then_term (term e)) (terms_of_row row)
+
+
+-- the expressions that stand side by side
+abbrev items_of : Expr Raw → List (Expr Raw)
+items_of (Concat' shape row) = items-the_row-Expr Raw _ row
+items_of _ = []
+
+abbrev IsConcat : Expr Raw → Type 0
+IsConcat (Concat' shape row) = Unit {0}
+IsConcat _ = ⊥
+
+term_items : (e : Expr Raw) → IsConcat e → term e ≡ concat (terms_of (map term (items_of e)))
+term_items (Concat' shape row) h = ap concat (terms_of_row row)
+term_items _ h = absurd h
+
+pub term-Concat : (parts : Vec (Expr Raw) Global) → term (Concat parts) ≡ concat (terms_of (map term parts.items))
+term-Concat parts = term_items (Concat parts) tt ∙ ap (λ v. concat (terms_of (map term v))) (items_hidden-the_row-Expr-0 Raw parts)
