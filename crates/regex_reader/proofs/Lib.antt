@@ -2,3 +2,4 @@ pub mod Lists
 pub mod Rows
 pub mod Tokens
 pub mod Texts
+pub mod Parts

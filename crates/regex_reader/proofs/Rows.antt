@@ -1,9 +1,10 @@
 -- The terms of a row of expressions, from the items of the `Vec` that holds them.
-use Rattle.std.proofs.Common.{◌≡◌, ℕ, List, [], ◌∷◌, map, Vec, Global, refl, ap, ◌∙◌}
+use Rattle.std.proofs.Common.{◌≡◌, ℕ, List, [], ◌∷◌, map, Vec, Global, length, ◌<◌, Option, Some, refl, ap, ◌∙◌, arith}
 use Rattle.regex_ast.specs.Terms.{Term, Terms, term, terms, then_term, concat}
 use Rattle.regex_ast.specs.declared.expr.Expr.{Expr, Concat, Concat', Row_of-Expr, items_hidden-the_row-Expr-0, end_of-Expr, more_of-Expr, items-the_row-Expr}
 use Rattle.regex_ast.specs.declared.expr.Raw.{Raw}
 use Rattle.regex_reader.specs.Form.{terms_of}
+use Rattle.regex_reader.specs.Reading.{row_at}
 
 -- by the list of the row's items
 terms_of_row : {n : _} → (row : Row_of-Expr Raw n) → terms row ≡ terms_of (map term (items-the_row-Expr Raw n row))
@@ -24,5 +25,14 @@ term_items : (e : Expr Raw) → IsConcat e → term e ≡ concat (terms_of (map 
 term_items (Concat' shape row) h = ap concat (terms_of_row row)
 term_items _ h = absurd h
 
-pub term-Concat : (parts : Vec (Expr Raw) Global) → term (Concat parts) ≡ concat (terms_of (map term parts.items))
+term-Concat : (parts : Vec (Expr Raw) Global) → term (Concat parts) ≡ concat (terms_of (map term parts.items))
 term-Concat parts = term_items (Concat parts) tt ∙ ap (λ v. concat (terms_of (map term v))) (items_hidden-the_row-Expr-0 Raw parts)
+
+many_terms : (ts : List (Expr Raw)) → 1 < length ts → Some (concat (terms_of (map term ts))) ≡ row_at (map term ts)
+many_terms [] many = absurd (omega arith)
+many_terms (e ∷ []) many = absurd (omega arith)
+many_terms (e ∷ f ∷ ts) many = refl
+
+-- more than one expression side by side
+pub row_at-many : (parts : Vec (Expr Raw) Global) → 1 < length parts.items → Some (term (Concat parts)) ≡ row_at (map term parts.items)
+row_at-many parts many = ap Some (term-Concat parts) ∙ many_terms parts.items many

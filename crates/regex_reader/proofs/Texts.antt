@@ -103,7 +103,7 @@ pub record TokensSoFar (text : List ℕ) (found : List Token) (rest : List ℕ) 
   pub enough : length rest ≤ count
   pub so_far : tokens_of text ≡ option_map (λ ts. found ++ ts) (tokens_in count rest)
 
-map_map : {A B C : Type 0} (f : B → C) (g : A → B) (h : A → C) (o : Option A) → ((x : A) → f (g x) ≡ h x) → option_map f (option_map g o) ≡ option_map h o
+pub map_map : {A B C : Type 0} (f : B → C) (g : A → B) (h : A → C) (o : Option A) → ((x : A) → f (g x) ≡ h x) → option_map f (option_map g o) ≡ option_map h o
 map_map f g h None e = refl
 map_map f g h (Some x) e = ap Some (e x)
 

@@ -100,10 +100,30 @@ leaf_at name a = if is_leaf name a then Some (leaf_term a) else None
 abbrev pub pair_at : List ℕ → Leaf → Leaf → Option (Term Raw)
 pair_at name a b = option_and_then (λ t. option_map (λ u. cross t u) (leaf_at name b)) (leaf_at name a)
 
+-- the token at the front, of its kind, and the tokens behind it
+abbrev pub run_of : Token → Option (List ℕ)
+run_of (leaf (Run cs)) = Some cs
+run_of _ = None
+
+abbrev pub run_before : List Token → Option (List ℕ × List Token)
+run_before [] = None
+run_before (t ∷ rest) = option_map (λ cs. (cs, rest)) (run_of t)
+
+abbrev pub leaf_of : Token → Option Leaf
+leaf_of (leaf a) = Some a
+leaf_of _ = None
+
+abbrev pub leaf_before : List Token → Option (Leaf × List Token)
+leaf_before [] = None
+leaf_before (t ∷ rest) = option_map (λ a. (a, rest)) (leaf_of t)
+
+abbrev pub begins_with_colon : List Token → Bool
+begins_with_colon (Colon ∷ rest) = true
+begins_with_colon _ = false
+
 -- the part whose first leaf is this, and the tokens behind it
 abbrev pub part_at : List ℕ → Leaf → List Token → Option (Term Raw × List Token)
-part_at name a (Colon ∷ leaf b ∷ rest) = option_map (λ t. (t, rest)) (pair_at name a b)
-part_at name a (Colon ∷ rest) = None
+part_at name a (Colon ∷ rest) = option_and_then (λ x. option_map (λ t. (t, x.1)) (pair_at name a x.0)) (leaf_before rest)
 part_at name a rest = option_map (λ t. (t, rest)) (leaf_at name a)
 
 -- a term before the others
@@ -114,24 +134,10 @@ before_all t more = option_and_then (λ first. option_map (λ ts. first ∷ ts) 
 abbrev pub parts_at : List ℕ → List Token → Option (List (Term Raw))
 parts_at name [] = None
 parts_at name (Colon ∷ rest) = None
-parts_at name (Semicolon ∷ []) = Some []
-parts_at name (Semicolon ∷ next ∷ rest) = None
+parts_at name (Semicolon ∷ rest) = if length rest == 0 then Some [] else None
 parts_at name (leaf a ∷ Colon ∷ leaf b ∷ rest) = before_all (pair_at name a b) (parts_at name rest)
 parts_at name (leaf a ∷ Colon ∷ rest) = None
 parts_at name (leaf a ∷ rest) = before_all (leaf_at name a) (parts_at name rest)
-
--- a run at the front, and the tokens behind it
-abbrev pub run_before : List Token → Option (List ℕ × List Token)
-run_before (leaf (Run cs) ∷ rest) = Some (cs, rest)
-run_before _ = None
-
-abbrev pub leaf_before : List Token → Option (Leaf × List Token)
-leaf_before (leaf a ∷ rest) = Some (a, rest)
-leaf_before _ = None
-
-abbrev pub begins_with_colon : List Token → Bool
-begins_with_colon (Colon ∷ rest) = true
-begins_with_colon _ = false
 
 abbrev pub row_at : List (Term Raw) → Option (Term Raw)
 row_at [] = None

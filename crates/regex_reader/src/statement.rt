@@ -7,7 +7,7 @@ ghost use Rattle.regex_reader.specs.declared.token.Token.TheVariants.{Leaf as le
 
 use crate::bytes::is_name;
 use crate::leaf::{is_leaf, leaf_expr};
-use crate::token::{Leaf, Token, Tokens};
+use crate::token::{leaf_of, run_of, Leaf, Token, Tokens};
 use fsm_base::Text;
 use regex_ast::{Define, Expr, Raw};
 use std::alloc::{AllocError, Global};
@@ -76,13 +76,13 @@ fn parts(
 }
 
 /// The parts, if no token is left.
-fn ended(parts: Vec<Expr<Raw>>, mut tokens: Tokens) -> Option<Vec<Expr<Raw>>>
+fn ended(parts: Vec<Expr<Raw>>, tokens: Tokens) -> Option<Vec<Expr<Raw>>>
     ensures { result ≡ (if length tokens == 0 then Some parts else None) }
 {
-    match tokens.pop() {
-        Some(_) => None,
-        None => Some(parts),
+    if !tokens.is_empty() {
+        return None;
     }
+    Some(parts)
 }
 
 /// The part whose first leaf this is; the tokens are those behind the leaf, and then those behind the part.
@@ -129,8 +129,8 @@ fn take_run(tokens: &mut Tokens) -> Option<Text>
     ensures { option_map (λ run. (run, tokens.new)) result ≡ run_before tokens.old }
 {
     match tokens.pop() {
-        Some(Token::Leaf(Leaf::Run(run))) => Some(run),
-        _ => None,
+        Some(token) => run_of(token),
+        None => None,
     }
 }
 
@@ -140,8 +140,8 @@ fn take_leaf(tokens: &mut Tokens) -> Option<Leaf>
     ensures token { IfSome result (λ leaf. IsTrue (is_token (leaf_token leaf))) }
 {
     match tokens.pop() {
-        Some(Token::Leaf(leaf)) => Some(leaf),
-        _ => None,
+        Some(token) => leaf_of(token),
+        None => None,
     }
 }
 
@@ -152,7 +152,7 @@ fn take_colon(tokens: &mut Tokens) -> bool
     if !tokens.begins_with_colon() {
         return false;
     }
-    tokens.pop();
+    drop(tokens.pop());
     true
 }
 

@@ -1,5 +1,7 @@
-ghost use Rattle.std.specs.Prelude.{◌≡◌, ◌++◌, [], ◌∷◌, IfOk, IfSome, IsTrue};
-ghost use Rattle.std.specs.Option.{option_to_list};
+ghost use Rattle.std.specs.Prelude.{◌≡◌, ◌==◌, ◌++◌, [], ◌∷◌, length, IfOk, IfSome, IsTrue, MatchOption};
+ghost use Rattle.regex_reader.specs.Reading.{run_of, leaf_of};
+ghost use Rattle.regex_reader.specs.Form.{is_token};
+ghost use Rattle.regex_reader.specs.declared.token.Token.TheVariants.{Leaf as leaf_token};
 
 use fsm_base::Text;
 use std::alloc::{AllocError, Global};
@@ -28,6 +30,32 @@ pub enum Token {
     Semicolon,
 }
 
+/// The text of a token that is a run.
+pub fn run_of(token: Token) -> Option<Text>
+    ensures { result ≡ run_of token }
+{
+    match token {
+        Token::Leaf(Leaf::Run(run)) => Some(run),
+        Token::Leaf(Leaf::Quoted(_)) => None,
+        Token::Leaf(Leaf::Braced(_)) => None,
+        Token::Colon => None,
+        Token::Semicolon => None,
+    }
+}
+
+/// The leaf that a token is.
+pub fn leaf_of(token: Token) -> Option<Leaf>
+    requires { IsTrue (is_token token) }
+    ensures leaf { result ≡ leaf_of token }
+    ensures token { IfSome result (λ leaf. IsTrue (is_token (leaf_token leaf))) }
+{
+    match token {
+        Token::Leaf(leaf) => Some(leaf),
+        Token::Colon => None,
+        Token::Semicolon => None,
+    }
+}
+
 /// Tokens that were read, to be taken from the front. Each is made of the bytes that may stand in it.
 #[derive(Drop)]
 pub struct Tokens {
@@ -47,7 +75,6 @@ impl Model for Tokens {
 }
 
 impl Tokens {
-    ghost use Rattle.regex_reader.specs.Form.{is_token};
     ghost use Rattle.regex_reader.specs.Reading.{begins_with_colon};
 
     /// No tokens.
@@ -68,12 +95,19 @@ impl Tokens {
         Ok(())
     }
 
-    /// Takes the first token.
+    /// Takes the first token; `None` where there is none.
     pub fn pop(&mut self) -> Option<Token>
-        ensures items { self.old ≡ option_to_list result ++ self.new }
+        ensures items { MatchOption result ((self.old ≡ []) × (self.new ≡ [])) (λ token. self.old ≡ token ∷ self.new) }
         ensures token { IfSome result (λ token. IsTrue (is_token token)) }
     {
         self.queue.pop_front()
+    }
+
+    /// Whether there is no token.
+    pub fn is_empty(&self) -> bool
+        ensures { result ≡ (length self.now == 0) }
+    {
+        self.queue.is_empty()
     }
 
     /// Whether the first token is `:`.

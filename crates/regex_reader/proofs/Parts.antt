@@ -1,0 +1,65 @@
+-- Parts, one after another, as they are read.
+use Rattle.std.proofs.Common.{◌≡◌, ℕ, ◌==◌, Bool, true, false, cond, Option, Some, None, List, [], ◌∷◌, ◌++◌, length, map, refl, sym, ap, ◌∙◌, append_assoc, append-nil}
+use Rattle.std.specs.Option.{option_map, option_and_then}
+use Rattle.regex_ast.specs.Terms.{Term}
+use Rattle.regex_ast.specs.declared.expr.Raw.{Raw}
+use Rattle.regex_reader.specs.Reading.{leaf_at, pair_at, part_at, parts_at, leaf_before, begins_with_colon, before_all}
+use Rattle.regex_reader.specs.declared.token.Leaf.{Leaf}
+use Rattle.regex_reader.specs.declared.token.Token.{Token}
+use Rattle.regex_reader.specs.declared.token.Token.TheVariants.{Leaf as leaf, Colon, Semicolon}
+use Rattle.regex_reader.proofs.Texts.{map_map}
+
+pub record PartsSoFar (name : List ℕ) (tokens : List Token) (found : List (Term Raw)) (rest : List Token) : Type 0 where
+  pub so_far : parts_at name tokens ≡ option_map (λ ts. found ++ ts) (parts_at name rest)
+
+pub parts_begin : (name : List ℕ) (tokens : List Token) → PartsSoFar name tokens [] tokens
+parts_begin name tokens = record { so_far = same (parts_at name tokens) } where
+  same : (o : Option (List (Term Raw))) → o ≡ option_map (λ ts. ts) o
+  same None = refl
+  same (Some x) = refl
+
+-- where no `:` is behind the leaf it is the part
+pub part_at-plain : (name : List ℕ) (a : Leaf) (rest : List Token) → begins_with_colon rest ≡ false → part_at name a rest ≡ option_map (λ t. (t, rest)) (leaf_at name a)
+part_at-plain name a [] e = refl
+part_at-plain name a (leaf b ∷ rest) e = refl
+part_at-plain name a (Colon ∷ rest) e = absurd cc
+part_at-plain name a (Semicolon ∷ rest) e = refl
+
+abbrev with_parts : List ℕ → Term Raw × List Token → Option (List (Term Raw))
+with_parts name x = option_map (λ ts. x.0 ∷ ts) (parts_at name x.1)
+
+then_map : {A B C : Type 0} (f : B → Option C) (g : A → B) (o : Option A) → option_and_then f (option_map g o) ≡ option_and_then (λ x. f (g x)) o
+then_map f g None = refl
+then_map f g (Some x) = refl
+
+-- the parts are the first one and then the others
+parts_at-part : (name : List ℕ) (a : Leaf) (rest : List Token) → parts_at name (leaf a ∷ rest) ≡ option_and_then (with_parts name) (part_at name a rest)
+parts_at-part name a [] = sym (then_map (with_parts name) _ (leaf_at name a))
+parts_at-part name a (leaf b ∷ rest) = sym (then_map (with_parts name) _ (leaf_at name a))
+parts_at-part name a (Semicolon ∷ rest) = sym (then_map (with_parts name) _ (leaf_at name a))
+parts_at-part name a (Colon ∷ []) = refl
+parts_at-part name a (Colon ∷ leaf b ∷ rest) = sym (then_map (with_parts name) _ (pair_at name a b))
+parts_at-part name a (Colon ∷ Colon ∷ rest) = refl
+parts_at-part name a (Colon ∷ Semicolon ∷ rest) = refl
+
+pub parts_go_on : (name : List ℕ) (all : List Token) (found : List (Term Raw)) (a : Leaf) (rest : List Token) (t : Term Raw) (behind : List Token) → PartsSoFar name all found (leaf a ∷ rest) → part_at name a rest ≡ Some (t, behind) → PartsSoFar name all (found ++ t ∷ []) behind
+parts_go_on name all found a rest t behind h part = record {
+  so_far = h.so_far ∙ ap (option_map (λ ts. found ++ ts)) (parts_at-part name a rest ∙ ap (option_and_then (with_parts name)) part)
+    ∙ map_map _ _ _ (parts_at name behind) (λ ts. sym (append_assoc found (t ∷ []) ts))
+  }
+
+pub parts_stop : (name : List ℕ) (all : List Token) (found : List (Term Raw)) (a : Leaf) (rest : List Token) → PartsSoFar name all found (leaf a ∷ rest) → None ≡ part_at name a rest → None ≡ parts_at name all
+parts_stop name all found a rest h none = sym (h.so_far ∙ ap (option_map (λ ts. found ++ ts)) (parts_at-part name a rest ∙ ap (option_and_then (with_parts name)) (sym none)))
+
+pub parts_colon : (name : List ℕ) (all : List Token) (found : List (Term Raw)) (rest : List Token) → PartsSoFar name all found (Colon ∷ rest) → None ≡ parts_at name all
+parts_colon name all found rest h = sym h.so_far
+
+pub parts_none : (name : List ℕ) (all : List Token) (found : List (Term Raw)) → PartsSoFar name all found [] → None ≡ parts_at name all
+parts_none name all found h = sym h.so_far
+
+ended_by : {V : Type 0} (terms_in : V → List (Term Raw)) (v : V) (b : Bool) → option_map terms_in (cond b (Some v) None) ≡ option_map (λ ts. terms_in v ++ ts) (cond b (Some []) None)
+ended_by terms_in v true = ap Some (sym (append-nil (terms_in v)))
+ended_by terms_in v false = refl
+
+pub parts_end : {V : Type 0} (terms_in : V → List (Term Raw)) (v : V) (name : List ℕ) (all rest : List Token) → PartsSoFar name all (terms_in v) (Semicolon ∷ rest) → option_map terms_in (cond (length rest == 0) (Some v) None) ≡ parts_at name all
+parts_end terms_in v name all rest h = ended_by terms_in v (length rest == 0) ∙ sym h.so_far
