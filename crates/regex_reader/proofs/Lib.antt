@@ -3,3 +3,4 @@ pub mod Rows
 pub mod Tokens
 pub mod Texts
 pub mod Parts
+pub mod Flags

@@ -1,5 +1,5 @@
 -- Parts, one after another, as they are read.
-use Rattle.std.proofs.Common.{◌≡◌, ℕ, ◌==◌, Bool, true, false, cond, Option, Some, None, List, [], ◌∷◌, ◌++◌, length, map, refl, sym, ap, ◌∙◌, append_assoc, append-nil}
+use Rattle.std.proofs.Common.{◌≡◌, ℕ, ◌==◌, Bool, true, false, cond, Option, Some, None, List, [], ◌∷◌, ◌++◌, length, map, refl, sym, ap, ◌∙◌, append_assoc, append-nil, ◌≤◌, ◌<◌, arith}
 use Rattle.std.specs.Option.{option_map, option_and_then}
 use Rattle.regex_ast.specs.Terms.{Term}
 use Rattle.regex_ast.specs.declared.expr.Raw.{Raw}
@@ -7,6 +7,7 @@ use Rattle.regex_reader.specs.Reading.{leaf_at, pair_at, part_at, parts_at, leaf
 use Rattle.regex_reader.specs.declared.token.Leaf.{Leaf}
 use Rattle.regex_reader.specs.declared.token.Token.{Token}
 use Rattle.regex_reader.specs.declared.token.Token.TheVariants.{Leaf as leaf, Colon, Semicolon}
+use Rattle.regex_reader.proofs.Tokens.{map_some, then_some}
 use Rattle.regex_reader.proofs.Texts.{map_map}
 
 pub record PartsSoFar (name : List ℕ) (tokens : List Token) (found : List (Term Raw)) (rest : List Token) : Type 0 where
@@ -42,20 +43,30 @@ parts_at-part name a (Colon ∷ leaf b ∷ rest) = sym (then_map (with_parts nam
 parts_at-part name a (Colon ∷ Colon ∷ rest) = refl
 parts_at-part name a (Colon ∷ Semicolon ∷ rest) = refl
 
-pub parts_go_on : (name : List ℕ) (all : List Token) (found : List (Term Raw)) (a : Leaf) (rest : List Token) (t : Term Raw) (behind : List Token) → PartsSoFar name all found (leaf a ∷ rest) → part_at name a rest ≡ Some (t, behind) → PartsSoFar name all (found ++ t ∷ []) behind
-parts_go_on name all found a rest t behind h part = record {
-  so_far = h.so_far ∙ ap (option_map (λ ts. found ++ ts)) (parts_at-part name a rest ∙ ap (option_and_then (with_parts name)) part)
+pub parts_go_on : (name : List ℕ) (all : List Token) (found : List (Term Raw)) (tokens : List Token) (a : Leaf) (rest : List Token) (t : Term Raw) (behind : List Token) → PartsSoFar name all found tokens → tokens ≡ leaf a ∷ rest → part_at name a rest ≡ Some (t, behind) → PartsSoFar name all (found ++ t ∷ []) behind
+parts_go_on name all found tokens a rest t behind h first part = record {
+  so_far = h.so_far ∙ ap (λ ts. option_map (λ us. found ++ us) (parts_at name ts)) first
+    ∙ ap (option_map (λ ts. found ++ ts)) (parts_at-part name a rest ∙ ap (option_and_then (with_parts name)) part)
     ∙ map_map _ _ _ (parts_at name behind) (λ ts. sym (append_assoc found (t ∷ []) ts))
   }
 
-pub parts_stop : (name : List ℕ) (all : List Token) (found : List (Term Raw)) (a : Leaf) (rest : List Token) → PartsSoFar name all found (leaf a ∷ rest) → None ≡ part_at name a rest → None ≡ parts_at name all
-parts_stop name all found a rest h none = sym (h.so_far ∙ ap (option_map (λ ts. found ++ ts)) (parts_at-part name a rest ∙ ap (option_and_then (with_parts name)) (sym none)))
+pub parts_stop : (name : List ℕ) (all : List Token) (found : List (Term Raw)) (tokens : List Token) (a : Leaf) (rest : List Token) → PartsSoFar name all found tokens → tokens ≡ leaf a ∷ rest → None ≡ part_at name a rest → None ≡ parts_at name all
+parts_stop name all found tokens a rest h first none = sym (h.so_far ∙ ap (λ ts. option_map (λ us. found ++ us) (parts_at name ts)) first
+    ∙ ap (option_map (λ ts. found ++ ts)) (parts_at-part name a rest ∙ ap (option_and_then (with_parts name)) (sym none)))
 
-pub parts_colon : (name : List ℕ) (all : List Token) (found : List (Term Raw)) (rest : List Token) → PartsSoFar name all found (Colon ∷ rest) → None ≡ parts_at name all
-parts_colon name all found rest h = sym h.so_far
+leaf_shorter : (tokens : List Token) (x : Leaf × List Token) → leaf_before tokens ≡ Some x → length x.1 ≤ length tokens
+leaf_shorter [] x e = absurd cc
+leaf_shorter (t ∷ rest) x e = map_some _ _ x e (λ a _ same. let rest_is : rest ≡ x.1 = ap (λ y. y.1) same in omega (arith, ap length rest_is))
 
-pub parts_none : (name : List ℕ) (all : List Token) (found : List (Term Raw)) → PartsSoFar name all found [] → None ≡ parts_at name all
-parts_none name all found h = sym h.so_far
+part_shorter : (name : List ℕ) (a : Leaf) (rest : List Token) (x : Term Raw × List Token) → part_at name a rest ≡ Some x → length x.1 ≤ length rest
+part_shorter name a [] x e = map_some _ _ x e (λ t _ same. let rest_is : [] ≡ x.1 = ap (λ y. y.1) same in omega (arith, ap length rest_is))
+part_shorter name a (leaf b ∷ rest) x e = map_some _ _ x e (λ t _ same. let rest_is : leaf b ∷ rest ≡ x.1 = ap (λ y. y.1) same in omega (arith, ap length rest_is))
+part_shorter name a (Semicolon ∷ rest) x e = map_some _ _ x e (λ t _ same. let rest_is : Semicolon ∷ rest ≡ x.1 = ap (λ y. y.1) same in omega (arith, ap length rest_is))
+part_shorter name a (Colon ∷ rest) x e = then_some _ (leaf_before rest) x e (λ y before told. map_some _ _ x told
+    (λ t _ same. let rest_is : y.1 ≡ x.1 = ap (λ z. z.1) same in omega (arith, leaf_shorter rest y before, ap length rest_is)))
+
+pub parts_shorter : (name : List ℕ) (tokens : List Token) (a : Leaf) (rest : List Token) (t : Term Raw) (behind : List Token) → tokens ≡ leaf a ∷ rest → part_at name a rest ≡ Some (t, behind) → length behind < length tokens
+parts_shorter name tokens a rest t behind first part = omega (arith, part_shorter name a rest (t, behind) part, ap length first)
 
 ended_by : {V : Type 0} (terms_in : V → List (Term Raw)) (v : V) (b : Bool) → option_map terms_in (cond b (Some v) None) ≡ option_map (λ ts. terms_in v ++ ts) (cond b (Some []) None)
 ended_by terms_in v true = ap Some (sym (append-nil (terms_in v)))

@@ -40,7 +40,7 @@ printable_quoted text = list_all_weaker is_quoted_byte is_printable (λ b h. and
 pub printable_braced : (text : List ℕ) → list_all is_printable (taken is_braced_byte text) ≡ true
 printable_braced text = list_all_weaker is_braced_byte is_printable (λ b h. and_left _ _ h) (taken is_braced_byte text) (list_all-taken is_braced_byte text)
 
-false_by : (b : Bool) → (b ≡ true → true ≡ false) → b ≡ false
+pub false_by : (b : Bool) → (b ≡ true → true ≡ false) → b ≡ false
 false_by true clash = let e : true ≡ false = clash refl in absurd cc
 false_by false clash = refl
 

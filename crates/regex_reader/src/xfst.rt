@@ -28,22 +28,29 @@ pub fn read_xfst(alloc: Global, text: &str) -> Result<Vec<Define<Raw>>, ReadErro
     ensures read { IfOk result (λ defines. (s : Statement) × ReadsAs text.now s × (map statement_of defines.items ≡ s ∷ [])) }
     ensures fault { IfErr result (IsReadFault text.now) }
 {
-    match definition(alloc, text.as_bytes()) {
-        Ok(Some(define)) => alone(alloc, define).map_err(ReadError::Memory),
-        Ok(None) => Err(ReadError::Fault {
+    let found = match definitions(alloc, text.as_bytes()) {
+        Ok(found) => found,
+        Err(error) => return Err(ReadError::Memory(error)),
+    };
+    match found {
+        Some(defines) => Ok(defines),
+        None => Err(ReadError::Fault {
             line: 0,
             why: Why::NotBuilt,
         }),
-        Err(error) => Err(ReadError::Memory(error)),
     }
 }
 
-fn alone(alloc: Global, define: Define<Raw>) -> Result<Vec<Define<Raw>>, AllocError>
-    ensures { IfOk result (λ defines. map statement_of defines.items ≡ statement_of define ∷ []) }
+/// The one definition of a text, alone in a list; `None` where the text isn't of the form.
+fn definitions(alloc: Global, text: &[u8]) -> Result<Option<Vec<Define<Raw>>>, AllocError>
+    ensures { IfOk result (λ found. option_map (λ defines. map statement_of defines.items) found ≡ option_map (λ s. s ∷ []) (read text.now)) }
 {
+    let Some(define) = definition(alloc, text)? else {
+        return Ok(None);
+    };
     let mut defines = Vec::new(alloc);
     defines.push(define)?;
-    Ok(defines)
+    Ok(Some(defines))
 }
 
 /// The definition of a text; `None` where it isn't of the form.
