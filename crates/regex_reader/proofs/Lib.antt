@@ -4,3 +4,4 @@ pub mod Tokens
 pub mod Texts
 pub mod Parts
 pub mod Flags
+pub mod Whole
