@@ -1,6 +1,6 @@
 -- The terms of a row of expressions, from the items of the `Vec` that holds them.
-use Rattle.std.proofs.Common.{◌≡◌, ℕ, List, [], ◌∷◌, map, Vec, Global, length, ◌<◌, Option, Some, refl, ap, ◌∙◌, arith}
-use Rattle.regex_ast.specs.Terms.{Term, Terms, term, terms, then_term, concat}
+use Rattle.std.proofs.Common.{◌≡◌, List, [], ◌∷◌, map, Vec, Global, length, ◌<◌, Some, refl, ap, ◌∙◌, arith}
+use Rattle.regex_ast.specs.Terms.{term, terms, then_term, concat}
 use Rattle.regex_ast.specs.declared.expr.Expr.{Expr, Concat, Concat', Row_of-Expr, items_hidden-the_row-Expr-0, end_of-Expr, more_of-Expr, items-the_row-Expr}
 use Rattle.regex_ast.specs.declared.expr.Raw.{Raw}
 use Rattle.regex_reader.specs.Form.{terms_of}

@@ -1,14 +1,14 @@
 -- Whole texts as sequences of tokens.
-use Rattle.std.proofs.Common.{◌≡◌, ◌≢◌, ℕ, zero, suc, ◌<◌, ◌≤◌, ◌+◌, Bool, true, false, cond, IsTrue, Option, Some, None, List, [], ◌∷◌, ◌++◌, length, map, refl, sym, ap, ◌∙◌, arith, append_assoc, append-nil, length-append}
+use Rattle.std.proofs.Common.{◌≡◌, ℕ, zero, suc, ◌<◌, ◌≤◌, Bool, true, false, Option, Some, None, List, [], ◌∷◌, ◌++◌, length, map, refl, sym, ap, ◌∙◌, arith, append_assoc, append-nil, length-append}
 use Rattle.std.specs.List.{list_all}
 use Rattle.std.specs.Option.{option_map, option_and_then}
-use Rattle.regex_reader.specs.Bytes.{begins, is_blank, is_run_byte, is_quoted_byte, is_braced_byte}
+use Rattle.regex_reader.specs.Bytes.{begins, is_blank, is_run_byte}
 use Rattle.regex_reader.specs.Form.{spelling, is_token, is_run, Placed, IsPlaced, begins_with_run, text_of}
 use Rattle.regex_reader.specs.Reading.{taken, left, token_at, tokens_in, tokens_of}
 use Rattle.regex_reader.specs.declared.token.Leaf.TheVariants.{Run, Quoted, Braced}
 use Rattle.regex_reader.specs.declared.token.Token.{Token}
 use Rattle.regex_reader.specs.declared.token.Token.TheVariants.{Leaf as leaf, Colon, Semicolon}
-use Rattle.regex_reader.proofs.Lists.{and_left, taken-left, list_all-taken, begins-left, left-front}
+use Rattle.regex_reader.proofs.Lists.{and_left, taken-left, list_all-taken, left-front}
 use Rattle.regex_reader.proofs.Tokens.{map_some, then_some, same_some, run_is_no_blank, blank_is_no_run, TokenAt, token_takes, token_again}
 
 -- How the text of a token and of tokens begins.
@@ -37,7 +37,7 @@ spelling_grows (leaf (Braced cs)) rest fine = omega (arith, length-append (cs ++
 spelling_grows Colon rest fine = omega arith
 spelling_grows Semicolon rest fine = omega arith
 
-text_begins_no_blank : (ps : List Placed) → IsPlaced ps → begins is_blank (text_of ps) ≡ false
+pub text_begins_no_blank : (ps : List Placed) → IsPlaced ps → begins is_blank (text_of ps) ≡ false
 text_begins_no_blank [] h = refl
 text_begins_no_blank (p ∷ ps) h = spelling_begins_no_blank p.token _ h.0
 

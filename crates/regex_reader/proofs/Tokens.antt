@@ -1,16 +1,16 @@
 -- The tokens of a text, as they are read and as the form spells them.
-use Rattle.std.proofs.Common.{◌≡◌, ◌≢◌, ℕ, zero, suc, ◌<◌, ◌≤◌, ◌+◌, ◌==◌, Bool, true, false, not, cond, ◌&&◌, IsTrue, Option, Some, None, List, [], ◌∷◌, ◌++◌, length, map, refl, sym, ap, subst, ◌∙◌, arith, append_assoc, length-append}
+use Rattle.std.proofs.Common.{◌≡◌, ℕ, ◌==◌, Bool, true, false, not, cond, Option, Some, None, List, [], ◌∷◌, ◌++◌, refl, sym, ap, subst, ◌∙◌, append_assoc}
 use Rattle.std.specs.List.{list_all}
 use Rattle.std.specs.Option.{option_map, option_and_then}
 use Rattle.std.proofs.lemmas.Bool.Decides.{Decides-eqb}
 use Rattle.regex_reader.specs.Bytes.{begins, is_printable, is_blank, is_run_byte, is_quoted_byte, is_braced_byte}
-use Rattle.regex_reader.specs.Form.{spelling, is_token, is_run, Placed, IsPlaced, begins_with_run, text_of}
-use Rattle.regex_reader.specs.Reading.{taken, left, run_at, behind_byte, closed, token_at, tokens_in}
+use Rattle.regex_reader.specs.Form.{spelling, is_token, is_run}
+use Rattle.regex_reader.specs.Reading.{taken, left, run_at, behind_byte, closed, token_at}
 use Rattle.regex_reader.specs.declared.token.Leaf.{Leaf}
 use Rattle.regex_reader.specs.declared.token.Leaf.TheVariants.{Run, Quoted, Braced}
 use Rattle.regex_reader.specs.declared.token.Token.{Token}
 use Rattle.regex_reader.specs.declared.token.Token.TheVariants.{Leaf as leaf, Colon, Semicolon}
-use Rattle.regex_reader.proofs.Lists.{and_left, and_right, and_true, list_all_weaker, taken-left, list_all-taken, begins-left, taken-front, left-front}
+use Rattle.regex_reader.proofs.Lists.{and_left, and_right, list_all_weaker, taken-left, list_all-taken, begins-left, taken-front, left-front}
 
 -- Cases.
 

@@ -1,22 +1,21 @@
 -- The reader reads exactly the texts of the form.
-use Rattle.std.proofs.Common.{◌≡◌, ◌≢◌, ℕ, zero, suc, ◌<◌, ◌≤◌, ◌+◌, ◌==◌, nat_le, Bool, true, false, not, cond, ◌&&◌, ◌||◌, IsTrue, Option, Some, None, List, [], ◌∷◌, ◌++◌, length, map, All, refl, sym, ap, subst, ◌∙◌, arith, length-append}
+use Rattle.std.proofs.Common.{◌≡◌, ℕ, zero, suc, ◌≤◌, ◌+◌, ◌==◌, nat_le, true, false, cond, Option, Some, None, List, [], ◌∷◌, ◌++◌, length, map, All, refl, sym, ap, subst, ◌∙◌, arith}
 use Rattle.std.specs.Prelude.{codes}
 use Rattle.std.specs.Bool.{Decides}
-use Rattle.std.specs.List.{list_all}
 use Rattle.std.specs.Option.{option_map, option_and_then}
 use Rattle.std.specs.Str.{bytes_eq}
-use Rattle.std.proofs.lemmas.Bool.Decides.{Decides-and, Decides-not, nat_tests}
+use Rattle.std.proofs.lemmas.Bool.Decides.{Decides-and, Decides-not, Decides-eqb, nat_tests}
 use Rattle.std.proofs.lemmas.Slice.Eq.{bytes_eq-Decides}
 use Rattle.regex_ast.specs.Terms.{Term, cross}
 use Rattle.regex_ast.specs.declared.expr.Raw.{Raw}
-use Rattle.regex_reader.specs.Bytes.{is_blank, is_digit, is_name}
-use Rattle.regex_reader.specs.Form.{Statement, Placed, IsPlaced, text_of, Part, single, pair, parts_then, statement_tokens, IsLeaf, IsPart, leaf_term, part_term, row_term, newlines, ReadsAs}
-use Rattle.regex_reader.specs.Reading.{taken, left, tokens_in, tokens_of, is_leaf, leaf_at, pair_at, parts_at, before_all, run_of, run_before, row_at, definition_at, statement_at, read}
+use Rattle.regex_reader.specs.Bytes.{begins, is_blank, is_name}
+use Rattle.regex_reader.specs.Form.{Statement, text_of, Part, single, pair, parts_then, statement_tokens, IsLeaf, IsPart, leaf_term, part_term, row_term, newlines, ReadsAs}
+use Rattle.regex_reader.specs.Reading.{taken, left, tokens_of, is_leaf, leaf_at, pair_at, parts_at, before_all, run_of, run_before, row_at, definition_at, statement_at, read}
 use Rattle.regex_reader.specs.declared.token.Leaf.{Leaf}
 use Rattle.regex_reader.specs.declared.token.Leaf.TheVariants.{Run, Quoted, Braced}
 use Rattle.regex_reader.specs.declared.token.Token.{Token}
 use Rattle.regex_reader.specs.declared.token.Token.TheVariants.{Leaf as leaf, Colon, Semicolon}
-use Rattle.regex_reader.proofs.Lists.{and_left, and_right, and_true, taken-left, list_all-taken, taken-front, left-front}
+use Rattle.regex_reader.proofs.Lists.{taken-left, list_all-taken, taken-front, left-front}
 use Rattle.regex_reader.proofs.Tokens.{if_cases, map_some, then_some, same_some}
 use Rattle.regex_reader.proofs.Texts.{TextOf, tokens_take, tokens_again, text_begins_no_blank}
 use Rattle.regex_reader.proofs.Flags.{no_flag}
@@ -75,7 +74,7 @@ add_part name (pair a b) rest t ts all h e more same = record {
 
 no_tokens : (ts : List Token) → (length ts == 0) ≡ true → ts ≡ []
 no_tokens [] e = refl
-no_tokens (t ∷ ts) e = absurd (omega (arith, nat_tests))
+no_tokens (t ∷ ts) e = let none : length (t ∷ ts) ≡ 0 = (Decides-eqb (length (t ∷ ts)) 0).0 e in absurd (omega arith)
 
 ended_takes : (name : List ℕ) (rest : List Token) (terms : List (Term Raw)) → parts_at name (Semicolon ∷ rest) ≡ Some terms → PartsOf name (Semicolon ∷ rest) terms
 ended_takes name rest terms e = if_cases (length rest == 0) _ _ _ e
@@ -112,3 +111,128 @@ parts_again name (pair a b ∷ ps) h =
     let first : pair_at name a b ≡ Some (part_term (pair a b)) = pair_again name a b (h 0 (pair a b) (omega arith)) in
     let more : parts_at name (parts_then ps (Semicolon ∷ [])) ≡ Some (map part_term ps) = parts_again name ps (all_rest name (pair a b) ps h) in
     ap (λ o. before_all o (parts_at name (parts_then ps (Semicolon ∷ [])))) first ∙ ap (before_all (Some (part_term (pair a b)))) more
+
+-- Statements.
+
+run_of_takes : (t : Token) (cs : List ℕ) → run_of t ≡ Some cs → t ≡ leaf (Run cs)
+run_of_takes (leaf (Run ds)) cs e = cc
+run_of_takes (leaf (Quoted ds)) cs e = absurd cc
+run_of_takes (leaf (Braced ds)) cs e = absurd cc
+run_of_takes Colon cs e = absurd cc
+run_of_takes Semicolon cs e = absurd cc
+
+run_before_takes : (tokens : List Token) (x : List ℕ × List Token) → run_before tokens ≡ Some x → tokens ≡ leaf (Run x.0) ∷ x.1
+run_before_takes [] x e = absurd cc
+run_before_takes (t ∷ rest) x e = map_some _ (run_of t) x e (λ cs found same.
+    ap (λ z. z ∷ rest) (run_of_takes t cs found) ∙ ap (λ (y : List ℕ × List Token). leaf (Run y.0) ∷ y.1) same)
+
+record StatementOf (line : ℕ) (tokens : List Token) (s : Statement) : Type 0 where
+  first : Part
+  more : List Part
+  told : tokens ≡ statement_tokens s.name (first ∷ more)
+  name : is_name s.name ≡ true
+  leaves : All (IsPart s.name) (first ∷ more)
+  means : s.term ≡ row_term (part_term first) (map part_term more)
+  line_is : s.line ≡ line
+
+definition_is : (line : ℕ) (name : List ℕ) (parts : List Part) (terms : List (Term Raw)) (t : Term Raw) → is_name name ≡ true → All (IsPart name) parts → map part_term parts ≡ terms → row_at terms ≡ Some t
+    → StatementOf line (statement_tokens name parts) (record { line = line; name = name; term = t })
+definition_is line name [] terms t h fine told row = let none : None ≡ Some t = ap row_at told ∙ row in absurd cc
+definition_is line name (p ∷ ps) terms t h fine told row = record {
+  first = p;
+  more = ps;
+  told = refl;
+  name = h;
+  leaves = fine;
+  means = sym (same_some _ _ (ap row_at told ∙ row));
+  line_is = refl
+  }
+
+definition_takes : (line : ℕ) (name : List ℕ) (rest : List Token) (s : Statement) → definition_at line name rest ≡ Some s → StatementOf line (leaf (Run (codes "define")) ∷ leaf (Run name) ∷ rest) s
+definition_takes line name rest s e = if_cases (is_name name) _ _ _ e
+    (λ is some. map_some _ (option_and_then row_at (parts_at name rest)) s some (λ t found same. then_some row_at (parts_at name rest) t found (λ terms parsed row.
+      let parts : PartsOf name rest terms = parts_take name rest terms parsed in
+      let made : StatementOf line (statement_tokens name parts.parts) (record { line = line; name = name; term = t }) = definition_is line name parts.parts terms t is parts.fine parts.told row in
+      let here : StatementOf line (leaf (Run (codes "define")) ∷ leaf (Run name) ∷ rest) (record { line = line; name = name; term = t }) =
+        subst (λ (z : List Token). StatementOf line (leaf (Run (codes "define")) ∷ leaf (Run name) ∷ z) (record { line = line; name = name; term = t })) (sym parts.spelled) made in
+      subst (λ (z : Statement). StatementOf line (leaf (Run (codes "define")) ∷ leaf (Run name) ∷ rest) z) same here)))
+    (λ _ none. absurd cc)
+
+statement_takes : (line : ℕ) (tokens : List Token) (s : Statement) → statement_at line tokens ≡ Some s → StatementOf line tokens s
+statement_takes line tokens s e = then_some _ (run_before tokens) s e (λ x first rest. if_cases (bytes_eq x.0 (codes "define")) _ _ _ rest
+    (λ is some. then_some _ (run_before x.1) s some (λ y second last.
+      let spelled : tokens ≡ leaf (Run (codes "define")) ∷ leaf (Run y.0) ∷ y.1 =
+        run_before_takes tokens x first ∙ ap (λ cs. leaf (Run cs) ∷ x.1) ((bytes_eq-Decides x.0 (codes "define")).0 is) ∙ ap (λ ts. leaf (Run (codes "define")) ∷ ts) (run_before_takes x.1 y second) in
+      subst (λ (z : List Token). StatementOf line z s) (sym spelled) (definition_takes line y.0 y.1 s last)))
+    (λ _ none. absurd cc))
+
+definition_again : (line : ℕ) (s : Statement) (first : Part) (more : List Part) → is_name s.name ≡ true → All (IsPart s.name) (first ∷ more) → s.term ≡ row_term (part_term first) (map part_term more) → s.line ≡ line
+    → definition_at line s.name (parts_then (first ∷ more) (Semicolon ∷ [])) ≡ Some s
+definition_again line s first more name leaves means line_is =
+    let parts : parts_at s.name (parts_then (first ∷ more) (Semicolon ∷ [])) ≡ Some (map part_term (first ∷ more)) = parts_again s.name (first ∷ more) leaves in
+    ap (λ b. cond b (option_map (λ t. record { line = line; name = s.name; term = t }) (option_and_then row_at (parts_at s.name (parts_then (first ∷ more) (Semicolon ∷ []))))) None) name
+    ∙ ap (λ o. option_map (λ t. record { line = line; name = s.name; term = t }) (option_and_then row_at o)) parts
+    ∙ ap (λ t. Some (record { line = line; name = s.name; term = t })) (sym means)
+    ∙ ap (λ l. Some (record { line = l; name = s.name; term = s.term })) (sym line_is)
+
+statement_again : (line : ℕ) (s : Statement) (first : Part) (more : List Part) → is_name s.name ≡ true → All (IsPart s.name) (first ∷ more) → s.term ≡ row_term (part_term first) (map part_term more) → s.line ≡ line
+    → statement_at line (statement_tokens s.name (first ∷ more)) ≡ Some s
+statement_again line s first more name leaves means line_is = definition_again line s first more name leaves means line_is
+
+-- Texts.
+
+short_enough : (text : List ℕ) → nat_le (length text) 4096 ≡ true → length text ≤ 4096
+short_enough text e = grind (arith, nat_tests)
+
+is_short : (text : List ℕ) → length text ≤ 4096 → nat_le (length text) 4096 ≡ true
+is_short text h = grind (arith, nat_tests)
+
+-- what was read is of the form
+read_takes : (text : List ℕ) (s : Statement) → read text ≡ Some s → ReadsAs text s
+read_takes text s e = if_cases (nat_le (length text) 4096) _ _ _ e
+    (λ is some. then_some _ (tokens_of (left is_blank text)) s some (λ tokens found last.
+      let whole : TextOf (left is_blank text) tokens = tokens_take (length (left is_blank text)) (left is_blank text) tokens found in
+      let told : StatementOf (newlines (taken is_blank text) + 1) tokens s = statement_takes _ tokens s last in
+      record {
+        front = taken is_blank text;
+        placed = whole.placed;
+        spelled = sym (taken-left is_blank text) ∙ ap (λ rest. taken is_blank text ++ rest) whole.spelled;
+        short = short_enough text is;
+        blanks = list_all-taken is_blank text;
+        tokens = whole.apart;
+        first = told.first;
+        more = told.more;
+        told = whole.told ∙ told.told;
+        name = told.name;
+        leaves = told.leaves;
+        means = told.means;
+        line = told.line_is
+      }))
+    (λ _ none. absurd cc)
+
+-- and each text of the form is read
+read_again : (text : List ℕ) (s : Statement) → ReadsAs text s → read text ≡ Some s
+read_again text s r =
+    let stop : begins is_blank (text_of r.placed) ≡ false = text_begins_no_blank r.placed r.tokens in
+    let front : taken is_blank text ≡ r.front = ap (taken is_blank) r.spelled ∙ taken-front is_blank r.front (text_of r.placed) r.blanks stop in
+    let behind : left is_blank text ≡ text_of r.placed = ap (left is_blank) r.spelled ∙ left-front is_blank r.front (text_of r.placed) r.blanks stop in
+    let tokens : tokens_of (text_of r.placed) ≡ Some (map (λ p. p.token) r.placed) = tokens_again (length (text_of r.placed)) r.placed r.tokens (omega arith) in
+    let line : s.line ≡ newlines (taken is_blank text) + 1 = r.line ∙ ap (λ bs. newlines bs + 1) (sym front) in
+    ap (λ b. cond b (option_and_then (statement_at (newlines (taken is_blank text) + 1)) (tokens_of (left is_blank text))) None) (is_short text r.short)
+    ∙ ap (λ rest. option_and_then (statement_at (newlines (taken is_blank text) + 1)) (tokens_of rest)) behind
+    ∙ ap (option_and_then (statement_at (newlines (taken is_blank text) + 1))) (tokens ∙ ap Some r.told)
+    ∙ statement_again (newlines (taken is_blank text) + 1) s r.first r.more r.name r.leaves r.means line
+
+-- a text is read as one statement at most
+pub one_statement : (text : List ℕ) (s t : Statement) → ReadsAs text s → ReadsAs text t → s ≡ t
+one_statement text s t r q = same_some s t (sym (read_again text s r) ∙ read_again text t q)
+
+read_one_of : (text : List ℕ) (o : Option Statement) (ss : List Statement) → read text ≡ o → Some ss ≡ option_map (λ s. s ∷ []) o → (s : Statement) × ReadsAs text s × (ss ≡ s ∷ [])
+read_one_of text None ss e some = absurd cc
+read_one_of text (Some s) ss e some = (s, read_takes text s e, same_some _ _ some)
+
+pub read_one : (text : List ℕ) (ss : List Statement) → Some ss ≡ option_map (λ s. s ∷ []) (read text) → (s : Statement) × ReadsAs text s × (ss ≡ s ∷ [])
+read_one text ss some = read_one_of text (read text) ss refl some
+
+pub read_none : (text : List ℕ) → None ≡ option_map (λ (s : Statement). s ∷ []) (read text) → (s : Statement) → ReadsAs text s → ⊥
+read_none text none s r = let some : None ≡ Some (s ∷ []) = none ∙ ap (option_map (λ (s : Statement). s ∷ [])) (read_again text s r) in cc

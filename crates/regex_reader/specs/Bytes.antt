@@ -1,6 +1,6 @@
 -- Bytes of a text and what they may stand in (Beesley and Karttunen, Finite State Morphology, 2003,
 -- chapter 2). A text is the list of its bytes.
-use Rattle.std.specs.Prelude.{ℕ, Bool, true, false, not, ◌&&◌, ◌||◌, ◌==◌, nat_lt, nat_le, List, [], ◌∷◌, length, codes}
+use Rattle.std.specs.Prelude.{ℕ, Bool, false, not, ◌&&◌, ◌||◌, ◌==◌, nat_lt, nat_le, List, [], ◌∷◌, length, codes}
 use Rattle.std.specs.List.{list_any, list_all}
 use Rattle.regex_reader.specs.declared.bytes.ByteClass.{ByteClass}
 use Rattle.regex_reader.specs.declared.bytes.ByteClass.TheVariants.{Blank, Run, Quoted, Braced, Feature}

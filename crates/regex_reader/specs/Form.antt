@@ -1,7 +1,7 @@
 -- The form of a file of one plain definition, `define NAME E ;`, where E is parts side by side, each a leaf
 -- or two leaves with `:` between (Beesley and Karttunen, Finite State Morphology, 2003, chapters 2 and 3).
 -- Texts are lists of bytes.
-use Rattle.std.specs.Prelude.{◌≡◌, ◌≢◌, ◌≤◌, ◌+◌, ℕ, Bool, true, false, not, IsTrue, ◌&&◌, ◌||◌, ◌==◌, List, [], ◌∷◌, ◌++◌, length, map, count_by, All, ⊤, codes, if◌then◌else◌}
+use Rattle.std.specs.Prelude.{◌≡◌, ◌≢◌, ◌≤◌, ◌+◌, ℕ, Bool, true, false, not, IsTrue, ◌||◌, ◌==◌, List, [], ◌∷◌, ◌++◌, length, map, count_by, All, ⊤, codes, if◌then◌else◌}
 use Rattle.std.specs.List.{list_all}
 use Rattle.std.specs.Str.{bytes_eq}
 use Rattle.regex_ast.specs.Flags.{IsFlag, IsNegativeFlag}

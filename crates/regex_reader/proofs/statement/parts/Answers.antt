@@ -1,7 +1,6 @@
-use Rattle.std.proofs.Common.{◌≡◌, ◌∷◌, ◌++◌, [], List, map, None, Some, rules}
+use Rattle.std.proofs.Common.{◌≡◌, ◌∷◌, None, Some, rules}
 use Rattle.std.proofs.lemmas.List.{map-append}
-use Rattle.regex_ast.specs.Terms.{Term, term}
-use Rattle.regex_ast.specs.declared.expr.Raw.{Raw}
+use Rattle.regex_ast.specs.Terms.{term}
 use Rattle.regex_reader.specs.Reading.{part_at}
 use Rattle.regex_reader.specs.declared.token.Token.TheVariants.{Leaf as leaf}
 use Rattle.regex_reader.proofs.Parts.{parts_go_on, parts_stop, parts_shorter}

@@ -1,4 +1,3 @@
-use Rattle.std.proofs.Common.{arith}
 use Rattle.regex_reader.proofs.Texts.{taken_shorter}
 use Rattle.regex_reader.proofs.xfst.definition.Goals as goal
 
