@@ -30,8 +30,10 @@ feature_byte b = (
     (λ h. let clash : true ≡ false = sym e ∙ ap is_feature_byte h in cc),
     (λ h. let clash : true ≡ false = sym e ∙ ap is_feature_byte h in cc),
     (λ h. let clash : true ≡ false = sym e ∙ ap is_feature_byte h in cc),
-    (λ h. let clash : true ≡ false = sym e ∙ ap is_feature_byte h in cc))),
-  (λ h. rw (differs b 9 h.0, differs b 10 h.1, differs b 32 h.2, differs b 46 h.3, differs b 64 h.4) refl))
+    (λ h. let clash : true ≡ false = sym e ∙ ap is_feature_byte h in cc),
+  )),
+  (λ h. rw (differs b 9 h.0, differs b 10 h.1, differs b 32 h.2, differs b 46 h.3, differs b 64 h.4) refl),
+)
 
 feature_bytes : (bs : List ℕ) → Decides (list_all is_feature_byte bs) (All IsFeatureByte bs)
 feature_bytes bs = Decides-by_and is_feature_byte IsFeatureByte (list_all is_feature_byte) feature_byte refl (λ _ _. refl) bs
@@ -75,16 +77,16 @@ flag_behind : (a k dot : ℕ) (rest feature behind : List ℕ) → a ≡ 64 → 
 flag_behind a k dot rest feature [] ea ed er hf e = absurd cc
 flag_behind a k dot rest feature (c ∷ after) ea ed er hf e = or_cases _ _ e
     (λ h. let ends : (has_no_value k && length after == 0) ≡ true = and_right (c == 64) _ h in
-      kind_plain k (and_left _ _ ends) (λ kind. inl (plain k feature kind hf
-        (spelled_plain a k dot rest feature after c ea ed er ((Decides-eqb c 64).0 (and_left _ _ h)) (no_bytes after (and_right (has_no_value k) _ ends))))))
+    kind_plain k (and_left _ _ ends) (λ kind. inl (plain k feature kind hf
+    (spelled_plain a k dot rest feature after c ea ed er ((Decides-eqb c 64).0 (and_left _ _ h)) (no_bytes after (and_right (has_no_value k) _ ends))))))
     (λ h. let goes : (has_value k && is_value after) ≡ true = and_right (c == 46) _ h in
-      let value_is : is_value after ≡ true = and_right (has_value k) _ goes in
-      let hv : IsFeature (taken is_feature_byte after) = feature_of after (and_left _ _ value_is) in
-      let spelled : a ∷ k ∷ dot ∷ rest ≡ 64 ∷ k ∷ 46 ∷ feature ++ 46 ∷ taken is_feature_byte after ++ 64 ∷ [] =
-        spelled_valued a k dot rest feature after (taken is_feature_byte after) (left is_feature_byte after) c ea ed er ((Decides-eqb c 46).0 (and_left _ _ h)) (taken-left is_feature_byte after) (at_end _ (and_right (not (length (taken is_feature_byte after) == 0)) _ value_is)) in
-      kind_valued k (and_left _ _ goes)
-        (λ kind. inl (valued k feature (taken is_feature_byte after) kind hf hv spelled))
-        (λ negative. inr (record { feature = feature; value = taken is_feature_byte after; feature_is = hf; value_is = hv; spelled = spelled ∙ ap (λ n. 64 ∷ n ∷ 46 ∷ feature ++ 46 ∷ taken is_feature_byte after ++ 64 ∷ []) negative })))
+    let value_is : is_value after ≡ true = and_right (has_value k) _ goes in
+    let hv : IsFeature (taken is_feature_byte after) = feature_of after (and_left _ _ value_is) in
+    let spelled : a ∷ k ∷ dot ∷ rest ≡ 64 ∷ k ∷ 46 ∷ feature ++ 46 ∷ taken is_feature_byte after ++ 64 ∷ [] =
+    spelled_valued a k dot rest feature after (taken is_feature_byte after) (left is_feature_byte after) c ea ed er ((Decides-eqb c 46).0 (and_left _ _ h)) (taken-left is_feature_byte after) (at_end _ (and_right (not (length (taken is_feature_byte after) == 0)) _ value_is)) in
+    kind_valued k (and_left _ _ goes)
+    (λ kind. inl (valued k feature (taken is_feature_byte after) kind hf hv spelled))
+    (λ negative. inr (record { feature = feature; value = taken is_feature_byte after; feature_is = hf; value_is = hv; spelled = spelled ∙ ap (λ n. 64 ∷ n ∷ 46 ∷ feature ++ 46 ∷ taken is_feature_byte after ++ 64 ∷ []) negative })))
 
 flag_takes : (text : List ℕ) → is_flag text ≡ true → IsFlag text ⊎ IsNegativeFlag text
 flag_takes [] e = absurd cc
@@ -94,7 +96,7 @@ flag_takes (a ∷ k ∷ dot ∷ rest) e =
     let more : (dot == 46 && is_behind_kind k rest) ≡ true = and_right (a == 64) _ e in
     let behind : is_behind_kind k rest ≡ true = and_right (dot == 46) _ more in
     flag_behind a k dot rest (taken is_feature_byte rest) (left is_feature_byte rest) ((Decides-eqb a 64).0 (and_left _ _ e)) ((Decides-eqb dot 46).0 (and_left _ _ more)) (taken-left is_feature_byte rest)
-      (feature_of rest (and_left _ _ behind)) (and_right (not (length (taken is_feature_byte rest) == 0)) _ behind)
+    (feature_of rest (and_left _ _ behind)) (and_right (not (length (taken is_feature_byte rest) == 0)) _ behind)
 
 -- A flag passes the test.
 
@@ -141,10 +143,12 @@ negative_again text n = ap is_flag n.spelled ∙ valued_again 78 n.feature n.val
 pub no_flag : (text : List ℕ) → Decides (not (is_flag text)) ((IsFlag text → ⊥) × (IsNegativeFlag text → ⊥))
 no_flag text = (
   (λ e. ((λ f. clash (is_flag text) e (flag_again text f)), (λ n. clash (is_flag text) e (negative_again text n)))),
-  (λ h. fails (is_flag text) refl h)) where
+  (λ h. fails (is_flag text) refl h),
+) where
   clash : (b : Bool) → not b ≡ true → b ≡ true → ⊥
   clash true e f = cc
   clash false e f = cc
+
   fails : (b : Bool) → is_flag text ≡ b → (IsFlag text → ⊥) × (IsNegativeFlag text → ⊥) → not b ≡ true
   fails true e h = elim (flag_takes text e) [ inl f ↦ absurd (h.0 f) | inr n ↦ absurd (h.1 n) ]
   fails false e h = refl

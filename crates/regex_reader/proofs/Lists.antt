@@ -23,16 +23,16 @@ suc_of n = omega arith
 pub take-prefix_len : {X : Type 0} (p : X → Bool) (xs : List X) → take (prefix_len p xs) xs ≡ taken p xs
 take-prefix_len p [] = refl
 take-prefix_len p (x ∷ xs) = elim (p x) as (λ b. take (cond b (1 + prefix_len p xs) 0) (x ∷ xs) ≡ cond b (x ∷ taken p xs) []) [
-    true ↦ rw suc_of (ap (λ ys. x ∷ ys) (take-prefix_len p xs))
+  | true ↦ rw suc_of (ap (λ ys. x ∷ ys) (take-prefix_len p xs))
   | false ↦ refl
-  ]
+]
 
 pub drop-prefix_len : {X : Type 0} (p : X → Bool) (xs : List X) → drop (prefix_len p xs) xs ≡ left p xs
 drop-prefix_len p [] = refl
 drop-prefix_len p (x ∷ xs) = elim (p x) as (λ b. drop (cond b (1 + prefix_len p xs) 0) (x ∷ xs) ≡ cond b (left p xs) (x ∷ xs)) [
-    true ↦ rw suc_of (drop-prefix_len p xs)
+  | true ↦ rw suc_of (drop-prefix_len p xs)
   | false ↦ refl
-  ]
+]
 
 -- how far the elements pass, of a place up to which each does
 pub prefix_len_is : {X : Type 0} (p : X → Bool) (xs : List X) (d : X) (n : ℕ) → n ≤ length xs → ((k : ℕ) → k < n → p (get_or xs k d) ≡ true) → (n < length xs → p (get_or xs n d) ≡ false) → n ≡ prefix_len p xs
@@ -57,9 +57,9 @@ list_all_weaker p q weaker (x ∷ xs) e = and_true _ _ (weaker x (and_left _ _ e
 pub taken-left : {X : Type 0} (p : X → Bool) (xs : List X) → taken p xs ++ left p xs ≡ xs
 taken-left p [] = refl
 taken-left p (x ∷ xs) = elim (p x) as (λ b. cond b (x ∷ taken p xs) [] ++ cond b (left p xs) (x ∷ xs) ≡ x ∷ xs) [
-    true ↦ ap (λ ys. x ∷ ys) (taken-left p xs)
+  | true ↦ ap (λ ys. x ∷ ys) (taken-left p xs)
   | false ↦ refl
-  ]
+]
 
 all_taken_by : {X : Type 0} (p : X → Bool) (x : X) (xs : List X) (b : Bool) → p x ≡ b → list_all p (taken p xs) ≡ true → list_all p (cond b (x ∷ taken p xs) []) ≡ true
 all_taken_by p x xs true e deeper = and_true _ _ e deeper

@@ -46,9 +46,9 @@ parts_at-part name a (Colon ∷ Semicolon ∷ rest) = refl
 pub parts_go_on : (name : List ℕ) (all : List Token) (found : List (Term Raw)) (tokens : List Token) (a : Leaf) (rest : List Token) (t : Term Raw) (behind : List Token) → PartsSoFar name all found tokens → tokens ≡ leaf a ∷ rest → part_at name a rest ≡ Some (t, behind) → PartsSoFar name all (found ++ t ∷ []) behind
 parts_go_on name all found tokens a rest t behind h first part = record {
   so_far = h.so_far ∙ ap (λ ts. option_map (λ us. found ++ us) (parts_at name ts)) first
-    ∙ ap (option_map (λ ts. found ++ ts)) (parts_at-part name a rest ∙ ap (option_and_then (with_parts name)) part)
-    ∙ map_map _ _ _ (parts_at name behind) (λ ts. sym (append_assoc found (t ∷ []) ts))
-  }
+      ∙ ap (option_map (λ ts. found ++ ts)) (parts_at-part name a rest ∙ ap (option_and_then (with_parts name)) part)
+      ∙ map_map _ _ _ (parts_at name behind) (λ ts. sym (append_assoc found (t ∷ []) ts));
+}
 
 pub parts_stop : (name : List ℕ) (all : List Token) (found : List (Term Raw)) (tokens : List Token) (a : Leaf) (rest : List Token) → PartsSoFar name all found tokens → tokens ≡ leaf a ∷ rest → None ≡ part_at name a rest → None ≡ parts_at name all
 parts_stop name all found tokens a rest h first none = sym (h.so_far ∙ ap (λ ts. option_map (λ us. found ++ us) (parts_at name ts)) first

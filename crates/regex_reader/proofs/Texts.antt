@@ -56,22 +56,27 @@ pub record TextOf (text : List ℕ) (tokens : List Token) : Type 0 where
 add_token : (text : List ℕ) (x : Token × List ℕ) (tokens all : List Token) → TokenAt text x.0 x.1 → TextOf (left is_blank x.1) tokens → x.0 ∷ tokens ≡ all → TextOf text all
 add_token text x tokens all first more same = record {
   placed = record { token = x.0; blanks = taken is_blank x.1 } ∷ more.placed;
-  apart = (first.fine, list_all-taken is_blank x.1, (λ run next none.
-    let stops : begins is_run_byte x.1 ≡ false = first.ends run in
-    let whole : x.1 ≡ text_of more.placed = sym (taken-left is_blank x.1) ∙ ap (λ front. front ++ left is_blank x.1) none ∙ more.spelled in
-    let goes : begins is_run_byte (text_of more.placed) ≡ true = text_begins_run more.placed more.apart ∙ next in
-    let clash : true ≡ false = sym goes ∙ ap (begins is_run_byte) (sym whole) ∙ stops in
-    absurd cc), more.apart);
+  apart = (
+    first.fine,
+    list_all-taken is_blank x.1,
+    (λ run next none.
+        let stops : begins is_run_byte x.1 ≡ false = first.ends run in
+        let whole : x.1 ≡ text_of more.placed = sym (taken-left is_blank x.1) ∙ ap (λ front. front ++ left is_blank x.1) none ∙ more.spelled in
+        let goes : begins is_run_byte (text_of more.placed) ≡ true = text_begins_run more.placed more.apart ∙ next in
+        let clash : true ≡ false = sym goes ∙ ap (begins is_run_byte) (sym whole) ∙ stops in
+        absurd cc),
+    more.apart,
+  );
   spelled = first.spelled ∙ ap (λ rest. spelling x.0 ++ rest) (sym (taken-left is_blank x.1) ∙ ap (λ rest. taken is_blank x.1 ++ rest) more.spelled);
-  told = ap (λ ts. x.0 ∷ ts) more.told ∙ same
-  }
+  told = ap (λ ts. x.0 ∷ ts) more.told ∙ same;
+}
 
 pub tokens_take : (n : ℕ) (text : List ℕ) (tokens : List Token) → tokens_in n text ≡ Some tokens → TextOf text tokens
 tokens_take n [] tokens e = record { placed = []; apart = tt; spelled = refl; told = same_some _ _ e }
 tokens_take zero (b ∷ bs) tokens e = absurd cc
 tokens_take (suc n) (b ∷ bs) tokens e = then_some _ (token_at (b ∷ bs)) tokens e
     (λ x first rest. map_some _ (tokens_in n (left is_blank x.1)) tokens rest
-      (λ more found same. add_token (b ∷ bs) x more tokens (token_takes (b ∷ bs) x first) (tokens_take n (left is_blank x.1) more found) same))
+    (λ more found same. add_token (b ∷ bs) x more tokens (token_takes (b ∷ bs) x first) (tokens_take n (left is_blank x.1) more found) same))
 
 -- Tokens are read again from their text.
 
@@ -118,8 +123,8 @@ more_found text found rest t behind zero less enough first so_far shorter = absu
 more_found text found rest t behind (suc n) less enough first so_far shorter = record {
   count = n;
   enough = omega arith;
-  so_far = so_far ∙ ap (option_map (λ ts. found ++ ts)) (tokens_in-first n rest t behind first) ∙ map_map _ _ _ (tokens_in n (left is_blank behind)) (λ ts. sym (append_assoc found (t ∷ []) ts))
-  }
+  so_far = so_far ∙ ap (option_map (λ ts. found ++ ts)) (tokens_in-first n rest t behind first) ∙ map_map _ _ _ (tokens_in n (left is_blank behind)) (λ ts. sym (append_assoc found (t ∷ []) ts));
+}
 
 token_shorter : (text : List ℕ) (t : Token) (behind : List ℕ) → TokenAt text t behind → length behind < length text
 token_shorter text t behind h = let grows : length behind < length (spelling t ++ behind) = spelling_grows t behind h.fine in omega (arith, ap length h.spelled)

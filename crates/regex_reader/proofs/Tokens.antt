@@ -94,10 +94,10 @@ token_takes (b ∷ bs) x e = if_cases (b == 58) _ _ _ e
     (λ is some. from_some (b ∷ bs) Semicolon bs x some (record { spelled = ap (λ c. c ∷ bs) ((Decides-eqb b 59).0 is); fine = refl; ends = λ h. absurd cc }))
     (λ _ e. if_cases (b == 34) _ _ _ e
     (λ is some. closed_takes (b ∷ bs) 34 (Quoted (taken is_quoted_byte bs)) (left is_quoted_byte bs) x some
-      (λ rest end. record { spelled = between b 34 34 bs _ _ rest ((Decides-eqb b 34).0 is) (taken-left is_quoted_byte bs) end; fine = list_all-taken is_quoted_byte bs; ends = λ h. absurd cc }))
+    (λ rest end. record { spelled = between b 34 34 bs _ _ rest ((Decides-eqb b 34).0 is) (taken-left is_quoted_byte bs) end; fine = list_all-taken is_quoted_byte bs; ends = λ h. absurd cc }))
     (λ _ e. if_cases (b == 123) _ _ _ e
     (λ is some. closed_takes (b ∷ bs) 125 (Braced (taken is_braced_byte bs)) (left is_braced_byte bs) x some
-      (λ rest end. record { spelled = between b 123 125 bs _ _ rest ((Decides-eqb b 123).0 is) (taken-left is_braced_byte bs) end; fine = list_all-taken is_braced_byte bs; ends = λ h. absurd cc }))
+    (λ rest end. record { spelled = between b 123 125 bs _ _ rest ((Decides-eqb b 123).0 is) (taken-left is_braced_byte bs) end; fine = list_all-taken is_braced_byte bs; ends = λ h. absurd cc }))
     (λ _ some. run_takes (b ∷ bs) (taken is_run_byte (b ∷ bs)) (left is_run_byte (b ∷ bs)) x some (sym (taken-left is_run_byte (b ∷ bs))) (list_all-taken is_run_byte (b ∷ bs)) (begins-left is_run_byte (b ∷ bs))))))
 
 pub token_again : (t : Token) (rest : List ℕ) → is_token t ≡ true → (is_run t ≡ true → begins is_run_byte rest ≡ false) → token_at (spelling t ++ rest) ≡ Some (t, rest)

@@ -63,14 +63,14 @@ add_part name (single a) rest t ts all h e more same = record {
   parts = single a ∷ more.parts;
   spelled = ap (λ z. leaf a ∷ z) more.spelled;
   fine = all_first name (single a) more.parts h more.fine;
-  told = ap (λ x. x ∷ map part_term more.parts) e ∙ ap (λ xs. t ∷ xs) more.told ∙ same
-  }
+  told = ap (λ x. x ∷ map part_term more.parts) e ∙ ap (λ xs. t ∷ xs) more.told ∙ same;
+}
 add_part name (pair a b) rest t ts all h e more same = record {
   parts = pair a b ∷ more.parts;
   spelled = ap (λ z. leaf a ∷ Colon ∷ leaf b ∷ z) more.spelled;
   fine = all_first name (pair a b) more.parts h more.fine;
-  told = ap (λ x. x ∷ map part_term more.parts) e ∙ ap (λ xs. t ∷ xs) more.told ∙ same
-  }
+  told = ap (λ x. x ∷ map part_term more.parts) e ∙ ap (λ xs. t ∷ xs) more.told ∙ same;
+}
 
 no_tokens : (ts : List Token) → (length ts == 0) ≡ true → ts ≡ []
 no_tokens [] e = refl
@@ -145,25 +145,25 @@ definition_is line name (p ∷ ps) terms t h fine told row = record {
   name = h;
   leaves = fine;
   means = sym (same_some _ _ (ap row_at told ∙ row));
-  line_is = refl
-  }
+  line_is = refl;
+}
 
 definition_takes : (line : ℕ) (name : List ℕ) (rest : List Token) (s : Statement) → definition_at line name rest ≡ Some s → StatementOf line (leaf (Run (codes "define")) ∷ leaf (Run name) ∷ rest) s
 definition_takes line name rest s e = if_cases (is_name name) _ _ _ e
     (λ is some. map_some _ (option_and_then row_at (parts_at name rest)) s some (λ t found same. then_some row_at (parts_at name rest) t found (λ terms parsed row.
-      let parts : PartsOf name rest terms = parts_take name rest terms parsed in
-      let made : StatementOf line (statement_tokens name parts.parts) (record { line = line; name = name; term = t }) = definition_is line name parts.parts terms t is parts.fine parts.told row in
-      let here : StatementOf line (leaf (Run (codes "define")) ∷ leaf (Run name) ∷ rest) (record { line = line; name = name; term = t }) =
-        subst (λ (z : List Token). StatementOf line (leaf (Run (codes "define")) ∷ leaf (Run name) ∷ z) (record { line = line; name = name; term = t })) (sym parts.spelled) made in
-      subst (λ (z : Statement). StatementOf line (leaf (Run (codes "define")) ∷ leaf (Run name) ∷ rest) z) same here)))
+    let parts : PartsOf name rest terms = parts_take name rest terms parsed in
+    let made : StatementOf line (statement_tokens name parts.parts) (record { line = line; name = name; term = t }) = definition_is line name parts.parts terms t is parts.fine parts.told row in
+    let here : StatementOf line (leaf (Run (codes "define")) ∷ leaf (Run name) ∷ rest) (record { line = line; name = name; term = t }) =
+    subst (λ (z : List Token). StatementOf line (leaf (Run (codes "define")) ∷ leaf (Run name) ∷ z) (record { line = line; name = name; term = t })) (sym parts.spelled) made in
+    subst (λ (z : Statement). StatementOf line (leaf (Run (codes "define")) ∷ leaf (Run name) ∷ rest) z) same here)))
     (λ _ none. absurd cc)
 
 statement_takes : (line : ℕ) (tokens : List Token) (s : Statement) → statement_at line tokens ≡ Some s → StatementOf line tokens s
 statement_takes line tokens s e = then_some _ (run_before tokens) s e (λ x first rest. if_cases (bytes_eq x.0 (codes "define")) _ _ _ rest
     (λ is some. then_some _ (run_before x.1) s some (λ y second last.
-      let spelled : tokens ≡ leaf (Run (codes "define")) ∷ leaf (Run y.0) ∷ y.1 =
-        run_before_takes tokens x first ∙ ap (λ cs. leaf (Run cs) ∷ x.1) ((bytes_eq-Decides x.0 (codes "define")).0 is) ∙ ap (λ ts. leaf (Run (codes "define")) ∷ ts) (run_before_takes x.1 y second) in
-      subst (λ (z : List Token). StatementOf line z s) (sym spelled) (definition_takes line y.0 y.1 s last)))
+    let spelled : tokens ≡ leaf (Run (codes "define")) ∷ leaf (Run y.0) ∷ y.1 =
+    run_before_takes tokens x first ∙ ap (λ cs. leaf (Run cs) ∷ x.1) ((bytes_eq-Decides x.0 (codes "define")).0 is) ∙ ap (λ ts. leaf (Run (codes "define")) ∷ ts) (run_before_takes x.1 y second) in
+    subst (λ (z : List Token). StatementOf line z s) (sym spelled) (definition_takes line y.0 y.1 s last)))
     (λ _ none. absurd cc))
 
 definition_again : (line : ℕ) (s : Statement) (first : Part) (more : List Part) → is_name s.name ≡ true → All (IsPart s.name) (first ∷ more) → s.term ≡ row_term (part_term first) (map part_term more) → s.line ≡ line
@@ -191,23 +191,23 @@ is_short text h = grind (arith, nat_tests)
 read_takes : (text : List ℕ) (s : Statement) → read text ≡ Some s → ReadsAs text s
 read_takes text s e = if_cases (nat_le (length text) 4096) _ _ _ e
     (λ is some. then_some _ (tokens_of (left is_blank text)) s some (λ tokens found last.
-      let whole : TextOf (left is_blank text) tokens = tokens_take (length (left is_blank text)) (left is_blank text) tokens found in
-      let told : StatementOf (newlines (taken is_blank text) + 1) tokens s = statement_takes _ tokens s last in
-      record {
-        front = taken is_blank text;
-        placed = whole.placed;
-        spelled = sym (taken-left is_blank text) ∙ ap (λ rest. taken is_blank text ++ rest) whole.spelled;
-        short = short_enough text is;
-        blanks = list_all-taken is_blank text;
-        tokens = whole.apart;
-        first = told.first;
-        more = told.more;
-        told = whole.told ∙ told.told;
-        name = told.name;
-        leaves = told.leaves;
-        means = told.means;
-        line = told.line_is
-      }))
+    let whole : TextOf (left is_blank text) tokens = tokens_take (length (left is_blank text)) (left is_blank text) tokens found in
+    let told : StatementOf (newlines (taken is_blank text) + 1) tokens s = statement_takes _ tokens s last in
+    record {
+      front = taken is_blank text;
+      placed = whole.placed;
+      spelled = sym (taken-left is_blank text) ∙ ap (λ rest. taken is_blank text ++ rest) whole.spelled;
+      short = short_enough text is;
+      blanks = list_all-taken is_blank text;
+      tokens = whole.apart;
+      first = told.first;
+      more = told.more;
+      told = whole.told ∙ told.told;
+      name = told.name;
+      leaves = told.leaves;
+      means = told.means;
+      line = told.line_is;
+    }))
     (λ _ none. absurd cc)
 
 -- and each text of the form is read

@@ -109,7 +109,7 @@ abbrev pub part_term : Part → Term Raw
 part_term (single a) = leaf_term a
 part_term (pair a b) = cross (leaf_term a) (leaf_term b)
 
-abbrev pub terms_of : List (Term Raw) → Terms Raw
+abbrev pub terms_of : {A : Type 0} → List (Term A) → Terms A
 terms_of [] = no_term
 terms_of (t ∷ ts) = then_term t (terms_of ts)
 

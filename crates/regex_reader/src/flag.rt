@@ -1,7 +1,7 @@
 ghost use Rattle.std.specs.Prelude.{◌≡◌};
 ghost use Rattle.regex_reader.specs.Reading.{is_flag, is_behind_kind, is_behind_feature, is_value, has_value, has_no_value};
 
-use crate::bytes::{split, ByteClass};
+use crate::bytes::{ByteClass, split};
 
 /// Whether the text is a flag diacritic, `@X.F.V@` or `@X.F@`, or a negative flag `@N.F.V@` (Beesley and
 /// Karttunen, Finite State Morphology, 2003, chapter 7).

@@ -4,7 +4,7 @@ ghost use Rattle.regex_reader.specs.Bytes.{is_quoted_byte, is_braced_byte, is_ru
 ghost use Rattle.regex_reader.specs.Reading.{token_at, tokens_of, run_at, closed, behind_byte, taken, left};
 ghost use Rattle.regex_reader.specs.declared.token.Leaf.TheVariants.{Quoted, Braced};
 
-use crate::bytes::{split, text_of, ByteClass};
+use crate::bytes::{ByteClass, split, text_of};
 use crate::token::{Leaf, Token, Tokens};
 use std::alloc::{AllocError, Global};
 

@@ -7,7 +7,7 @@ ghost use Rattle.regex_reader.specs.declared.token.Token.TheVariants.{Leaf as le
 
 use crate::bytes::is_name;
 use crate::leaf::{is_leaf, leaf_expr};
-use crate::token::{leaf_of, run_of, Leaf, Token, Tokens};
+use crate::token::{Leaf, Token, Tokens, leaf_of, run_of};
 use fsm_base::Text;
 use regex_ast::{Define, Expr, Raw};
 use std::alloc::{AllocError, Global};
@@ -107,10 +107,7 @@ fn part(
     let Some(lower) = plain_leaf(alloc, name, lower)? else {
         return Ok(None);
     };
-    Ok(Some(Expr::Cross(
-        Box::new(alloc, upper)?,
-        Box::new(alloc, lower)?,
-    )))
+    Ok(Some(Expr::Cross(Box::new(alloc, upper)?, Box::new(alloc, lower)?)))
 }
 
 /// The expression of a leaf that may stand where `name` is defined.
