@@ -151,5 +151,5 @@ tokens_end text found (b ∷ bs) h none = absurd (omega arith)
 pub tokens_shorter : (rest : List ℕ) (t : Token) (behind : List ℕ) → token_at rest ≡ Some (t, behind) → length (left is_blank behind) < length rest
 tokens_shorter rest t behind e = omega (arith, token_shorter rest t behind (token_takes rest (t, behind) e), left_shorter behind)
 
-pub taken_shorter : (text : List ℕ) (n : ℕ) → length text ≤ n → length (taken is_blank text) ≤ n
-taken_shorter text n h = omega (arith, ap length (taken-left is_blank text), length-append (taken is_blank text) (left is_blank text))
+pub taken_shorter : (text : List ℕ) → length (taken is_blank text) ≤ length text
+taken_shorter text = omega (arith, ap length (taken-left is_blank text), length-append (taken is_blank text) (left is_blank text))
