@@ -1,0 +1,4 @@
+pub mod Automaton
+pub mod Language
+pub mod Complete
+pub mod Arcs

@@ -1,0 +1,6 @@
+pub mod Marking
+pub mod Added
+pub mod OutEdges
+pub mod Closed
+pub mod TargetsLemmas
+pub mod Numbered

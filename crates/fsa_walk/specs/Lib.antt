@@ -1,0 +1,4 @@
+pub mod Marks
+pub mod Reaches
+pub mod Marking
+pub mod Targets

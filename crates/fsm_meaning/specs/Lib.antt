@@ -1,0 +1,6 @@
+pub mod Answers
+pub mod OnePair
+pub mod Projects
+pub mod Relation
+pub mod Replies
+pub mod Transcripts

@@ -1,0 +1,59 @@
+-- The reply to a line that is looked up: bytes, with the version's number first. `long`, `line`, `net`
+-- and `symbol` are tried in this order, and then the related texts are told.
+use Rattle.std.specs.Prelude.{◌≡◌, ◌≤◌, ◌++◌, ◌==◌, if◌then◌else◌, ℕ, List, [], ◌∷◌, length, All, Option, None, Some, Ok, Err, codes, decimal}
+use Rattle.std.specs.List.{flat_map}
+use Rattle.fsm_base.specs.Cut.{cut}
+use Rattle.fsm_meaning.specs.Answers.{Texts, Found, strings, more, loop, Answers}
+use Rattle.fsm_meaning.specs.Projects.{Project, Defines, Meaning}
+
+-- the bytes with a newline
+abbrev pub line_of : List ℕ → List ℕ
+line_of bytes = bytes ++ 10 ∷ []
+
+-- the version, a space, and the rest of a reply's first line
+abbrev pub headed : ℕ → List ℕ → List ℕ
+headed version rest = line_of (decimal version ++ 32 ∷ rest)
+
+abbrev pub answer_bytes : ℕ → List ℕ → Found → List ℕ
+answer_bytes version word (strings texts) = headed version (decimal (length texts) ++ 32 ∷ word) ++ flat_map line_of texts
+answer_bytes version word more = headed version (codes "more " ++ word)
+answer_bytes version word (loop before round after) = headed version (codes "loop " ++ word) ++ line_of before ++ line_of round ++ line_of after
+
+-- a byte of a look-up line: printable ASCII
+abbrev pub IsPrintable : ℕ → Type 0
+IsPrintable b = (32 ≤ b) × (b ≤ 126)
+
+-- a line that can be a word
+abbrev pub IsWord : List ℕ → Type 0
+IsWord line = All IsPrintable line
+
+-- the line without a carriage return at its end
+abbrev pub without_return : List ℕ → List ℕ
+without_return [] = []
+without_return (b ∷ []) = if b == 13 then [] else b ∷ []
+without_return (b ∷ c ∷ line) = b ∷ without_return (c ∷ line)
+
+-- which texts a look-up of the cut word finds
+pub data Direction : Type 0 where
+  -- the upper, lexical words of a lower word
+  up : Direction
+  -- the lower, surface words of an upper word
+  down : Direction
+
+abbrev pub Related : Project → Direction → List ℕ → List (List ℕ) → List ℕ → Type 0
+Related project up net word = Texts (λ u. Meaning project net u word)
+Related project down net word = Texts (λ w. Meaning project net word w)
+
+-- the reply to a word
+pub data RepliesToWord (project : Project) (direction : Direction) (version : ℕ) (net word bytes : List ℕ) : Type 0 where
+  no_net : ¬ (Defines project net) → bytes ≡ headed version (codes "net " ++ net) → RepliesToWord project direction version net word bytes
+  no_symbol : (at : ℕ) → Defines project net → cut project.alphabet word ≡ Err at → bytes ≡ headed version (codes "symbol " ++ decimal at ++ 32 ∷ word) → RepliesToWord project direction version net word bytes
+  answered : (symbols : List (List ℕ)) (found : Found) → Defines project net → cut project.alphabet word ≡ Ok symbols → Answers (Related project direction net symbols) found → bytes ≡ answer_bytes version word found → RepliesToWord project direction version net word bytes
+  -- want of memory is answered for the line alone
+  no_memory : bytes ≡ headed version (codes "memory") → RepliesToWord project direction version net word bytes
+
+-- the reply to a line as it is told: `None` is one of more than 4,096 bytes
+pub data Replies (project : Project) (direction : Direction) (version : ℕ) (net : List ℕ) : Option (List ℕ) → List ℕ → Type 0 where
+  long : {bytes : List ℕ} → bytes ≡ headed version (codes "long") → Replies project direction version net None bytes
+  no_word : {line bytes : List ℕ} → ¬ (IsWord (without_return line)) → bytes ≡ headed version (codes "line") → Replies project direction version net (Some line) bytes
+  word : {line bytes : List ℕ} → IsWord (without_return line) → RepliesToWord project direction version net (without_return line) bytes → Replies project direction version net (Some line) bytes

@@ -1,0 +1,4 @@
+pub mod Sides
+pub mod Networks
+pub mod Sending
+pub mod Running

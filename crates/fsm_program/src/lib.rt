@@ -1,0 +1,8 @@
+//! The program.
+#![tactic(auto)]
+
+mod look_up;
+mod network;
+mod pieces;
+mod reply;
+mod sides;

@@ -1,0 +1,25 @@
+ghost use Rattle.std.specs.Prelude.{List, ℕ};
+ghost use Rattle.std.specs.List.{flat_map};
+ghost use Rattle.fsm_io.specs.Causes.{HasCause};
+ghost use Rattle.fsm_io.specs.Sinks.{Gathers};
+
+use fsm_io::{Failed, Outbox, Sink};
+
+/// Gathers the pieces, one after another. After a failure the output has a front of all that was to
+/// be written.
+pub fn put_all<O: Sink>(
+    outbox: &mut Outbox,
+    output: &mut O,
+    pieces: &[&[u8]],
+) -> Result<(), Failed>
+    ensures bytes { Gathers (O.held output.old) (O.held output.new) outbox.old (flat_map (λ piece. piece.now) pieces.now) outbox.new result }
+    ensures cause { HasCause (O.faults output.old) (O.faults output.new) result }
+{
+    'pieces: for piece in pieces {
+        match outbox.put(output, piece) {
+            Ok(()) => {}
+            Err(Failed) => return Err(Failed),
+        }
+    }
+    Ok(())
+}
