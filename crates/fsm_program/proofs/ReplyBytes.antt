@@ -1,5 +1,6 @@
--- The bytes of replies, as pieces in a row.
-use Rattle.std.proofs.Common.{◌≡◌, ℕ, ◌+◌, ◌<◌, ◌≤◌, ◌==◌, Bool, true, false, cond, List, [], ◌∷◌, ◌++◌, length, Option, Result, refl, sym, ap, subst, ◌∙◌, arith, append_assoc, append-nil, codes, All, get_or, inl, inr}
+-- The bytes of replies, as pieces in a row, and bytes without their last.
+use Rattle.std.proofs.Common.{◌≡◌, ℕ, ◌+◌, ◌<◌, ◌≤◌, ◌==◌, Bool, true, false, cond, List, [], ◌∷◌, ◌++◌, length, Option, Result, refl, sym, ap, subst, ◌∙◌, arith, append_assoc, append-nil, codes, All, get_or, inl, inr, ◌⊎◌, ◌≢◌}
+use Rattle.std.proofs.lemmas.List.Elements.{All-head, All-tail}
 use Rattle.std.proofs.lemmas.Bool.Decides.{nat_tests, eqb_tells}
 use Rattle.std.proofs.lemmas.Fmt.{decimal_digit}
 use Rattle.std.proofs.lemmas.Str.{IsUtf8-from_ascii}
@@ -9,7 +10,7 @@ use Rattle.std.specs.Fmt.{decimal}
 use Rattle.std.specs.Str.{IsUtf8, IsAscii}
 use Rattle.fsm_io.specs.Sinks.{Gathers}
 use Rattle.fsm_meaning.specs.Answers.{strings}
-use Rattle.fsm_meaning.specs.Replies.{IsWord, IsPrintable, headed, line_of, answer_bytes, without_return}
+use Rattle.fsm_meaning.specs.Replies.{IsWord, IsPrintable, headed, line_of, answer_bytes, without_last}
 use Rattle.fsm_program.specs.Sending.{Sends}
 
 zero_digit : decimal 0 ≡ 48 ∷ []
@@ -55,26 +56,50 @@ sends_as {T} {E} {R} {held0} {held} {gathered} {after} {result} bytes reply lawf
 pub gathers_as : {T E : Type 0} {held0 held : Option (List ℕ)} {gathered after : List ℕ} {result : Result T E} (bytes reply : List ℕ) → bytes ≡ reply → Gathers held0 held gathered bytes after result → Gathers held0 held gathered reply after result
 gathers_as {T} {E} {held0} {held} {gathered} {after} {result} bytes reply is sent = subst (λ (z : List ℕ). Gathers held0 held gathered z after result) is sent
 
--- a carriage return at the end is dropped
-pub return_dropped : (front : List ℕ) → without_return (front ++ 13 ∷ []) ≡ front
-return_dropped [] = refl
-return_dropped (b ∷ []) = refl
-return_dropped (b ∷ c ∷ front) = ap (λ (z : List ℕ). b ∷ z) (return_dropped (c ∷ front))
+pub not_same : (m n : ℕ) → (m ≡ n → ⊥) → (m == n) ≡ false
+not_same m n other = elim (eqb_tells m n) as (λ _. (m == n) ≡ false) [ inl same ↦ absurd (other same.1) | inr apart ↦ apart.0 ]
 
--- and nothing else is
-pub return_kept : (front : List ℕ) (last : ℕ) → (last == 13) ≡ false → without_return (front ++ last ∷ []) ≡ front ++ last ∷ []
-return_kept [] last other = ap (λ (b : Bool). cond b [] (last ∷ [])) other
-return_kept (b ∷ []) last other = ap (λ (z : List ℕ). b ∷ z) (return_kept [] last other)
-return_kept (b ∷ c ∷ front) last other = ap (λ (z : List ℕ). b ∷ z) (return_kept (c ∷ front) last other)
+-- the byte at the end is dropped
+pub last_dropped : (last : ℕ) (front : List ℕ) → without_last last (front ++ last ∷ []) ≡ front
+last_dropped last [] = ap (λ (t : Bool). cond t [] (last ∷ [])) (same_number last)
+  where
+    same_number : (n : ℕ) → (n == n) ≡ true
+    same_number n = elim (eqb_tells n n) as (λ _. (n == n) ≡ true) [ inl same ↦ same.0 | inr apart ↦ absurd (apart.1 refl) ]
+last_dropped last (b ∷ []) = ap (λ (z : List ℕ). b ∷ z) (last_dropped last [])
+last_dropped last (b ∷ c ∷ front) = ap (λ (z : List ℕ). b ∷ z) (last_dropped last (c ∷ front))
 
-pub length-without_return : (line : List ℕ) → length (without_return line) ≤ length line
-length-without_return [] = omega arith
-length-without_return (b ∷ []) = short (b == 13)
+-- and no other is
+pub last_kept : (last : ℕ) (front : List ℕ) (other : ℕ) → (other == last) ≡ false → without_last last (front ++ other ∷ []) ≡ front ++ other ∷ []
+last_kept last [] other apart = ap (λ (b : Bool). cond b [] (other ∷ [])) apart
+last_kept last (b ∷ []) other apart = ap (λ (z : List ℕ). b ∷ z) (last_kept last [] other apart)
+last_kept last (b ∷ c ∷ front) other apart = ap (λ (z : List ℕ). b ∷ z) (last_kept last (c ∷ front) other apart)
+
+-- nothing is dropped where the byte is none of these
+pub none_dropped : (last : ℕ) (bytes : List ℕ) → All (λ b. b ≢ last) bytes → without_last last bytes ≡ bytes
+none_dropped last [] h = refl
+none_dropped last (b ∷ []) h = ap (λ (t : Bool). cond t [] (b ∷ [])) (not_same b last (All-head (λ b. b ≢ last) b [] h))
+none_dropped last (b ∷ c ∷ bytes) h = ap (λ (z : List ℕ). b ∷ z) (none_dropped last (c ∷ bytes) (All-tail (λ b. b ≢ last) b (c ∷ bytes) h))
+
+-- what was dropped is the byte or nothing
+pub dropped_cases : (last : ℕ) (bytes : List ℕ) → (bytes ≡ without_last last bytes) ⊎ (bytes ≡ without_last last bytes ++ last ∷ [])
+dropped_cases last [] = inl refl
+dropped_cases last (b ∷ []) = elim (eqb_tells b last) as (λ _. (b ∷ [] ≡ without_last last (b ∷ [])) ⊎ (b ∷ [] ≡ without_last last (b ∷ []) ++ last ∷ [])) [
+  inl same ↦ inr (ap (λ (n : ℕ). n ∷ []) same.1 ∙ sym (ap (λ (t : Bool). cond t [] (b ∷ []) ++ last ∷ []) same.0))
+  | inr apart ↦ inl (sym (ap (λ (t : Bool). cond t [] (b ∷ [])) apart.0))
+]
+dropped_cases last (b ∷ c ∷ bytes) = elim (dropped_cases last (c ∷ bytes)) as (λ _. (b ∷ c ∷ bytes ≡ without_last last (b ∷ c ∷ bytes)) ⊎ (b ∷ c ∷ bytes ≡ without_last last (b ∷ c ∷ bytes) ++ last ∷ [])) [
+  inl e ↦ inl (ap (λ (z : List ℕ). b ∷ z) e)
+  | inr e ↦ inr (ap (λ (z : List ℕ). b ∷ z) e)
+]
+
+pub length-without_last : (last : ℕ) (line : List ℕ) → length (without_last last line) ≤ length line
+length-without_last last [] = omega arith
+length-without_last last (b ∷ []) = short (b == last)
   where
     short : (t : Bool) → length (cond t [] (b ∷ [])) ≤ 1
     short true = omega arith
     short false = omega arith
-length-without_return (b ∷ c ∷ line) = omega (arith, length-without_return (c ∷ line))
+length-without_last last (b ∷ c ∷ line) = omega (arith, length-without_last last (c ∷ line))
 
 -- a word is text
 pub IsUtf8-word : (line : List ℕ) → IsWord line → IsUtf8 line
@@ -90,6 +115,3 @@ IsUtf8-word line word = IsUtf8-from_ascii line (λ i. below i)
 -- a lawful reply in one sense is one in another
 pub sends_weaker : {T E : Type 0} {R Q : List ℕ → Type 0} {held0 held : Option (List ℕ)} {gathered after : List ℕ} {result : Result T E} → ((bytes : List ℕ) → R bytes → Q bytes) → Sends R held0 held gathered after result → Sends Q held0 held gathered after result
 sends_weaker weaker s = record { reply = s.reply; lawful = weaker s.reply s.lawful; sent = s.sent }
-
-pub not_thirteen : (n : ℕ) → (n ≡ 13 → ⊥) → (n == 13) ≡ false
-not_thirteen n other = elim (eqb_tells n 13) as (λ _. (n == 13) ≡ false) [ inl same ↦ absurd (other same.1) | inr apart ↦ apart.0 ]

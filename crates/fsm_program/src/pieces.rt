@@ -1,7 +1,8 @@
-ghost use Rattle.std.specs.Prelude.{List, ℕ};
+ghost use Rattle.std.specs.Prelude.{◌≡◌, List, ℕ};
 ghost use Rattle.std.specs.List.{flat_map};
 ghost use Rattle.fsm_io.specs.Causes.{HasCause};
 ghost use Rattle.fsm_io.specs.Sinks.{Gathers};
+ghost use Rattle.fsm_meaning.specs.Replies.{without_last};
 
 use fsm_io::{Failed, Outbox, Sink};
 
@@ -22,4 +23,14 @@ pub fn put_all<O: Sink>(
         }
     }
     Ok(())
+}
+
+/// The bytes without this byte at their end.
+pub fn without_last(end: u8, bytes: &[u8]) -> &[u8]
+    ensures { result.now ≡ without_last end bytes.now }
+{
+    let Some((last, front)) = bytes.split_last() else {
+        return bytes;
+    };
+    if *last == end { front } else { bytes }
 }

@@ -4,27 +4,17 @@ ghost use Rattle.fsm_base.specs.Cut.{cut};
 ghost use Rattle.fsm_io.specs.Causes.{HasCause};
 ghost use Rattle.fsm_io.specs.Sinks.{Gathers};
 ghost use Rattle.fsm_meaning.specs.Projects.{Project};
-ghost use Rattle.fsm_meaning.specs.Replies.{IsWord, Replies, RepliesToWord, headed, up, without_return};
+ghost use Rattle.fsm_meaning.specs.Replies.{IsWord, Replies, RepliesToWord, headed, up};
 ghost use Rattle.fsm_program.specs.Networks.{Shows};
 ghost use Rattle.fsm_program.specs.Sending.{Sends};
 ghost use Rattle.fsm_words.specs.Words.{IsOver};
 
 use crate::network::Network;
-use crate::pieces::put_all;
+use crate::pieces::{put_all, without_last};
 use fsm_base::{Sym, TokensError};
 use fsm_io::{Failed, Outbox, Sink};
 use itoa::Buffer;
 use std::alloc::Global;
-
-/// The line without a carriage return at its end.
-fn without_return(line: &[u8]) -> &[u8]
-    ensures { result.now ≡ without_return line.now }
-{
-    let Some((last, front)) = line.split_last() else {
-        return line;
-    };
-    if *last == b'\r' { front } else { line }
-}
 
 /// Whether all bytes of the line are printable ASCII.
 fn is_word(line: &[u8]) -> bool
@@ -130,7 +120,7 @@ pub fn reply<O: Sink>(
         → Sends (Replies project up 1 net.now (Some line.now)) (O.held output.old) (O.held output.new) outbox.old outbox.new result }
     ensures cause { HasCause (O.faults output.old) (O.faults output.new) result }
 {
-    match word_of(without_return(line)) {
+    match word_of(without_last(b'\r', line)) {
         None => put_all(outbox, output, &[b"1 line\n".as_slice()]),
         Some(word) => {
             if network.has_name(net) {
