@@ -1,4 +1,5 @@
 pub mod Lawful
+pub mod Manifests
 pub mod NetworkLemmas
 pub mod ReplyBytes
 pub mod Runs

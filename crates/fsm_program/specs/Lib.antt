@@ -2,3 +2,4 @@ pub mod Sides
 pub mod Networks
 pub mod Sending
 pub mod Running
+pub mod Files

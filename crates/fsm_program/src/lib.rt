@@ -1,7 +1,9 @@
 //! The program.
 #![tactic(auto)]
 
+mod load;
 mod look_up;
+mod manifest;
 mod network;
 mod pieces;
 mod reply;
