@@ -1,5 +1,7 @@
 -- The one line of a manifest and the name in it.
-use Rattle.std.proofs.Common.{◌≡◌, ◌≢◌, ◌⊎◌, ℕ, ◌+◌, ◌<◌, ◌≤◌, List, [], ◌∷◌, ◌++◌, length, take, drop, refl, sym, ap, subst, ◌∙◌, inl, inr, arith, codes, All, append_assoc}
+use Rattle.std.proofs.Common.{◌≡◌, ◌≢◌, ◌⊎◌, ℕ, ◌+◌, ◌<◌, ◌≤◌, List, [], ◌∷◌, ◌++◌, length, take, drop, refl, sym, ap, subst, ◌∙◌, inl, inr, arith, codes, All, append_assoc, length-append}
+use Rattle.std.specs.Str.{IsUtf8}
+use Rattle.fsm_program.proofs.Reading.{ascii_text}
 use Rattle.std.proofs.lemmas.List.Elements.{All-nil, All-cons, All-append, All-weaker}
 use Rattle.fsm_meaning.specs.Replies.{without_last}
 use Rattle.fsm_program.specs.Files.{IsFileByte, IsFileName, IsManifest}
@@ -39,3 +41,16 @@ manifest_named manifest line name dropped is named = record {
 -- a manifest names one file
 pub one_name : (manifest name other : List ℕ) → IsManifest manifest name → IsManifest manifest other → name ≡ other
 one_name manifest name other a b = ap (drop 5) (sym (line_of_manifest manifest name a) ∙ line_of_manifest manifest other b)
+
+file_byte_ascii : (b : ℕ) → IsFileByte b → b < 128
+file_byte_ascii b h = elim h [ inl x ↦ omega (arith, x.1) | inr x ↦ elim x [ inl y ↦ omega (arith, y.1) | inr y ↦ elim y [ inl z ↦ omega (arith, z.1) | inr z ↦ elim z [ inl w ↦ omega (arith, w) | inr w ↦ elim w [ inl v ↦ omega (arith, v) | inr v ↦ omega (arith, v) ] ] ] ] ]
+
+-- a file's name is text
+pub name_text : (name : List ℕ) → IsFileName name → IsUtf8 name
+name_text name named = ascii_text name (All-weaker IsFileByte (λ b. b < 128) file_byte_ascii name named.bytes)
+
+pub length-manifest : (manifest name : List ℕ) → IsManifest manifest name → length manifest ≤ 70
+length-manifest manifest name m = elim m.line as (λ _. length manifest ≤ 70) [
+  inl is ↦ omega (arith, ap length is, length-append (codes "xfst ") name, m.name_is.short)
+  | inr is ↦ omega (arith, ap length is, length-append (codes "xfst " ++ name) (10 ∷ []), length-append (codes "xfst ") name, m.name_is.short)
+]

@@ -8,9 +8,10 @@ use Rattle.std.proofs.lemmas.Bool.{cases_lt}
 use Rattle.std.proofs.lemmas.List.{get_or_past}
 use Rattle.std.specs.Fmt.{decimal}
 use Rattle.std.specs.Str.{IsUtf8, IsAscii}
-use Rattle.fsm_io.specs.Sinks.{Gathers}
+use Rattle.fsm_io.specs.Sinks.{Gathers, WritesAll}
 use Rattle.fsm_meaning.specs.Answers.{strings}
 use Rattle.fsm_meaning.specs.Replies.{IsWord, IsPrintable, headed, line_of, answer_bytes, without_last}
+use Rattle.fsm_program.specs.Ends.{refusal_line}
 use Rattle.fsm_program.specs.Sending.{Sends}
 
 zero_digit : decimal 0 ≡ 48 ∷ []
@@ -44,6 +45,15 @@ bytes_symbol digits word =
 -- no such name
 pub bytes_net : (net : List ℕ) → 49 ∷ 32 ∷ 110 ∷ 101 ∷ 116 ∷ 32 ∷ (net ++ 10 ∷ []) ≡ headed 1 (codes "net " ++ net)
 bytes_net net = headed_one (codes "net " ++ net)
+
+-- the line of a refusal
+pub bytes_refusal : (file : List ℕ) (line : ℕ) (why : List ℕ) → 114 ∷ 101 ∷ 102 ∷ 117 ∷ 115 ∷ 101 ∷ 100 ∷ 32 ∷ (file ++ 32 ∷ (decimal line ++ 32 ∷ (why ++ 10 ∷ []))) ≡ refusal_line file line why
+bytes_refusal file line why =
+    ap (λ (z : List ℕ). 114 ∷ 101 ∷ 102 ∷ 117 ∷ 115 ∷ 101 ∷ 100 ∷ 32 ∷ z)
+      (sym (append_assoc file (32 ∷ decimal line) ((32 ∷ why) ++ 10 ∷ [])) ∙ sym (append_assoc (file ++ 32 ∷ decimal line) (32 ∷ why) (10 ∷ [])))
+
+pub written_as : {T E : Type 0} {held0 held : Option (List ℕ)} {result : Result T E} (bytes text : List ℕ) → bytes ≡ text → WritesAll held0 held bytes result → WritesAll held0 held text result
+written_as {T} {E} {held0} {held} {result} bytes text is written = subst (λ (z : List ℕ). WritesAll held0 held z result) is written
 
 -- the bytes are those of the reply, which is lawful
 pub sends_as : {T E : Type 0} {R : List ℕ → Type 0} {held0 held : Option (List ℕ)} {gathered after : List ℕ} {result : Result T E} (bytes reply : List ℕ) → R reply → bytes ≡ reply → Gathers held0 held gathered bytes after result → Sends R held0 held gathered after result

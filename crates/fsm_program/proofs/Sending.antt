@@ -4,7 +4,7 @@ use Rattle.std.specs.List.{flat_map}
 use Rattle.std.proofs.lemmas.Grind.{flat_map-append}
 use Rattle.std.proofs.lemmas.List.{take_more, take-append-drop}
 use Rattle.std.specs.Io.KnownBytes.{Appends}
-use Rattle.fsm_io.specs.Sinks.{Gathers}
+use Rattle.fsm_io.specs.Sinks.{Gathers, WritesAll}
 use Rattle.fsm_io.proofs.Known.{appends_none, appends_more}
 
 -- nothing was gathered
@@ -62,3 +62,27 @@ pub pieces_failed : {X T E : Type 0} (f : X → List ℕ) (xs : List X) (i : ℕ
 pieces_failed {X} {T} {E} f xs i d held0 held gathered0 gathered e below sent =
     subst (λ (bytes : List ℕ). Gathers {T = T} {E = E} held0 held gathered0 bytes gathered (Err e)) (sym (flat_map-parted f xs i d below))
       (gathers_failed held0 held gathered0 gathered (flat_map f (take i xs) ++ f (get_or xs i d)) (flat_map f (drop (i + 1) xs)) e sent)
+
+-- what was put where nothing was gathered, and then written, was written whole
+pub written_whole : {T U E : Type 0} (held0 held1 held2 : Option (List ℕ)) (gathered0 gathered1 gathered2 bytes : List ℕ) (r : T) (s : Result U E) → gathered0 ≡ [] → Gathers {T = T} {E = E} held0 held1 gathered0 bytes gathered1 (Ok r) → gathered2 ≡ [] → Gathers held1 held2 gathered1 [] gathered2 s → WritesAll held0 held2 bytes s
+written_whole {U = U} {E = E} held0 held1 held2 gathered0 gathered1 gathered2 bytes r s empty a after b = record {
+  front = a.front ++ b.front;
+  rest = b.rest;
+  whole =
+      sym (ap (λ (z : List ℕ). z ++ bytes) empty) ∙ a.whole ∙ ap (λ (z : List ℕ). a.front ++ z) (sym a.kept ∙ sym (append-nil gathered1) ∙ b.whole) ∙ sym (append_assoc a.front b.front b.rest);
+  appended = appends_more held0 held1 held2 a.front b.front a.appended b.appended;
+  all = rest_none s b.kept;
+}
+  where
+    rest_none : (s : Result U E) → OnOk s (gathered2 ≡ b.rest) → OnOk s (b.rest ≡ [])
+    rest_none (Ok u) k = sym k ∙ after
+    rest_none (Err e) k = tt
+
+pub written_part : {T U E : Type 0} (held0 held1 : Option (List ℕ)) (gathered0 gathered1 bytes : List ℕ) (e : E) → gathered0 ≡ [] → Gathers {T = T} {E = E} held0 held1 gathered0 bytes gathered1 (Err e) → WritesAll {T = U} {E = E} held0 held1 bytes (Err e)
+written_part held0 held1 gathered0 gathered1 bytes e empty a = record {
+  front = a.front;
+  rest = a.rest;
+  whole = sym (ap (λ (z : List ℕ). z ++ bytes) empty) ∙ a.whole;
+  appended = a.appended;
+  all = tt;
+}

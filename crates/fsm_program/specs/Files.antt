@@ -72,3 +72,9 @@ IsLoaded network files = (project : Project) × Told files (λ files. Reads file
 abbrev pub IsRead : List ℕ → Option NetworkView → Type 0
 IsRead bytes (Some network) = (s : Statement) × ReadsAs bytes s × Shows network (project_from s)
 IsRead bytes None = (s : Statement) → ReadsAs bytes s → ⊥
+
+-- refused for this fault, or want of memory
+abbrev pub IsRefusal : LoadError → Fault → Type 0
+IsRefusal Failed fault = ⊥
+IsRefusal (Memory refused) fault = Unit {0}
+IsRefusal (Refused found) fault = found ≡ fault

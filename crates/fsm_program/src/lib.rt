@@ -1,4 +1,10 @@
-//! The program.
+//! The program as one call over a folder, an input and an output.
+//!
+//! - [`run`]: answers the words of a command line, with its status.
+//!
+//! Inside, `words` reads the words, `load` the project of the folder (`manifest`, then `network`, which
+//! compiles the definition by the walk of `sides`), and `look_up` answers the lines of the input, each by
+//! the reply that `reply` gathers.
 #![tactic(auto)]
 
 mod load;
@@ -6,5 +12,9 @@ mod look_up;
 mod manifest;
 mod network;
 mod pieces;
+mod program;
 mod reply;
 mod sides;
+mod words;
+
+pub use program::run;

@@ -48,7 +48,7 @@ fn is_file_name(name: &[u8]) -> bool
 }
 
 /// The name of the file in a manifest of the one line `xfst FILE`, or `None` where it is no such line.
-pub fn file_named(manifest: &[u8]) -> Option<&[u8]>
+pub fn file_named(manifest: &[u8]) -> Option<&str>
     ensures named { IfSome result (λ name. IsManifest manifest.now name.now) }
     ensures none { IfNone result ((name : List ℕ) → IsManifest manifest.now name → ⊥) }
 {
@@ -56,5 +56,11 @@ pub fn file_named(manifest: &[u8]) -> Option<&[u8]>
     let Some(name) = line.strip_prefix(b"xfst ".as_slice()) else {
         return None;
     };
-    if is_file_name(name) { Some(name) } else { None }
+    if !is_file_name(name) {
+        return None;
+    }
+    match std::str::from_utf8(name) {
+        Ok(name) => Some(name),
+        Err(_) => None,
+    }
 }

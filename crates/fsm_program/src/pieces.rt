@@ -1,7 +1,7 @@
-ghost use Rattle.std.specs.Prelude.{◌≡◌, List, ℕ};
+ghost use Rattle.std.specs.Prelude.{◌≡◌, [], List, ℕ};
 ghost use Rattle.std.specs.List.{flat_map};
 ghost use Rattle.fsm_io.specs.Causes.{HasCause};
-ghost use Rattle.fsm_io.specs.Sinks.{Gathers};
+ghost use Rattle.fsm_io.specs.Sinks.{Gathers, WritesAll};
 ghost use Rattle.fsm_meaning.specs.Replies.{without_last};
 
 use fsm_io::{Failed, Outbox, Sink};
@@ -23,6 +23,22 @@ pub fn put_all<O: Sink>(
         }
     }
     Ok(())
+}
+
+/// Writes the pieces, one after another, where nothing is gathered.
+pub fn write_pieces<O: Sink>(
+    outbox: &mut Outbox,
+    output: &mut O,
+    pieces: &[&[u8]],
+) -> Result<(), Failed>
+    requires { outbox.old ≡ [] }
+    ensures bytes { WritesAll (O.held output.old) (O.held output.new) (flat_map (λ piece. piece.now) pieces.now) result }
+    ensures cause { HasCause (O.faults output.old) (O.faults output.new) result }
+{
+    match put_all(outbox, output, pieces) {
+        Ok(()) => outbox.flush(output),
+        Err(Failed) => Err(Failed),
+    }
 }
 
 /// The bytes without this byte at their end.
