@@ -220,6 +220,16 @@ pub fn run<F: Folder, I: Source, O: Sink>(
     output: &mut O,
 ) -> u8
     ensures ends { Ends (net_of (map string_bytes words.now)) (F.files folder.old) (F.faults folder.old) (F.faults folder.new) (I.left input.old) (I.left input.new) (O.held output.old) (O.held output.new) result }
+    ensures usage { result ≡ 1 → net_of (map string_bytes words.now) ≡ None }
+    ensures no_words { net_of (map string_bytes words.now) ≡ None → IsSaid (O.held output.old) (O.held output.new) usage_text 1 result }
+    ensures fault { result ≡ 2 → (fault : Fault) × Told (F.files folder.old) (λ files. Reads files (Err fault)) }
+    ensures refused { (net : List ℕ) (fault : Fault) → net_of (map string_bytes words.now) ≡ Some net → IsTold (F.files folder.old) (λ files. Reads files (Err fault)) → ¬ (Rose (F.faults folder.old) (F.faults folder.new))
+        → IsSaid (O.held output.old) (O.held output.new) (refusal_text fault) 2 result ⊎ (result ≡ 5) }
+    ensures answered { (net : List ℕ) (project : Project) → net_of (map string_bytes words.now) ≡ Some net → IsTold (F.files folder.old) (λ files. Reads files (Ok project)) → ¬ (Rose (F.faults folder.old) (F.faults folder.new))
+        → IsAnswered (Replies project up 1 net) (I.left input.old) (I.left input.new) (O.held output.old) (O.held output.new) result ⊎ (result ≡ 5) }
+    ensures complete { (net : List ℕ) (project : Project) → net_of (map string_bytes words.now) ≡ Some net → IsTold (F.files folder.old) (λ files. Reads files (Ok project)) → ¬ (Rose (F.faults folder.old) (F.faults folder.new))
+        → ¬ (Rose (I.faults input.old) (I.faults input.new)) → ¬ (Rose (O.faults output.old) (O.faults output.new)) → result ≢ 6 → (result ≡ 0) ⊎ (result ≡ 5) }
+    ensures spent { result ≡ 6 → (taken : List ℕ) × Consumes (I.left input.old) (I.left input.new) taken × (length taken ≡ most_taken) }
     ensures unread { (result ≡ 1) ⊎ (result ≡ 2) ⊎ (result ≡ 5) → input.new ≡ input.old }
     ensures unwritten { result ≡ 5 → output.new ≡ output.old }
     ensures read { result ≡ 3 → Rose (F.faults folder.old) (F.faults folder.new) ⊎ Rose (I.faults input.old) (I.faults input.new) }
