@@ -87,7 +87,7 @@ module _ {net : Option (List ℕ)} {files : Option Files} {faults0 faults : ℕ}
   answer (no_memory name' is l h s) name project e told whole = inr s
   answer (answered name' project' is told' answers) name project e told whole =
       inl (subst (λ (p : Project). IsAnswered (Replies p up 1 name) left0 left held0 held status) (sym (same_project project project' (one_told files (Ok project) (Ok project') told told')))
-        (subst (λ (n : List ℕ). IsAnswered (Replies project' up 1 n) left0 left held0 held status) (same_name net name' name is e) answers))
+      (subst (λ (n : List ℕ). IsAnswered (Replies project' up 1 n) left0 left held0 held status) (same_name net name' name is e) answers))
 
   -- with no failure and bytes left to take, the lines were answered or there was no memory
   pub completes : {I O : Type 0} → Ends net files faults0 faults left0 left held0 held status → (status ≡ 3 → Rose faults0 faults ⊎ I) → (status ≡ 4 → O) → (name : List ℕ) (project : Project) → net ≡ Some name

@@ -18,10 +18,10 @@ text_placed : (alphabet : List (Sym × List ℕ)) (s : Sym) → Contains (symbol
 text_placed [] s among = absurd (Contains-nil_cases s among)
 text_placed (entry ∷ alphabet) s among =
     elim (cases_bool (s.0 == entry.0.0)) as (λ _. (k : ℕ) × (slice_get (symbols_of (entry ∷ alphabet)) k ≡ Some s) × (slice_get (texts_of (entry ∷ alphabet)) k ≡ Some (text_of (entry ∷ alphabet) s))) [
-      inl same ↦ (0, ap (λ (z : Sym). Some z) (sym (same_sym s entry.0 same)), ap (λ (z : List ℕ). Some z) (sym (ap (λ (b : Bool). cond b entry.1 (text_of alphabet s)) same)))
+      | inl same ↦ (0, ap (λ (z : Sym). Some z) (sym (same_sym s entry.0 same)), ap (λ (z : List ℕ). Some z) (sym (ap (λ (b : Bool). cond b entry.1 (text_of alphabet s)) same)))
       | inr other ↦
-        let behind = text_placed alphabet s (rest other) in
-        (suc behind.0, behind.1, behind.2 ∙ ap (λ (z : List ℕ). Some z) (sym (ap (λ (b : Bool). cond b entry.1 (text_of alphabet s)) other)))
+          let behind = text_placed alphabet s (rest other) in
+          (suc behind.0, behind.1, behind.2 ∙ ap (λ (z : List ℕ). Some z) (sym (ap (λ (b : Bool). cond b entry.1 (text_of alphabet s)) other)))
     ]
   where
     same_sym : (a b : Sym) → (a.0 == b.0) ≡ true → a ≡ b
@@ -33,7 +33,7 @@ text_placed (entry ∷ alphabet) s among =
     rest : (s.0 == entry.0.0) ≡ false → Contains (symbols_of alphabet) s
     rest other =
         elim (Contains-cons_cases entry.0 (symbols_of alphabet) s among) as (λ _. Contains (symbols_of alphabet) s) [
-          inl is ↦ absurd (apart (ap (λ (z : Sym). z.0) is) other)
+          | inl is ↦ absurd (apart (ap (λ (z : Sym). z.0) is) other)
           | inr behind ↦ behind
         ]
       where
@@ -84,7 +84,7 @@ module _ (network : NetworkView) (project : Project) (shown : Shows network proj
       back : (text : List ℕ) → Contains (upper ∷ []) text → Texts (λ u. Meaning project network.name u (spelled network.alphabet symbols)) text
       back text among =
           elim (Contains-cons_cases upper [] text among) as (λ _. Texts (λ u. Meaning project network.name u (spelled network.alphabet symbols)) text) [
-            inl here ↦ (shown.word, (shown.relates shown.word (spelled network.alphabet symbols)).1 (refl, ap (λ (z : List Sym). spelled network.alphabet z) is), sym here ∙ upper_is ∙ shown.upper)
+            | inl here ↦ (shown.word, (shown.relates shown.word (spelled network.alphabet symbols)).1 (refl, ap (λ (z : List Sym). spelled network.alphabet z) is), sym here ∙ upper_is ∙ shown.upper)
             | inr none ↦ absurd (Contains-nil_cases text none)
           ]
 

@@ -47,21 +47,21 @@ module _ (most : ℕ) (big : 4096 < most) where
 
     pub reads_no_manifest : (bytes : Vec ℕ Global) → Told files (Finds project_name most (Bytes bytes)) → ((name : List ℕ) → IsManifest bytes.items name → ⊥) → Told files (λ fs. Reads fs (Err (fault project_name 0 NotBuilt)))
     reads_no_manifest bytes h none = told_so (Finds project_name most (Bytes bytes)) (λ fs. Reads fs (Err (fault project_name 0 NotBuilt))) files
-      (λ fs found. no_manifest found.0 found.1 (λ name m. none name (manifest_to_cut found.0 bytes.items name found.2 m))) h
+        (λ fs found. no_manifest found.0 found.1 (λ name m. none name (manifest_to_cut found.0 bytes.items name found.2 m))) h
 
     pub reads_no_file : (bytes : Vec ℕ Global) (name : List ℕ) → Told files (Finds project_name most (Bytes bytes)) → IsManifest bytes.items name → Told files (Finds name most Missing) → Told files (λ fs. Reads fs (Err (fault project_name 1 NoFile)))
     reads_no_file bytes name h m k = told_both (Finds project_name most (Bytes bytes)) (Finds name most Missing) (λ fs. Reads fs (Err (fault project_name 1 NoFile))) files
-      (λ fs found missing. no_file found.0 name found.1 (manifest_from_cut found.0 bytes.items name found.2 m) missing) h k
+        (λ fs found missing. no_file found.0 name found.1 (manifest_from_cut found.0 bytes.items name found.2 m) missing) h k
 
     pub reads_no_statement : (bytes text : Vec ℕ Global) (name : List ℕ) → Told files (Finds project_name most (Bytes bytes)) → IsManifest bytes.items name → Told files (Finds name most (Bytes text)) → ((s : Statement) → ReadsAs text.items s → ⊥)
         → Told files (λ fs. Reads fs (Err (fault name 0 NotBuilt)))
     reads_no_statement bytes text name h m k none = told_both (Finds project_name most (Bytes bytes)) (Finds name most (Bytes text)) (λ fs. Reads fs (Err (fault name 0 NotBuilt))) files
-      (λ fs found other. no_statement found.0 name other.0 found.1 (manifest_from_cut found.0 bytes.items name found.2 m) other.1 (λ s r. none s (statement_to_cut other.0 text.items s other.2 r))) h k
+        (λ fs found other. no_statement found.0 name other.0 found.1 (manifest_from_cut found.0 bytes.items name found.2 m) other.1 (λ s r. none s (statement_to_cut other.0 text.items s other.2 r))) h k
 
     pub reads_whole : (bytes text : Vec ℕ Global) (name : List ℕ) (s : Statement) → Told files (Finds project_name most (Bytes bytes)) → IsManifest bytes.items name → Told files (Finds name most (Bytes text)) → ReadsAs text.items s
         → Told files (λ fs. Reads fs (Ok (project_from s)))
     reads_whole bytes text name s h m k r = told_both (Finds project_name most (Bytes bytes)) (Finds name most (Bytes text)) (λ fs. Reads fs (Ok (project_from s))) files
-      (λ fs found other. whole found.0 name other.0 s found.1 (manifest_from_cut found.0 bytes.items name found.2 m) other.1 (statement_from_cut other.0 text.items s other.2 r)) h k
+        (λ fs found other. whole found.0 name other.0 s found.1 (manifest_from_cut found.0 bytes.items name found.2 m) other.1 (statement_from_cut other.0 text.items s other.2 r)) h k
 
     -- the manifest that was read is a front of the folder's
     pub manifest_told : (bytes : Vec ℕ Global) → Told files (Finds project_name most (Bytes bytes)) → Told files (λ fs. (content : List ℕ) × (file_of project_name fs ≡ Some content) × (bytes.items ≡ take most content))
@@ -131,7 +131,7 @@ most_read_big most is = subst (λ n. 4096 < n) (sym is) (lit< tt)
 pub asks_both : {S : Type 0} (R : S → List ℕ → ℕ → S → Type 0) (files : Option Files) (old between new : S) (most : ℕ) (manifest : Vec ℕ Global) (name : List ℕ) → most ≡ most_read → R old project_name most between → Told files (Finds project_name most (Bytes manifest)) → IsManifest manifest.items name → R between name most new → Asks R files old new
 asks_both {S} R files old between new most manifest name is first told named second =
     for_both between manifest.items name
-      (subst (λ n. R old project_name n between) is first)
-      (told_so (Finds project_name most (Bytes manifest)) (λ fs. (content : List ℕ) × (file_of project_name fs ≡ Some content) × (manifest.items ≡ take most_read content)) files
-        (λ fs found. (found.0, found.1, found.2 ∙ ap (λ n. take n found.0) is)) told)
-      named (subst (λ n. R between name n new) is second)
+    (subst (λ n. R old project_name n between) is first)
+    (told_so (Finds project_name most (Bytes manifest)) (λ fs. (content : List ℕ) × (file_of project_name fs ≡ Some content) × (manifest.items ≡ take most_read content)) files
+    (λ fs found. (found.0, found.1, found.2 ∙ ap (λ n. take n found.0) is)) told)
+    named (subst (λ n. R between name n new) is second)

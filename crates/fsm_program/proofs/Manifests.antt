@@ -22,9 +22,9 @@ keyword_other =
 -- the line of a manifest, without its newline
 pub line_of_manifest : (manifest name : List ℕ) → IsManifest manifest name → without_last 10 manifest ≡ codes "xfst " ++ name
 line_of_manifest manifest name m = elim m.line as (λ _. without_last 10 manifest ≡ codes "xfst " ++ name) [
-  inl is ↦
-    let others : All (λ b. b ≢ 10) (codes "xfst " ++ name) = All-append (λ b. b ≢ 10) (codes "xfst ") name keyword_other (All-weaker IsFileByte (λ b. b ≢ 10) file_byte_other name m.name_is.bytes) in
-    ap (without_last 10) is ∙ none_dropped 10 (codes "xfst " ++ name) others
+  | inl is ↦
+      let others : All (λ b. b ≢ 10) (codes "xfst " ++ name) = All-append (λ b. b ≢ 10) (codes "xfst ") name keyword_other (All-weaker IsFileByte (λ b. b ≢ 10) file_byte_other name m.name_is.bytes) in
+      ap (without_last 10) is ∙ none_dropped 10 (codes "xfst " ++ name) others
   | inr is ↦ ap (without_last 10) is ∙ last_dropped 10 (codes "xfst " ++ name)
 ]
 
@@ -33,7 +33,7 @@ pub manifest_named : (manifest line name : List ℕ) → line ≡ without_last 1
 manifest_named manifest line name dropped is named = record {
   name_is = named;
   line = elim (dropped_cases 10 manifest) as (λ _. (manifest ≡ codes "xfst " ++ name) ⊎ (manifest ≡ (codes "xfst " ++ name) ++ 10 ∷ [])) [
-    inl e ↦ inl (e ∙ sym dropped ∙ is)
+    | inl e ↦ inl (e ∙ sym dropped ∙ is)
     | inr e ↦ inr (e ∙ ap (λ (z : List ℕ). z ++ 10 ∷ []) (sym dropped ∙ is))
   ];
 }
@@ -51,6 +51,6 @@ name_text name named = ascii_text name (All-weaker IsFileByte (λ b. b < 128) fi
 
 pub length-manifest : (manifest name : List ℕ) → IsManifest manifest name → length manifest ≤ 70
 length-manifest manifest name m = elim m.line as (λ _. length manifest ≤ 70) [
-  inl is ↦ omega (arith, ap length is, length-append (codes "xfst ") name, m.name_is.short)
+  | inl is ↦ omega (arith, ap length is, length-append (codes "xfst ") name, m.name_is.short)
   | inr is ↦ omega (arith, ap length is, length-append (codes "xfst " ++ name) (10 ∷ []), length-append (codes "xfst ") name, m.name_is.short)
 ]

@@ -31,7 +31,7 @@ below_at : (n k : ℕ) (x : Sym) → slice_get (symbols_below n) k ≡ Some x �
 below_at zero k x at = cc
 below_at (suc n) k x at =
     elim (slice_get-append_cases (symbols_below n) (record { 0 = n } ∷ []) k x at) as (λ _. x.0 ≡ k) [
-      inl front ↦ below_at n k x front
+      | inl front ↦ below_at n k x front
       | inr last ↦ last_at last.0 last.1 last.2
     ]
   where
@@ -46,17 +46,17 @@ pub below_held : (n : ℕ) → All (λ (s : Sym). s.0 < n) (symbols_below n)
 below_held zero = All-nil (λ (s : Sym). s.0 < 0)
 below_held (suc n) =
     All-append (λ (s : Sym). s.0 < suc n) (symbols_below n) (record { 0 = n } ∷ [])
-      (All-weaker (λ (s : Sym). s.0 < n) (λ (s : Sym). s.0 < suc n) (λ s below. omega arith) (symbols_below n) (below_held n))
-      (All-cons (λ (s : Sym). s.0 < suc n) (record { 0 = n }) [] (omega arith) (All-nil (λ (s : Sym). s.0 < suc n)))
+    (All-weaker (λ (s : Sym). s.0 < n) (λ (s : Sym). s.0 < suc n) (λ s below. omega arith) (symbols_below n) (below_held n))
+    (All-cons (λ (s : Sym). s.0 < suc n) (record { 0 = n }) [] (omega arith) (All-nil (λ (s : Sym). s.0 < suc n)))
 
 below_has : (n : ℕ) (s : Sym) → s.0 < n → Contains (symbols_below n) s
 below_has zero s below = absurd (omega arith)
 below_has (suc n) s below =
     elim (cases_lt s.0 n) as (λ _. Contains (symbols_below (suc n)) s) [
-      inl less ↦ Contains-append_left (symbols_below n) (record { 0 = n } ∷ []) s (below_has n s less)
+      | inl less ↦ Contains-append_left (symbols_below n) (record { 0 = n } ∷ []) s (below_has n s less)
       | inr same ↦
-        let is : n ≡ s.0 = omega arith in
-        Contains-append_right (symbols_below n) (record { 0 = n } ∷ []) s
+          let is : n ≡ s.0 = omega arith in
+          Contains-append_right (symbols_below n) (record { 0 = n } ∷ []) s
           (subst (λ (k : ℕ). Contains (record { 0 = k } ∷ []) s) (sym is) (Contains-head s []))
     ]
 
@@ -87,17 +87,17 @@ text_of-listed : (table : List (List ℕ)) (symbols : List Sym) (s : Sym) → Co
 text_of-listed table [] s among = absurd (Contains-nil_cases s among)
 text_of-listed table (t ∷ symbols) s among =
     elim (cases_bool (s.0 == t.0)) as (λ _. text_of (listed table (t ∷ symbols)) s ≡ slice_index_or table s.0 []) [
-      inl same ↦
-        let is : s.0 ≡ t.0 = grind (arith, nat_tests) in
-        ap (λ (b : Bool). cond b (slice_index_or table t.0 []) (text_of (listed table symbols) s)) same ∙ ap (λ (k : ℕ). slice_index_or table k []) (sym is)
+      | inl same ↦
+          let is : s.0 ≡ t.0 = grind (arith, nat_tests) in
+          ap (λ (b : Bool). cond b (slice_index_or table t.0 []) (text_of (listed table symbols) s)) same ∙ ap (λ (k : ℕ). slice_index_or table k []) (sym is)
       | inr other ↦
-        ap (λ (b : Bool). cond b (slice_index_or table t.0 []) (text_of (listed table symbols) s)) other ∙ text_of-listed table symbols s (behind other)
+          ap (λ (b : Bool). cond b (slice_index_or table t.0 []) (text_of (listed table symbols) s)) other ∙ text_of-listed table symbols s (behind other)
     ]
   where
     behind : (s.0 == t.0) ≡ false → Contains symbols s
     behind other =
         elim (Contains-cons_cases t symbols s among) as (λ _. Contains symbols s) [
-          inl is ↦ let no_way : ⊥ = absurd_same (ap (λ (z : Sym). z.0) is) other in absurd no_way
+          | inl is ↦ let no_way : ⊥ = absurd_same (ap (λ (z : Sym). z.0) is) other in absurd no_way
           | inr rest ↦ rest
         ]
       where
@@ -119,7 +119,7 @@ pub Spells-spelled : (table : List (List ℕ)) (symbols : List Sym) (word : List
 Spells-spelled table [] [] s = refl
 Spells-spelled table (x ∷ symbols) (text ∷ word) s =
     let here : text_of (listed table (symbols_below (length table))) x ≡ text =
-      text_of-listed table (symbols_below (length table)) x (below_has (length table) x (slice_get_within table x.0 text s.0)) ∙ get_or_from_slice_get table x.0 text [] s.0 in
+    text_of-listed table (symbols_below (length table)) x (below_has (length table) x (slice_get_within table x.0 text s.0)) ∙ get_or_from_slice_get table x.0 text [] s.0 in
     let rest = Spells-spelled table symbols word s.1 in
     ap (λ (z : List ℕ). z ∷ spelled (listed table (symbols_below (length table))) symbols) here ∙ ap (λ (z : List (List ℕ)). text ∷ z) rest
 Spells-spelled table [] (text ∷ word) s = absurd s
@@ -139,13 +139,16 @@ one_meaning d plain u w = (there, back)
     there : Meaning (project_of d) d.name u w → (u ≡ upper_word symbol_of d.term) × (w ≡ lower_word symbol_of d.term)
     there m =
         plain_only symbol_of (alphabet_of d.term) d.term u w plain
-          (subst (λ (e : Definition). Relates symbol_of (alphabet_of d.term) e.term u w) (sym (one_only d m.0 m.1)) m.3)
+        (subst (λ (e : Definition). Relates symbol_of (alphabet_of d.term) e.term u w) (sym (one_only d m.0 m.1)) m.3)
 
     back : (u ≡ upper_word symbol_of d.term) × (w ≡ lower_word symbol_of d.term) → Meaning (project_of d) d.name u w
-    back h =
-        (d, Contains-head d [], refl,
-          subst (λ (z : List (List ℕ)). Relates symbol_of (alphabet_of d.term) d.term z w) (sym h.0)
-            (subst (λ (z : List (List ℕ)). Relates symbol_of (alphabet_of d.term) d.term (upper_word symbol_of d.term) z) (sym h.1) (plain_has symbol_of (alphabet_of d.term) d.term plain)))
+    back h = (
+      d,
+      Contains-head d [],
+      refl,
+      subst (λ (z : List (List ℕ)). Relates symbol_of (alphabet_of d.term) d.term z w) (sym h.0)
+          (subst (λ (z : List (List ℕ)). Relates symbol_of (alphabet_of d.term) d.term (upper_word symbol_of d.term) z) (sym h.1) (plain_has symbol_of (alphabet_of d.term) d.term plain)),
+    )
 
 -- a network that is made so shows the definition's project
 pub shows : (d : Definition) (table : List (List ℕ)) (alphabet : List (Sym × List ℕ)) (upper lower : List Sym) (text name : List ℕ) → IsPlain d.term
@@ -165,7 +168,7 @@ shows d table alphabet upper lower text name plain added is formed text_is name_
       upper = text_is ∙ ap joined (ap (λ (z : List (Sym × List ℕ)). spelled z upper) is ∙ Spells-spelled table upper (upper_word symbol_of d.term) spells_up);
       over = subst (λ (z : List (Sym × List ℕ)). IsOver (symbols_of z) lower) (sym is) (Spells-over table lower (lower_word symbol_of d.term) spells_low);
       relates = λ u w.
-        subst (λ (z : List ℕ). Meaning (project_of d) z u w ↔ ((u ≡ upper_word symbol_of d.term) × (w ≡ spelled alphabet lower))) (sym name_is)
+          subst (λ (z : List ℕ). Meaning (project_of d) z u w ↔ ((u ≡ upper_word symbol_of d.term) × (w ≡ spelled alphabet lower))) (sym name_is)
           (subst (λ (z : List (List ℕ)). Meaning (project_of d) d.name u w ↔ ((u ≡ upper_word symbol_of d.term) × (w ≡ z))) (sym low_is) (one_meaning d plain u w));
     }
 
@@ -173,8 +176,8 @@ shows d table alphabet upper lower text name plain added is formed text_is name_
 pub added_first : {old new : List (List ℕ)} {up0 up low0 low : List Sym} {u l s : List (List ℕ)} → old ≡ [] → up0 ≡ [] → low0 ≡ [] → AddsPair old new up0 up low0 low u l s → AddsPair [] new [] up [] low u l s
 added_first {old} {new} {up0} {up} {low0} {low} {u} {l} {s} a b c added =
     subst (λ (z : List (List ℕ)). AddsPair z new [] up [] low u l s) a
-      (subst (λ (z : List Sym). AddsPair old new z up [] low u l s) b
-        (subst (λ (z : List Sym). AddsPair old new up0 up z low u l s) c added))
+    (subst (λ (z : List Sym). AddsPair old new z up [] low u l s) b
+    (subst (λ (z : List Sym). AddsPair old new up0 up z low u l s) c added))
 
 -- the symbols of the upper word are the alphabet's
 pub upper_over : {new : List (List ℕ)} {up low : List Sym} {u l s : List (List ℕ)} → AddsPair [] new [] up [] low u l s → IsOver (symbols_of (listed new (symbols_below (length new)))) up

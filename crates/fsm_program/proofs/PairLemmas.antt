@@ -99,9 +99,9 @@ pub pairs_more : {old mid new : List (List ℕ)} {up0 up1 up2 low0 low1 low2 : L
     → AddsPair old new up0 up2 low0 low2 (parts_upper symbol_of (terms_of (ts ++ t ∷ []))) (parts_lower symbol_of (terms_of (ts ++ t ∷ []))) (symbols_in_each (terms_of (ts ++ t ∷ [])))
 pairs_more {old} {mid} {new} {up0} {up1} {up2} {low0} {low1} {low2} ts t a b =
     subst (λ u. AddsPair old new up0 up2 low0 low2 u (parts_lower symbol_of (terms_of (ts ++ t ∷ []))) (symbols_in_each (terms_of (ts ++ t ∷ [])))) (sym (upper-more ts t))
-      (subst (λ l. AddsPair old new up0 up2 low0 low2 (parts_upper symbol_of (terms_of ts) ++ part_upper symbol_of t) l (symbols_in_each (terms_of (ts ++ t ∷ [])))) (sym (lower-more ts t))
-        (subst (λ s. AddsPair old new up0 up2 low0 low2 (parts_upper symbol_of (terms_of ts) ++ part_upper symbol_of t) (parts_lower symbol_of (terms_of ts) ++ part_lower symbol_of t) s) (sym (symbols-more ts t))
-          (pairs_both a b)))
+    (subst (λ l. AddsPair old new up0 up2 low0 low2 (parts_upper symbol_of (terms_of ts) ++ part_upper symbol_of t) l (symbols_in_each (terms_of (ts ++ t ∷ [])))) (sym (lower-more ts t))
+    (subst (λ s. AddsPair old new up0 up2 low0 low2 (parts_upper symbol_of (terms_of ts) ++ part_upper symbol_of t) (parts_lower symbol_of (terms_of ts) ++ part_lower symbol_of t) s) (sym (symbols-more ts t))
+    (pairs_both a b)))
 
 -- parts from one on have no more symbols than all
 pub symbols-within : (ts us : List (Term Raw)) → length (symbols_in_each (terms_of ts)) ≤ length (symbols_in_each (terms_of (ts ++ us)))
@@ -112,8 +112,8 @@ symbols-within (t ∷ ts) us =
 pub symbols-front : (i : ℕ) (parts : List (Expr Raw)) → length (symbols_in_each (terms_of (map term (take i parts)))) ≤ length (symbols_in_each (terms_of (map term parts)))
 symbols-front i parts =
     subst (λ all. length (symbols_in_each (terms_of (map term (take i parts)))) ≤ length (symbols_in_each (terms_of all)))
-      (sym (map-append term (take i parts) (drop i parts)) ∙ ap (map term) (take-append-drop i parts))
-      (symbols-within (map term (take i parts)) (map term (drop i parts)))
+    (sym (map-append term (take i parts) (drop i parts)) ∙ ap (map term) (take-append-drop i parts))
+    (symbols-within (map term (take i parts)) (map term (drop i parts)))
 
 -- what holds of two lists in a row holds of each
 pub All-append_left : {X : Type 0} (P : X → Type 0) (xs ys : List X) → All P (xs ++ ys) → All P xs
@@ -133,8 +133,8 @@ pub symbols_each : (es : List (Expr Raw)) → All IsSymbol (symbols_in_each (ter
 symbols_each [] h = All-nil (λ (e : Expr Raw). All IsSymbol (symbols_in (term e)))
 symbols_each (e ∷ es) h =
     All-cons (λ (e : Expr Raw). All IsSymbol (symbols_in (term e))) e es
-      (All-append_left IsSymbol (symbols_in (term e)) (symbols_in_each (terms_of (map term es))) h)
-      (symbols_each es (All-append_right IsSymbol (symbols_in (term e)) (symbols_in_each (terms_of (map term es))) h))
+    (All-append_left IsSymbol (symbols_in (term e)) (symbols_in_each (terms_of (map term es))) h)
+    (symbols_each es (All-append_right IsSymbol (symbols_in (term e)) (symbols_in_each (terms_of (map term es))) h))
 
 -- the expressions of a row, as a `Vec` holds them
 abbrev row_of : Expr Raw → (n : _) × Row_of-Expr Raw n

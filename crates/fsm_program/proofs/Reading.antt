@@ -129,9 +129,10 @@ statement_few text s r =
     let tokens = subst AreTokens r.told (placed_tokens r.placed r.tokens) in
     let few = few_parts (r.first ∷ r.more) (Semicolon ∷ []) tokens.1.1 in
     let whole = row_symbols r.first r.more ∙ ap symbols_in (sym r.means) in
-    let sizes : size (statement_tokens s.name (r.first ∷ r.more)) ≤ length (text_of r.placed) = subst (λ ts. size ts ≤ length (text_of r.placed)) r.told (size_within r.placed) in
-    (subst (λ (z : List (List ℕ)). All IsSymbol z) whole few.0,
-      omega (arith, ap length whole, few.1, sizes, ap length r.spelled, length-append r.front (text_of r.placed), r.short))
+    let sizes : size (statement_tokens s.name (r.first ∷ r.more)) ≤ length (text_of r.placed) = subst (λ ts. size ts ≤ length (text_of r.placed)) r.told (size_within r.placed) in (
+      subst (λ (z : List (List ℕ)). All IsSymbol z) whole few.0,
+      omega (arith, ap length whole, few.1, sizes, ap length r.spelled, length-append r.front (text_of r.placed), r.short),
+    )
 
 -- ---- the text is ASCII
 
@@ -163,7 +164,7 @@ placed_ascii : (ps : List Placed) → IsPlaced ps → Ascii (text_of ps)
 placed_ascii [] h = All-nil (λ b. b < 128)
 placed_ascii (p ∷ ps) h =
     All-append (λ b. b < 128) (spelling p.token) (p.blanks ++ text_of ps) (token_ascii p.token h.0)
-      (All-append (λ b. b < 128) p.blanks (text_of ps) (blanks_ascii p.blanks h.1) (placed_ascii ps h.3))
+    (All-append (λ b. b < 128) p.blanks (text_of ps) (blanks_ascii p.blanks h.1) (placed_ascii ps h.3))
 
 pub ascii_text : (bytes : List ℕ) → Ascii bytes → IsUtf8 bytes
 ascii_text bytes h = IsUtf8-from_ascii bytes (λ i. below i)

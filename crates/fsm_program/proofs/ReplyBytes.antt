@@ -50,7 +50,7 @@ bytes_net net = headed_one (codes "net " ++ net)
 pub bytes_refusal : (file : List ℕ) (line : ℕ) (why : List ℕ) → 114 ∷ 101 ∷ 102 ∷ 117 ∷ 115 ∷ 101 ∷ 100 ∷ 32 ∷ (file ++ 32 ∷ (decimal line ++ 32 ∷ (why ++ 10 ∷ []))) ≡ refusal_line file line why
 bytes_refusal file line why =
     ap (λ (z : List ℕ). 114 ∷ 101 ∷ 102 ∷ 117 ∷ 115 ∷ 101 ∷ 100 ∷ 32 ∷ z)
-      (sym (append_assoc file (32 ∷ decimal line) ((32 ∷ why) ++ 10 ∷ [])) ∙ sym (append_assoc (file ++ 32 ∷ decimal line) (32 ∷ why) (10 ∷ [])))
+    (sym (append_assoc file (32 ∷ decimal line) ((32 ∷ why) ++ 10 ∷ [])) ∙ sym (append_assoc (file ++ 32 ∷ decimal line) (32 ∷ why) (10 ∷ [])))
 
 pub written_as : {T E : Type 0} {held0 held : Option (List ℕ)} {result : Result T E} (bytes text : List ℕ) → bytes ≡ text → WritesAll held0 held bytes result → WritesAll held0 held text result
 written_as {T} {E} {held0} {held} {result} bytes text is written = subst (λ (z : List ℕ). WritesAll held0 held z result) is written
@@ -94,11 +94,11 @@ none_dropped last (b ∷ c ∷ bytes) h = ap (λ (z : List ℕ). b ∷ z) (none_
 pub dropped_cases : (last : ℕ) (bytes : List ℕ) → (bytes ≡ without_last last bytes) ⊎ (bytes ≡ without_last last bytes ++ last ∷ [])
 dropped_cases last [] = inl refl
 dropped_cases last (b ∷ []) = elim (eqb_tells b last) as (λ _. (b ∷ [] ≡ without_last last (b ∷ [])) ⊎ (b ∷ [] ≡ without_last last (b ∷ []) ++ last ∷ [])) [
-  inl same ↦ inr (ap (λ (n : ℕ). n ∷ []) same.1 ∙ sym (ap (λ (t : Bool). cond t [] (b ∷ []) ++ last ∷ []) same.0))
+  | inl same ↦ inr (ap (λ (n : ℕ). n ∷ []) same.1 ∙ sym (ap (λ (t : Bool). cond t [] (b ∷ []) ++ last ∷ []) same.0))
   | inr apart ↦ inl (sym (ap (λ (t : Bool). cond t [] (b ∷ [])) apart.0))
 ]
 dropped_cases last (b ∷ c ∷ bytes) = elim (dropped_cases last (c ∷ bytes)) as (λ _. (b ∷ c ∷ bytes ≡ without_last last (b ∷ c ∷ bytes)) ⊎ (b ∷ c ∷ bytes ≡ without_last last (b ∷ c ∷ bytes) ++ last ∷ [])) [
-  inl e ↦ inl (ap (λ (z : List ℕ). b ∷ z) e)
+  | inl e ↦ inl (ap (λ (z : List ℕ). b ∷ z) e)
   | inr e ↦ inr (ap (λ (z : List ℕ). b ∷ z) e)
 ]
 
@@ -118,7 +118,7 @@ IsUtf8-word line word = IsUtf8-from_ascii line (λ i. below i)
     below : (i : ℕ) → get_or line i 0 < 128
     below i =
         elim (cases_lt i (length line)) as (λ _. get_or line i 0 < 128) [
-          inl within ↦ omega (arith, (word i 0 within).1)
+          | inl within ↦ omega (arith, (word i 0 within).1)
           | inr past ↦ omega (arith, get_or_past line i 0 past)
         ]
 

@@ -36,7 +36,7 @@ module _ (R : Option (List ℕ) → List ℕ → Type 0) where
       → Appends held0 held2 (written ++ g.front) × IsTranscript R lines ((written ++ g.front) ++ gathered2)
   transcript_sent lines held0 held1 held2 written gathered1 reply gathered2 r appended t g =
       let same : written ++ (gathered1 ++ reply) ≡ (written ++ g.front) ++ gathered2 =
-        ap (λ (z : List ℕ). written ++ z) g.whole ∙ ap (λ (z : List ℕ). written ++ (g.front ++ z)) (sym g.kept) ∙ sym (append_assoc written g.front gathered2) in
+      ap (λ (z : List ℕ). written ++ z) g.whole ∙ ap (λ (z : List ℕ). written ++ (g.front ++ z)) (sym g.kept) ∙ sym (append_assoc written g.front gathered2) in
       (appends_more held0 held1 held2 written g.front appended g.appended, subst (λ (z : List ℕ). IsTranscript R lines z) same t)
 
   -- a write failed: the output has a front of the replies to what was told
@@ -51,13 +51,16 @@ module _ (R : Option (List ℕ) → List ℕ → Type 0) where
         written = written ++ g.front;
         consumed = told.read.consumed;
         appended = appends_more held0 held1 held2 written g.front appended g.appended;
-        output = (reader.ended, record {
-          heard = lines;
-          unheard = front.0;
-          rest = g.rest;
-          lines_are = front.1;
-          transcript = subst (λ (z : List ℕ). IsTranscript R lines z) same t;
-        });
+        output = (
+          reader.ended,
+          record {
+            heard = lines;
+            unheard = front.0;
+            rest = g.rest;
+            lines_are = front.1;
+            transcript = subst (λ (z : List ℕ). IsTranscript R lines z) same t;
+          },
+        );
         spends = λ (is : WriteFailed ≡ Spent). cc;
       }
 
@@ -175,7 +178,7 @@ module _ (R : Option (List ℕ) → List ℕ → Type 0) where
     written_so : (result : Ending) → ending ≢ WriteFailed → Turns R budget left0 left held0 held1 reader gathered1 (Some ending) → (result ≡ ending) × (gathered2 ≡ []) → Gathers {T = Unit {0}} {E = Failed} held1 held2 gathered1 [] gathered2 (Ok tt) → HasAnswered R budget left0 left held0 held2 result
     written_so result other t same g =
         subst (λ (e : Ending). HasAnswered R budget left0 left held0 held2 e) (sym same.0)
-          (finishes budget left0 left held0 held2 reader gathered2 ending same.1 (turn_flushed budget left0 left held0 held1 held2 reader gathered1 gathered2 ending tt other t g))
+        (finishes budget left0 left held0 held2 reader gathered2 ending same.1 (turn_flushed budget left0 left held0 held1 held2 reader gathered1 gathered2 ending tt other t g))
 
     -- what `finish` leaves of an ending that was no failed write
     finished_other : (result : Ending) → ending ≢ WriteFailed → ((result ≡ WriteFailed → ⊥) → (result ≡ ending) × (gathered2 ≡ [])) → Gathers held1 held2 gathered1 [] gathered2 (flushed result) → Turns R budget left0 left held0 held1 reader gathered1 (Some ending) → HasAnswered R budget left0 left held0 held2 result

@@ -61,7 +61,7 @@ pub pieces_failed : {X T E : Type 0} (f : X → List ℕ) (xs : List X) (i : ℕ
     → Gathers {T = T} {E = E} held0 held gathered0 (flat_map f (take i xs) ++ f (get_or xs i d)) gathered (Err e) → Gathers {T = T} {E = E} held0 held gathered0 (flat_map f xs) gathered (Err e)
 pieces_failed {X} {T} {E} f xs i d held0 held gathered0 gathered e below sent =
     subst (λ (bytes : List ℕ). Gathers {T = T} {E = E} held0 held gathered0 bytes gathered (Err e)) (sym (flat_map-parted f xs i d below))
-      (gathers_failed held0 held gathered0 gathered (flat_map f (take i xs) ++ f (get_or xs i d)) (flat_map f (drop (i + 1) xs)) e sent)
+    (gathers_failed held0 held gathered0 gathered (flat_map f (take i xs) ++ f (get_or xs i d)) (flat_map f (drop (i + 1) xs)) e sent)
 
 -- what was put where nothing was gathered, and then written, was written whole
 pub written_whole : {T U E : Type 0} (held0 held1 held2 : Option (List ℕ)) (gathered0 gathered1 gathered2 bytes : List ℕ) (r : T) (s : Result U E) → gathered0 ≡ [] → Gathers {T = T} {E = E} held0 held1 gathered0 bytes gathered1 (Ok r) → gathered2 ≡ [] → Gathers held1 held2 gathered1 [] gathered2 s → WritesAll held0 held2 bytes s

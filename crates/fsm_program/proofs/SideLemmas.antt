@@ -20,7 +20,7 @@ module _ (text t : List ℕ) (table : List (List ℕ)) where
   held_behind : bytes_eq text t ≡ false → slice_get table (number_of text table) ≡ Some text → slice_get (t ∷ table) (number_of text (t ∷ table)) ≡ Some text
   held_behind e rest =
       subst (λ b. slice_get (t ∷ table) (cond (not b) (1 + number_of text table) 0) ≡ Some text) (sym e)
-        (subst (λ n. slice_get (t ∷ table) n ≡ Some text) (sym (one_more (number_of text table))) rest)
+      (subst (λ n. slice_get (t ∷ table) n ≡ Some text) (sym (one_more (number_of text table))) rest)
 
   any_behind : (r : Bool) → bytes_eq text t ≡ false → list_any (bytes_eq text) (t ∷ table) ≡ r → list_any (bytes_eq text) table ≡ r
   any_behind r e any = subst (λ b. (b || list_any (bytes_eq text) table) ≡ r) e any
@@ -39,7 +39,7 @@ number_held : (text : List ℕ) (table : List (List ℕ)) → list_any (bytes_eq
 number_held text [] held = cc
 number_held text (t ∷ table) held =
     elim (cases_bool (bytes_eq text t)) as (λ _. slice_get (t ∷ table) (number_of text (t ∷ table)) ≡ Some text) [
-      inl e ↦ held_here text t table e
+      | inl e ↦ held_here text t table e
       | inr e ↦ held_behind text t table e (number_held text table (any_behind text t table true e held))
     ]
 
@@ -48,7 +48,7 @@ number_new : (text : List ℕ) (table : List (List ℕ)) → list_any (bytes_eq 
 number_new text [] new = refl
 number_new text (t ∷ table) new =
     elim (cases_bool (bytes_eq text t)) as (λ _. number_of text (t ∷ table) ≡ length (t ∷ table)) [
-      inl e ↦ absurd (not_here text t table e new)
+      | inl e ↦ absurd (not_here text t table e new)
       | inr e ↦ new_behind text t table e (number_new text table (any_behind text t table false e new))
     ]
 
@@ -109,7 +109,7 @@ adds_both {old} {mid} {new} {before} {between} {after} {first} {second} a b =
       table = b.table ∙ ap (λ (z : List (List ℕ)). with_texts z second) a.table ∙ sym (with_texts-append old first second);
       side = b.side ∙ ap (λ (z : List Sym). z ++ b.added) a.side ∙ append_assoc before a.added b.added;
       spells = Spells-append new a.added b.added first second
-        (subst (λ (z : List (List ℕ)). Spells z a.added first) (sym (b.table ∙ grown.1)) (Spells-grows mid grown.0 a.added first a.spells)) b.spells;
+          (subst (λ (z : List (List ℕ)). Spells z a.added first) (sym (b.table ∙ grown.1)) (Spells-grows mid grown.0 a.added first a.spells)) b.spells;
     }
 
 -- no word

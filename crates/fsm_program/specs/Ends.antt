@@ -80,7 +80,7 @@ pub data Ends (net : Option (List ℕ)) (files : Option Files) (faults0 faults :
   folder_failed : (name : List ℕ) → net ≡ Some name → left ≡ left0 → held ≡ held0 → Rose faults0 faults → status ≡ 3 → Ends net files faults0 faults left0 left held0 held status
   no_memory : (name : List ℕ) → net ≡ Some name → left ≡ left0 → held ≡ held0 → status ≡ 5 → Ends net files faults0 faults left0 left held0 held status
   answered : (name : List ℕ) (project : Project) → net ≡ Some name → Told files (λ files. Reads files (Ok project)) → IsAnswered (Replies project up 1 name) left0 left held0 held status
-    → Ends net files faults0 faults left0 left held0 held status
+      → Ends net files faults0 faults left0 left held0 held status
 
 -- how a run ends whose project isn't loaded
 abbrev pub IsNotLoaded : LoadError → Option (List ℕ) → Option (List ℕ) → ℕ → Type 0

@@ -15,6 +15,8 @@ mod pieces;
 mod program;
 mod reply;
 mod sides;
+#[cfg(test)]
+mod tests;
 mod words;
 
 pub use program::run;

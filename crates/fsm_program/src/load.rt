@@ -34,7 +34,7 @@ impl From<AllocError> for LoadError {
 }
 
 /// The definition of a file's bytes, or `None` where they are no plain definition.
-fn network_of(alloc: Global, bytes: &[u8]) -> Result<Option<Network>, AllocError>
+pub fn network_of(alloc: Global, bytes: &[u8]) -> Result<Option<Network>, AllocError>
     ensures { IfOk result (IsRead bytes.now) }
 {
     let Ok(text) = std::str::from_utf8(bytes) else {

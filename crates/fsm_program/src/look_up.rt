@@ -70,7 +70,7 @@ fn answer_line<I: Source, O: Sink>(
 }
 
 /// Answers the next line, after what is gathered was written where that line needs a read.
-fn turn<I: Source, O: Sink>(
+pub fn turn<I: Source, O: Sink>(
     alloc: Global,
     network: &Network,
     net: &str,

@@ -8,11 +8,7 @@ use fsm_io::{Failed, Outbox, Sink};
 
 /// Gathers the pieces, one after another. After a failure the output has a front of all that was to
 /// be written.
-pub fn put_all<O: Sink>(
-    outbox: &mut Outbox,
-    output: &mut O,
-    pieces: &[&[u8]],
-) -> Result<(), Failed>
+pub fn put_all<O: Sink>(outbox: &mut Outbox, output: &mut O, pieces: &[&[u8]]) -> Result<(), Failed>
     ensures bytes { Gathers (O.held output.old) (O.held output.new) outbox.old (flat_map (λ piece. piece.now) pieces.now) outbox.new result }
     ensures cause { HasCause (O.faults output.old) (O.faults output.new) result }
 {

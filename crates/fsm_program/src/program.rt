@@ -108,28 +108,34 @@ fn write_refusal<'a, O: Sink>(
 {
     let mut digits = Buffer::new();
     let line = digits.format(line);
-    write_pieces(outbox, output, &[
-        b"refused ".as_slice(),
-        file.as_bytes(),
-        b" ".as_slice(),
-        line.as_bytes(),
-        b" ".as_slice(),
-        why.as_bytes(),
-        b"\n".as_slice(),
-    ])
+    write_pieces(
+        outbox,
+        output,
+        &[
+            b"refused ".as_slice(),
+            file.as_bytes(),
+            b" ".as_slice(),
+            line.as_bytes(),
+            b" ".as_slice(),
+            why.as_bytes(),
+            b"\n".as_slice(),
+        ],
+    )
 }
 
 /// Writes the line of a refusal.
-fn say_refusal<O: Sink>(
-    fault: &Fault,
-    outbox: &mut Outbox,
-    output: &mut O,
-) -> Result<(), Failed>
+fn say_refusal<O: Sink>(fault: &Fault, outbox: &mut Outbox, output: &mut O) -> Result<(), Failed>
     requires { outbox.old ≡ [] }
     ensures said { WritesAll (O.held output.old) (O.held output.new) (refusal_text fault.now) result }
     ensures cause { HasCause (O.faults output.old) (O.faults output.new) result }
 {
-    write_refusal(fault.file.as_str(), fault.line, why_name(fault.why), outbox, output)
+    write_refusal(
+        fault.file.as_str(),
+        fault.line,
+        why_name(fault.why),
+        outbox,
+        output,
+    )
 }
 
 /// Ends a run whose project isn't loaded.

@@ -50,18 +50,22 @@ fn reply_found<O: Sink>(
     ensures cause { HasCause (O.faults output.old) (O.faults output.new) result }
 {
     match network.up(symbols) {
-        Some(upper) => put_all(outbox, output, &[
-            b"1 1 ".as_slice(),
-            word.as_bytes(),
-            b"\n".as_slice(),
-            upper.as_bytes(),
-            b"\n".as_slice(),
-        ]),
-        None => put_all(outbox, output, &[
-            b"1 0 ".as_slice(),
-            word.as_bytes(),
-            b"\n".as_slice(),
-        ]),
+        Some(upper) => put_all(
+            outbox,
+            output,
+            &[
+                b"1 1 ".as_slice(),
+                word.as_bytes(),
+                b"\n".as_slice(),
+                upper.as_bytes(),
+                b"\n".as_slice(),
+            ],
+        ),
+        None => put_all(
+            outbox,
+            output,
+            &[b"1 0 ".as_slice(), word.as_bytes(), b"\n".as_slice()],
+        ),
     }
 }
 
@@ -77,13 +81,17 @@ fn reply_no_symbol<O: Sink>(
 {
     let mut digits = Buffer::new();
     let at = digits.format(at);
-    put_all(outbox, output, &[
-        b"1 symbol ".as_slice(),
-        at.as_bytes(),
-        b" ".as_slice(),
-        word.as_bytes(),
-        b"\n".as_slice(),
-    ])
+    put_all(
+        outbox,
+        output,
+        &[
+            b"1 symbol ".as_slice(),
+            at.as_bytes(),
+            b" ".as_slice(),
+            word.as_bytes(),
+            b"\n".as_slice(),
+        ],
+    )
 }
 
 /// Gathers the reply to a word.
@@ -126,7 +134,11 @@ pub fn reply<O: Sink>(
             if network.has_name(net) {
                 reply_to_word(alloc, network, word, outbox, output)
             } else {
-                put_all(outbox, output, &[b"1 net ".as_slice(), net.as_bytes(), b"\n".as_slice()])
+                put_all(
+                    outbox,
+                    output,
+                    &[b"1 net ".as_slice(), net.as_bytes(), b"\n".as_slice()],
+                )
             }
         }
     }

@@ -21,11 +21,7 @@ fn symbol_text(symbol: &Raw) -> &str
 }
 
 /// Puts the symbol that a leaf stands for behind the side's, and into the table where it is new.
-fn add_symbol(
-    symbol: &Raw,
-    table: &mut SymbolTable,
-    side: &mut Vec<Sym>,
-) -> Result<(), AllocError>
+fn add_symbol(symbol: &Raw, table: &mut SymbolTable, side: &mut Vec<Sym>) -> Result<(), AllocError>
     requires some { IsSymbol (symbol_of symbol.now) }
     requires room { length table.old < 16777216 }
     ensures { OnOk result (AddsWord table.old table.new side.old.items side.new.items (symbol_of symbol.now ∷ [])) }

@@ -12,7 +12,7 @@ returns-in-Line-clause-turns g c project budget left0 held0 shown sofar =
 pub returns-in-Long-clause-turns : goal.returns-in-Long-clause-turns
 returns-in-Long-clause-turns g c project budget left0 held0 shown sofar =
     turn_sent (Replies project up 1 c.args.net.now) _ _ _ _ _ _ _ _ _ _ _ None _ _ c.ending_of-in-Long.ensures sofar (c.in-Long.ensures.told left0 budget sofar.lines sofar.told)
-      (sends_as _ _ (long refl) refl c.reply_long.ensures.bytes)
+    (sends_as _ _ (long refl) refl c.reply_long.ensures.bytes)
 
 pub returns-in-End-clause-turns : goal.returns-in-End-clause-turns
 returns-in-End-clause-turns g c project budget left0 held0 shown sofar =

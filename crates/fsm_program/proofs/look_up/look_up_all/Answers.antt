@@ -21,5 +21,5 @@ lines-preserved g c = record {
 pub returns-in-Some-clause-answered : goal.returns-in-Some-clause-answered
 returns-in-Some-clause-answered g c project shown =
     finished (Replies project up 1 c.args.net.now) most_taken _ _ _ _ _ _ _ _ _ _
-      (λ is. let same = c.finish.ensures.failed is in (same.0, ap (λ o. g.O.Sink.held o) same.1)) c.finish.ensures.written c.finish.ensures.bytes
-      (c.in-Some.ensures.turns project most_taken _ _ shown (c.lines.invariant.sofar project shown))
+    (λ is. let same = c.finish.ensures.failed is in (same.0, ap (λ o. g.O.Sink.held o) same.1)) c.finish.ensures.written c.finish.ensures.bytes
+    (c.in-Some.ensures.turns project most_taken _ _ shown (c.lines.invariant.sofar project shown))

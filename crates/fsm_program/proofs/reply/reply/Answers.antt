@@ -19,7 +19,7 @@ returns-then-has_name-clause-sends g c project shown =
     let word_is = c.in-Some.ensures.word.0 ∙ c.without_last.ensures in
     let is_word = subst IsWord c.without_last.ensures c.in-Some.ensures.word.1 in
     sends_weaker (λ bytes replies. word is_word (subst (λ (w : List ℕ). RepliesToWord project up 1 c.args.net.now w bytes) word_is (subst (λ (n : List ℕ). RepliesToWord project up 1 n c.in-Some.word.now bytes) (sym net_is) replies)))
-      (c.reply_to_word.ensures.sends project shown)
+    (c.reply_to_word.ensures.sends project shown)
 
 pub returns-else-has_name-clause-sends : goal.returns-else-has_name-clause-sends
 returns-else-has_name-clause-sends g c project shown =

@@ -34,4 +34,4 @@ parts-preserved c =
     let so_far : List (Term Raw) = map term (take i c.args.parts.now) in
     let more : map term (take (i + 1) c.args.parts.now) ≡ so_far ++ term c.part-item.result ∷ [] = map-take_more term c.args.parts.now i c.part-item.result (omega arith) c.part-item.is in
     subst (λ ts. AddsPair c.args.table.now c.add_part.new.table c.args.upper.now.items c.add_part.new.upper.items c.args.lower.now.items c.add_part.new.lower.items (parts_upper symbol_of (terms_of ts)) (parts_lower symbol_of (terms_of ts)) (symbols_in_each (terms_of ts)))
-      (sym more) (pairs_more so_far (term c.part-item.result) c.parts.invariant c.in_ok-add_part.ensures)
+    (sym more) (pairs_more so_far (term c.part-item.result) c.parts.invariant c.in_ok-add_part.ensures)

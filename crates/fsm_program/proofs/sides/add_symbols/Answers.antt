@@ -12,5 +12,5 @@ add_symbol-requires-clause-room c =
 pub symbols-preserved : goal.symbols-preserved
 symbols-preserved c =
     subst (λ word. AddsWord c.args.table.now c.add_symbol.new.table c.args.side.now.items c.add_symbol.new.side.items word)
-      (sym (map-take_more symbol_of c.args.symbols.now c.symbols.symbol-index c.symbol-item.result (omega arith) c.symbol-item.is))
-      (adds_both c.symbols.invariant c.in_ok-add_symbol.ensures)
+    (sym (map-take_more symbol_of c.args.symbols.now c.symbols.symbol-index c.symbol-item.result (omega arith) c.symbol-item.is))
+    (adds_both c.symbols.invariant c.in_ok-add_symbol.ensures)

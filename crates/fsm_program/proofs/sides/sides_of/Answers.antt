@@ -29,4 +29,4 @@ returns-in-Concat c =
     let is = ap term c.in-Concat.is ∙ term-Concat c.in-Concat.parts in
     let added = rw c.deref.ensures.value at c.add_parts.ensures in
     subst (λ t. OnOk c.add_parts.result (AddsPair c.args.table.now c.add_parts.new.table c.args.upper.now.items c.add_parts.new.upper.items c.args.lower.now.items c.add_parts.new.lower.items (upper_word symbol_of t) (lower_word symbol_of t) (symbols_in t)))
-      (sym is) added
+    (sym is) added

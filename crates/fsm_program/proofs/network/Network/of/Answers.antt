@@ -22,7 +22,7 @@ text-requires c =
     let added = added_first c.new-table.ensures c.new-upper.ensures.items c.new-lower.ensures.items c.in_ok-sides_of.ensures in
     let alphabet_is = c.in_ok-alphabet.ensures.alphabet ∙ ap (listed table) (c.deref.ensures.value ∙ c.in_ok-symbols.ensures) in
     subst (λ a. IsOver (symbols_of a) c.deref-2.result.now) (sym alphabet_is)
-      (subst (λ (z : List Sym). IsOver (symbols_of (listed table (symbols_below (length table)))) z) (sym c.deref-2.ensures.value) (upper_over added))
+    (subst (λ (z : List Sym). IsOver (symbols_of (listed table (symbols_below (length table)))) z) (sym c.deref-2.ensures.value) (upper_over added))
 
 pub returns : goal.returns
 returns c =
