@@ -1,0 +1,3 @@
+pub mod Extended
+pub mod Walks
+pub mod UnionLanguage

@@ -1,0 +1,39 @@
+-- Paths of an automaton: what follows from each step, and the same path among the states of another.
+use Rattle.std.proofs.Common.{◌≡◌, ℕ, ◌+◌, ◌<◌, List, [], ◌∷◌, ◌++◌, Option, Some, None, true, length, refl, subst, sym, ap, arith, ◌∙◌}
+use Rattle.std.specs.Option.{option_to_list}
+use Rattle.std.specs.List.{Contains}
+use Rattle.std.proofs.lemmas.Option.{slice_get_within}
+use Rattle.fsa.specs.Automaton.{Automaton, IsFinal, IsWellFormed}
+use Rattle.fsa.specs.Language.{AcceptsFrom, Accepts, stop, read, skip}
+use Rattle.fsa.specs.declared.automaton.Edge.{Edge}
+use Rattle.fsa_rational.specs.Shapes.{shifted}
+
+-- what the automaton accepts from each state is the least that holds at final states and is kept by each edge
+pub AcceptsFrom-least : {L : Type 0} (m : Automaton L) (P : ℕ → List L → Type 0) → ((q : ℕ) → IsFinal m q → P q []) → ((e : Edge L) (w : List L) → Contains m.edges e → P e.to w → P e.from (option_to_list e.letter ++ w)) → {p : ℕ} {w : List L} → AcceptsFrom m p w → P p w
+AcceptsFrom-least m P final step {p} (stop h) = final p h
+AcceptsFrom-least m P final step {p} (read {q = q} {x = x} {w = w} h rest) =
+    step (record { from = p; letter = Some x; to = q }) w h (AcceptsFrom-least m P final step rest)
+AcceptsFrom-least m P final step {p} (skip {q = q} {w = w} h rest) =
+    step (record { from = p; letter = None; to = q }) w h (AcceptsFrom-least m P final step rest)
+
+step_by : {L : Type 0} (m : Automaton L) (p q : ℕ) (letter : Option L) (w : List L) → Contains m.edges (record { from = p; letter = letter; to = q }) → AcceptsFrom m q w → AcceptsFrom m p (option_to_list letter ++ w)
+step_by m p q (Some x) w h rest = read h rest
+step_by m p q None w h rest = skip h rest
+
+-- one edge, and then what is accepted from its end
+pub AcceptsFrom-step : {L : Type 0} (m : Automaton L) (e : Edge L) (w : List L) → Contains m.edges e → AcceptsFrom m e.to w → AcceptsFrom m e.from (option_to_list e.letter ++ w)
+AcceptsFrom-step m e w h rest = step_by m e.from e.to e.letter w h rest
+
+-- a state from which something is accepted is there
+pub AcceptsFrom-within : {L : Type 0} (m : Automaton L) → IsWellFormed m → {p : ℕ} {w : List L} → AcceptsFrom m p w → p < length m.finals
+AcceptsFrom-within m ok {p} (stop h) = slice_get_within m.finals p true h
+AcceptsFrom-within m ok {p} (read {q = q} {x = x} h rest) = (ok.within (record { from = p; letter = Some x; to = q }) h).0
+AcceptsFrom-within m ok {p} (skip {q = q} h rest) = (ok.within (record { from = p; letter = None; to = q }) h).0
+
+-- the same path where each edge stands with its numbers raised, and then a word from where it ends
+pub AcceptsFrom-moved : {L : Type 0} (a m : Automaton L) (by : ℕ) (v : List L) → ((e : Edge L) → Contains a.edges e → Contains m.edges (shifted by e)) → ((q : ℕ) → IsFinal a q → AcceptsFrom m (q + by) v) → {p : ℕ} {w : List L} → AcceptsFrom a p w → AcceptsFrom m (p + by) (w ++ v)
+AcceptsFrom-moved a m by v edges final {p} (stop h) = final p h
+AcceptsFrom-moved a m by v edges final {p} (read {q = q} {x = x} h rest) =
+    read (edges (record { from = p; letter = Some x; to = q }) h) (AcceptsFrom-moved a m by v edges final rest)
+AcceptsFrom-moved a m by v edges final {p} (skip {q = q} h rest) =
+    skip (edges (record { from = p; letter = None; to = q }) h) (AcceptsFrom-moved a m by v edges final rest)

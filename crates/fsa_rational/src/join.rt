@@ -1,0 +1,64 @@
+ghost use Rattle.std.specs.Prelude.{◌≡◌, ◌↔◌, ◌⊎◌, ◌++◌, ◌∷◌, ◌<◌, [], false, true, IfOk, List, replicate, length};
+ghost use Rattle.fsm_words.specs.Words.{IsConcatenation, IsRepetition};
+ghost use Rattle.fsa.specs.Automaton.{UsesLetter};
+ghost use Rattle.fsa.specs.Language.{Accepts};
+
+use crate::extend::{add_shifted, add_silent, leave_finals};
+use fsa::Fsa;
+use fsm_base::Letter;
+use std::alloc::{AllocError, Global};
+
+/// The automaton of the words of `a` and those of `b`.
+pub fn union<L: Letter>(a: &Fsa<L>, b: &Fsa<L>) -> Result<Fsa<L>, AllocError>
+    ensures letters { IfOk result (λ m. (x : L) → UsesLetter m x → UsesLetter a.now x ⊎ UsesLetter b.now x) }
+    ensures language { IfOk result (λ m. (w : List L) → Accepts m w ↔ (Accepts a.now w ⊎ Accepts b.now w)) }
+{
+    let mut finals = start_and(a.allocator(), a.finals())?;
+    let second = finals.len();
+    finals.extend_from_slice(b.finals())?;
+    let mut m = Fsa::of_states(a.allocator(), finals);
+    add_shifted(&mut m, a.edges(), 1)?;
+    add_shifted(&mut m, b.edges(), second)?;
+    add_silent(&mut m, 0, 1)?;
+    add_silent(&mut m, 0, second)?;
+    Ok(m)
+}
+
+/// The automaton of the words that are a word of `a` and then a word of `b`.
+pub fn concat<L: Letter>(a: &Fsa<L>, b: &Fsa<L>) -> Result<Fsa<L>, AllocError>
+    ensures letters { IfOk result (λ m. (x : L) → UsesLetter m x → UsesLetter a.now x ⊎ UsesLetter b.now x) }
+    ensures language { IfOk result (λ m. (w : List L) → Accepts m w ↔ IsConcatenation (Accepts a.now) (Accepts b.now) w) }
+{
+    let mut finals = vec![in a.allocator(); false; a.states()]?;
+    finals.extend_from_slice(b.finals())?;
+    let mut m = Fsa::of_states(a.allocator(), finals);
+    add_shifted(&mut m, a.edges(), 0)?;
+    add_shifted(&mut m, b.edges(), a.states())?;
+    leave_finals(&mut m, a.finals(), 0, a.states())?;
+    Ok(m)
+}
+
+/// The automaton of the words that join any number of words of `a`, the empty word among them.
+pub fn star<L: Letter>(a: &Fsa<L>) -> Result<Fsa<L>, AllocError>
+    ensures letters { IfOk result (λ m. (x : L) → UsesLetter m x → UsesLetter a.now x) }
+    ensures language { IfOk result (λ m. (w : List L) → Accepts m w ↔ IsRepetition (Accepts a.now) w) }
+{
+    let mut finals = vec![in a.allocator(); false; a.states()]?;
+    finals.push(false)?;
+    let mut m = Fsa::of_states(a.allocator(), finals);
+    m.set_final(0);
+    add_shifted(&mut m, a.edges(), 1)?;
+    add_silent(&mut m, 0, 1)?;
+    leave_finals(&mut m, a.finals(), 1, 0)?;
+    Ok(m)
+}
+
+/// A state that isn't final, and then these.
+fn start_and(alloc: Global, finals: &[bool]) -> Result<Vec<bool>, AllocError>
+    ensures { IfOk result (λ states. states.items ≡ false ∷ finals.now) }
+{
+    let mut states = Vec::new(alloc);
+    states.push(false)?;
+    states.extend_from_slice(finals)?;
+    Ok(states)
+}

@@ -1,0 +1,15 @@
+//! Rational operations on automata (Hopcroft, Motwani and Ullman, Introduction to Automata Theory, chapters 3
+//! and 4; Beesley and Karttunen, Finite State Morphology, 2003, section 2.3). Each call's contract says, for
+//! every word, whether the result accepts it.
+//!
+//! - [`union`], [`concat`], [`star`], [`reverse`]: the operations on sets of words.
+//! - [`without_empty`]: the same language with no silent edge.
+//! - [`image`], [`preimage`]: the words that a table of letters gives, and the words for which it gives one.
+#![tactic(auto)]
+
+mod extend;
+mod join;
+mod reversal;
+
+pub use join::{concat, star, union};
+pub use reversal::reverse;
