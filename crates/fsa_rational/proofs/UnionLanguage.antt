@@ -2,7 +2,7 @@
 use Rattle.std.proofs.Common.{◌≡◌, ℕ, zero, suc, ◌+◌, ◌<◌, ◌≤◌, ◌⊎◌, ◌↔◌, List, [], ◌∷◌, ◌++◌, Bool, true, false, Option, Some, None, length, refl, subst, sym, ap, inl, inr, arith, ◌∙◌}
 use Rattle.std.specs.Option.{option_to_list}
 use Rattle.std.specs.List.{Contains, slice_get}
-use Rattle.std.proofs.lemmas.List.{append-nil}
+use Rattle.std.proofs.lemmas.List.{append-nil, length-append}
 use Rattle.std.proofs.lemmas.Option.{slice_get_within}
 use Rattle.fsm_words.proofs.Members.{Contains-nil_cases}
 use Rattle.fsm_words.proofs.Places.{slice_get-append_cases, slice_get-append_left, slice_get-append_right}
@@ -164,3 +164,11 @@ module _ {L : Type 0} (a b : Automaton L) (a_ok : IsWellFormed a) (b_ok : IsWell
 
   pub union_letters : (x : L) → UsesLetter m x → UsesLetter a x ⊎ UsesLetter b x
   union_letters x (e, h, reads) = letter_from e x reads (is.only e h)
+
+-- how many states there are
+pub union_states : {L : Type 0} (a b m : Automaton L) → m.finals ≡ (false ∷ a.finals) ++ b.finals → length m.finals ≡ (length a.finals + 1) + length b.finals
+union_states a b m is =
+    let long = length-append (false ∷ a.finals) b.finals in
+    let front : length (false ∷ a.finals) ≡ suc (length a.finals) = refl in
+    let same = ap length is in
+    omega arith

@@ -1,12 +1,15 @@
 -- Paths of an automaton: what follows from each step, and the same path among the states of another.
-use Rattle.std.proofs.Common.{◌≡◌, ℕ, ◌+◌, ◌<◌, List, [], ◌∷◌, ◌++◌, Option, Some, None, true, length, refl, subst, sym, ap, arith, ◌∙◌}
+use Rattle.std.proofs.Common.{◌≡◌, ℕ, zero, suc, ◌+◌, ◌<◌, ◌≤◌, List, [], ◌∷◌, ◌++◌, Option, Some, None, true, false, replicate, Bool, set, length, refl, subst, sym, ap, inl, inr, arith, ◌∙◌}
 use Rattle.std.specs.Option.{option_to_list}
-use Rattle.std.specs.List.{Contains}
+use Rattle.std.specs.List.{Contains, slice_get}
 use Rattle.std.proofs.lemmas.Option.{slice_get_within}
+use Rattle.std.proofs.lemmas.Bool.{cases_eq}
+use Rattle.std.proofs.lemmas.List.{length_push, length-replicate}
+use Rattle.fsm_words.proofs.Places.{slice_get-set_same, slice_get-set_other, slice_get-append_cases}
 use Rattle.fsa.specs.Automaton.{Automaton, IsFinal, IsWellFormed}
 use Rattle.fsa.specs.Language.{AcceptsFrom, Accepts, stop, read, skip}
 use Rattle.fsa.specs.declared.automaton.Edge.{Edge}
-use Rattle.fsa_rational.specs.Shapes.{shifted}
+use Rattle.fsa_rational.specs.Shapes.{shifted, FitsBelow}
 
 -- what the automaton accepts from each state is the least that holds at final states and is kept by each edge
 pub AcceptsFrom-least : {L : Type 0} (m : Automaton L) (P : ℕ → List L → Type 0) → ((q : ℕ) → IsFinal m q → P q []) → ((e : Edge L) (w : List L) → Contains m.edges e → P e.to w → P e.from (option_to_list e.letter ++ w)) → {p : ℕ} {w : List L} → AcceptsFrom m p w → P p w
@@ -37,3 +40,32 @@ AcceptsFrom-moved a m by v edges final {p} (read {q = q} {x = x} h rest) =
     read (edges (record { from = p; letter = Some x; to = q }) h) (AcceptsFrom-moved a m by v edges final rest)
 AcceptsFrom-moved a m by v edges final {p} (skip {q = q} h rest) =
     skip (edges (record { from = p; letter = None; to = q }) h) (AcceptsFrom-moved a m by v edges final rest)
+
+-- edges fit where there is room for the states
+pub FitsBelow-from : {L : Type 0} (a : Automaton L) → IsWellFormed a → (by bound : ℕ) → length a.finals + by ≤ bound → FitsBelow a.edges by bound
+FitsBelow-from a ok by bound room e h = let ends = ok.within e h in (omega arith, omega arith)
+
+-- among states that aren't final none is
+pub unmarked_states : (n k : ℕ) → slice_get (replicate n false) k ≡ Some true → ⊥
+unmarked_states zero k e = cc
+unmarked_states (suc n) zero e = cc
+unmarked_states (suc n) (suc k) e = unmarked_states n k e
+
+-- one state more, and of all of them one is final
+pub one_final : (n at k : ℕ) → slice_get (set (replicate n false ++ false ∷ []) at true) k ≡ Some true → k ≡ at
+one_final n at k e = elim (cases_eq k at) [
+    inl same ↦ same
+  | inr other ↦
+      let old : slice_get (replicate n false ++ false ∷ []) k ≡ Some true = sym (slice_get-set_other (replicate n false ++ false ∷ []) at k true other) ∙ e in
+      absurd (elim (slice_get-append_cases (replicate n false) (false ∷ []) k true old) [ inl front ↦ unmarked_states n k front | inr r ↦ last r.0 r.2 ])
+  ]
+  where
+    last : (j : ℕ) → slice_get (false ∷ []) j ≡ Some true → ⊥
+    last zero f = cc
+    last (suc j) f = cc
+
+pub one_more_states : (n : ℕ) → length (replicate n false ++ false ∷ []) ≡ n + 1
+one_more_states n = let long = length_push (replicate n false) false in let front = length-replicate n false in omega arith
+
+pub is_final_set : (n at : ℕ) → at < n + 1 → slice_get (set (replicate n false ++ false ∷ []) at true) at ≡ Some true
+is_final_set n at l = let long = one_more_states n in slice_get-set_same (replicate n false ++ false ∷ []) at true (omega arith)

@@ -3,6 +3,7 @@ ghost use Rattle.fsa.specs.Automaton.{UsesLetter};
 ghost use Rattle.fsa.specs.Language.{Accepts};
 
 use crate::extend::{add_turned, enter_finals};
+use crate::join::one_state_more;
 use fsa::Fsa;
 use fsm_base::Letter;
 use std::alloc::AllocError;
@@ -12,11 +13,10 @@ pub fn reverse<L: Letter>(a: &Fsa<L>) -> Result<Fsa<L>, AllocError>
     ensures letters { IfOk result (λ m. (x : L) → UsesLetter m x → UsesLetter a.now x) }
     ensures language { IfOk result (λ m. (w : List L) → Accepts m w ↔ Accepts a.now (reverse w)) }
 {
-    let mut finals = vec![in a.allocator(); false; a.states()]?;
-    finals.push(false)?;
-    let mut m = Fsa::of_states(a.allocator(), finals);
+    let edges = a.edges();
+    let mut m = one_state_more(a)?;
     m.set_final(1);
-    add_turned(&mut m, a.edges(), 1)?;
+    add_turned(&mut m, edges, 1)?;
     enter_finals(&mut m, 0, a.finals(), 1)?;
     Ok(m)
 }
