@@ -9,7 +9,7 @@ use Rattle.fsm_words.proofs.Members.{Contains-nil_cases}
 use Rattle.fsm_words.proofs.Places.{same_at}
 use Rattle.fsa.specs.Automaton.{Automaton}
 use Rattle.fsa.specs.declared.automaton.Edge.{Edge}
-use Rattle.fsa_rational.specs.Shapes.{Extends, ComesFrom, LeavesFinal, EntersFinal, silent}
+use Rattle.fsa_rational.specs.Shapes.{Extends, ForEach, ComesFrom}
 
 module _ {L : Type 0} where
   pub Extends-none : (m : Automaton L) (P : Edge L → Type 0) → ((e : Edge L) → P e → ⊥) → Extends m m P
@@ -44,25 +44,34 @@ module _ {L : Type 0} where
       all = λ e q. h.all e (g e q);
     }
 
--- edges that come from others, one by one
-module _ {L M : Type 0} (change : Edge M → Edge L) (edges : List (Edge M)) where
-  pub comes_none : (m : Automaton L) → Extends m m (ComesFrom change (take 0 edges))
-  comes_none m = Extends-none m (ComesFrom change (take 0 edges)) (λ e r. Contains-nil_cases r.0 r.1)
+-- edges that are added for the items of a list, one by one
+module _ {X L : Type 0} (P : X → Edge L → Type 0) (items : List X) where
+  pub each_none : (m : Automaton L) → Extends m m (ForEach P (take 0 items))
+  each_none m = Extends-none m (ForEach P (take 0 items)) (λ e r. Contains-nil_cases r.0 r.1)
 
-  pub comes_more : (i : ℕ) (x : Edge M) → i < length edges → x ≡ get_or edges i x → (old now new : Automaton L) → Extends old now (ComesFrom change (take i edges)) → new ≡ record now { edges = now.edges ++ change x ∷ [] } → Extends old new (ComesFrom change (take (i + 1) edges))
-  comes_more i x within at old now new before is =
-      let front : take (i + 1) edges ≡ take i edges ++ x ∷ [] = take_more edges i x within ∙ ap (λ y. take i edges ++ y ∷ []) (sym at) in
-      Extends-then old now new (ComesFrom change (take i edges)) (λ e. e ≡ change x) (ComesFrom change (take (i + 1) edges))
-        (λ e r. elim (Contains-push_cases (take i edges) x r.0 (subst (λ es. Contains es r.0) front r.1)) [
+  pub each_more : (i : ℕ) (x : X) → i < length items → x ≡ get_or items i x → (old now new : Automaton L) → Extends old now (ForEach P (take i items)) → Extends now new (P x) → Extends old new (ForEach P (take (i + 1) items))
+  each_more i x within at old now new before step =
+      let front : take (i + 1) items ≡ take i items ++ x ∷ [] = take_more items i x within ∙ ap (λ y. take i items ++ y ∷ []) (sym at) in
+      Extends-then old now new (ForEach P (take i items)) (P x) (ForEach P (take (i + 1) items))
+        (λ e r. elim (Contains-push_cases (take i items) x r.0 (subst (λ ys. Contains ys r.0) front r.1)) [
             inl held ↦ inl (r.0, held, r.2)
-          | inr same ↦ inr (r.2 ∙ ap change (sym same))
+          | inr same ↦ inr (subst (λ y. P y e) (sym same) r.2)
           ])
-        (λ e r. (r.0, subst (λ es. Contains es r.0) (sym front) (Contains-append_left (take i edges) (x ∷ []) r.0 r.1), r.2))
-        (λ e same. (x, subst (λ es. Contains es x) (sym front) (Contains-push (take i edges) x), same))
-        before (Extends-push now new (change x) is)
+        (λ e r. (r.0, subst (λ ys. Contains ys r.0) (sym front) (Contains-append_left (take i items) (x ∷ []) r.0 r.1), r.2))
+        (λ e p. (x, subst (λ ys. Contains ys x) (sym front) (Contains-push (take i items) x), p))
+        before step
 
-  pub comes_all : (i : ℕ) (old now : Automaton L) → length edges ≤ i → Extends old now (ComesFrom change (take i edges)) → Extends old now (ComesFrom change edges)
-  comes_all i old now past h = subst (λ es. Extends old now (ComesFrom change es)) (take_all i edges past) h
+  -- an item for which nothing is to be added
+  pub each_past : (i : ℕ) (x : X) → i < length items → x ≡ get_or items i x → (old now : Automaton L) → ((e : Edge L) → P x e → ⊥) → Extends old now (ForEach P (take i items)) → Extends old now (ForEach P (take (i + 1) items))
+  each_past i x within at old now never before = each_more i x within at old now now before (Extends-none now (P x) never)
+
+  pub each_all : (i : ℕ) (old now : Automaton L) → length items ≤ i → Extends old now (ForEach P (take i items)) → Extends old now (ForEach P items)
+  each_all i old now past h = subst (λ ys. Extends old now (ForEach P ys)) (take_all i items past) h
+
+module _ {X L : Type 0} (change : X → Edge L) (items : List X) where
+  pub comes_more : (i : ℕ) (x : X) → i < length items → x ≡ get_or items i x → (old now new : Automaton L) → Extends old now (ComesFrom change (take i items)) → new ≡ record now { edges = now.edges ++ change x ∷ [] } → Extends old new (ComesFrom change (take (i + 1) items))
+  comes_more i x within at old now new before is =
+      each_more (λ y e. e ≡ change y) items i x within at old now new before (Extends-push now new (change x) is)
 
 -- an edge for each final state, state by state
 abbrev pub ForFinal : {L : Type 0} → (ℕ → Edge L) → List Bool → ℕ → Edge L → Type 0

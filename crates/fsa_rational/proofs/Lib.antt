@@ -4,3 +4,7 @@ pub mod UnionLanguage
 pub mod ConcatLanguage
 pub mod StarLanguage
 pub mod ReverseLanguage
+pub mod RowsAt
+pub mod Bypassing
+pub mod EmptyLanguage
+pub mod ImageLanguage

@@ -21,9 +21,13 @@ pub record Extends {L : Type 0} (old new : Automaton L) (P : Edge L → Type 0) 
   pub only : (e : Edge L) → Contains new.edges e → Contains old.edges e ⊎ P e
   pub all : (e : Edge L) → P e → Contains new.edges e
 
--- it comes from one of these edges
-abbrev pub ComesFrom : {L M : Type 0} → (Edge M → Edge L) → List (Edge M) → Edge L → Type 0
-ComesFrom {L} {M} change edges e = (old : Edge M) × Contains edges old × (e ≡ change old)
+-- it was added for one of these
+abbrev pub ForEach : {X L : Type 0} → (X → Edge L → Type 0) → List X → Edge L → Type 0
+ForEach {X} P items e = (x : X) × Contains items x × P x e
+
+-- it comes from one of these
+abbrev pub ComesFrom : {X L : Type 0} → (X → Edge L) → List X → Edge L → Type 0
+ComesFrom change items e = ForEach (λ x f. f ≡ change x) items e
 
 -- it leaves a final state, or enters one
 abbrev pub LeavesFinal : {L : Type 0} → List Bool → ℕ → ℕ → Edge L → Type 0
@@ -35,3 +39,27 @@ EntersFinal from finals by e = (q : ℕ) × (slice_get finals q ≡ Some true) �
 -- with the numbers raised, the edges stay below the bound
 abbrev pub FitsBelow : {L : Type 0} → List (Edge L) → ℕ → ℕ → Type 0
 FitsBelow {L} edges by bound = (e : Edge L) → Contains edges e → (e.from + by < bound) × (e.to + by < bound)
+
+-- the edge with another source, where it isn't silent
+abbrev pub IsLettered : {L : Type 0} → ℕ → Edge L → Edge L → Type 0
+IsLettered {L} from old e = (x : L) × (old.letter ≡ Some x) × (e ≡ record { from = from; letter = Some x; to = old.to })
+
+-- what the table gives for the edge's letter, between the same states; a silent edge stays
+abbrev pub IsImage : {L M : Type 0} → List (L × Option M) → Option L → Option M → Type 0
+IsImage table None y = y ≡ None
+IsImage table (Some x) y = Contains table (x, y)
+
+abbrev pub ImageOf : {L M : Type 0} → List (L × Option M) → Edge L → Edge M → Type 0
+ImageOf {L} {M} table old e = (y : Option M) × IsImage table old.letter y × (e ≡ record { from = old.from; letter = y; to = old.to })
+
+-- the letters for which the table gives the edge's letter, between the same states; a silent edge stays
+abbrev pub IsPreimage : {L M : Type 0} → List (L × Option M) → Option M → Option L → Type 0
+IsPreimage table None x = x ≡ None
+IsPreimage {L} table (Some y) letter = (x : L) × Contains table (x, Some y) × (letter ≡ Some x)
+
+abbrev pub PreimageOf : {L M : Type 0} → List (L × Option M) → Edge M → Edge L → Type 0
+PreimageOf {L} table old e = (x : Option L) × IsPreimage table old.letter x × (e ≡ record { from = old.from; letter = x; to = old.to })
+
+-- a letter for which the table gives none leads from a state to itself
+abbrev pub IsLoop : {L : Type 0} → ℕ → L → Edge L → Type 0
+IsLoop state x e = e ≡ record { from = state; letter = Some x; to = state }

@@ -9,7 +9,12 @@
 
 mod extend;
 mod join;
+mod lettered;
 mod reversal;
+mod rows;
+mod translate;
 
 pub use join::{concat, star, union};
+pub use lettered::without_empty;
 pub use reversal::reverse;
+pub use translate::image;
