@@ -20,17 +20,17 @@ use Rattle.fsa_rational.specs.Bypass.{TakesOver, LeavesOne, HasFinal, IsBypassed
 use Rattle.fsa_rational.proofs.Walks.{unmarked_states}
 
 -- the list's front with one more
-more_held : {X : Type 0} (xs : List X) (i : ℕ) (x : X) → i < length xs → x ≡ get_or xs i x → (k : X) → Contains (take i xs) k → Contains (take (i + 1) xs) k
+pub more_held : {X : Type 0} (xs : List X) (i : ℕ) (x : X) → i < length xs → x ≡ get_or xs i x → (k : X) → Contains (take i xs) k → Contains (take (i + 1) xs) k
 more_held xs i x within at k h =
     let front : take (i + 1) xs ≡ take i xs ++ x ∷ [] = take_more xs i x within ∙ ap (λ y. take i xs ++ y ∷ []) (sym at) in
     subst (λ ys. Contains ys k) (sym front) (Contains-append_left (take i xs) (x ∷ []) k h)
 
-last_held : {X : Type 0} (xs : List X) (i : ℕ) (x : X) → i < length xs → x ≡ get_or xs i x → Contains (take (i + 1) xs) x
+pub last_held : {X : Type 0} (xs : List X) (i : ℕ) (x : X) → i < length xs → x ≡ get_or xs i x → Contains (take (i + 1) xs) x
 last_held xs i x within at =
     let front : take (i + 1) xs ≡ take i xs ++ x ∷ [] = take_more xs i x within ∙ ap (λ y. take i xs ++ y ∷ []) (sym at) in
     subst (λ ys. Contains ys x) (sym front) (Contains-push (take i xs) x)
 
-held_cases : {X : Type 0} (xs : List X) (i : ℕ) (x : X) → i < length xs → x ≡ get_or xs i x → (k : X) → Contains (take (i + 1) xs) k → Contains (take i xs) k ⊎ (x ≡ k)
+pub held_cases : {X : Type 0} (xs : List X) (i : ℕ) (x : X) → i < length xs → x ≡ get_or xs i x → (k : X) → Contains (take (i + 1) xs) k → Contains (take i xs) k ⊎ (x ≡ k)
 held_cases xs i x within at k h =
     let front : take (i + 1) xs ≡ take i xs ++ x ∷ [] = take_more xs i x within ∙ ap (λ y. take i xs ++ y ∷ []) (sym at) in
     Contains-push_cases (take i xs) x k (subst (λ ys. Contains ys k) front h)

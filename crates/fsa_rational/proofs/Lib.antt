@@ -8,3 +8,5 @@ pub mod RowsAt
 pub mod Bypassing
 pub mod EmptyLanguage
 pub mod ImageLanguage
+pub mod PreimageLanguage
+pub mod TableRows

@@ -1,7 +1,9 @@
 -- Paths of an automaton: what follows from each step, and the same path among the states of another.
-use Rattle.std.proofs.Common.{◌≡◌, ℕ, zero, suc, ◌+◌, ◌<◌, ◌≤◌, List, [], ◌∷◌, ◌++◌, Option, Some, None, true, false, replicate, Bool, set, length, refl, subst, sym, ap, inl, inr, arith, ◌∙◌}
+use Rattle.std.proofs.Common.{◌≡◌, ℕ, zero, suc, ◌+◌, ◌<◌, ◌≤◌, ◌↔◌, List, [], ◌∷◌, ◌++◌, Option, Some, None, true, false, replicate, Bool, set, length, refl, subst, sym, ap, inl, inr, arith, ◌∙◌}
 use Rattle.std.specs.Option.{option_to_list}
 use Rattle.std.specs.List.{Contains, slice_get}
+use Rattle.std.specs.List.Sorted.{IsPermutation}
+use Rattle.std.proofs.lemmas.List.Sorted.{Contains-permutation, IsPermutation-sym}
 use Rattle.std.proofs.lemmas.Option.{slice_get_within}
 use Rattle.std.proofs.lemmas.Bool.{cases_eq}
 use Rattle.std.proofs.lemmas.List.{length_push, length-replicate}
@@ -69,3 +71,7 @@ one_more_states n = let long = length_push (replicate n false) false in let fron
 
 pub is_final_set : (n at : ℕ) → at < n + 1 → slice_get (set (replicate n false ++ false ∷ []) at true) at ≡ Some true
 is_final_set n at l = let long = one_more_states n in slice_get-set_same (replicate n false ++ false ∷ []) at true (omega arith)
+
+-- a list and its permutation have the same elements
+pub same_elements : {X : Type 0} (xs ys : List X) → IsPermutation xs ys → (x : X) → Contains ys x ↔ Contains xs x
+same_elements xs ys moved x = (λ h. Contains-permutation ys xs x (IsPermutation-sym xs ys moved) h, λ h. Contains-permutation xs ys x moved h)

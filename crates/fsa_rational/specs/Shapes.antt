@@ -52,14 +52,18 @@ IsImage table (Some x) y = Contains table (x, y)
 abbrev pub ImageOf : {L M : Type 0} → List (L × Option M) → Edge L → Edge M → Type 0
 ImageOf {L} {M} table old e = (y : Option M) × IsImage table old.letter y × (e ≡ record { from = old.from; letter = y; to = old.to })
 
--- the letters for which the table gives the edge's letter, between the same states; a silent edge stays
-abbrev pub IsPreimage : {L M : Type 0} → List (L × Option M) → Option M → Option L → Type 0
-IsPreimage table None x = x ≡ None
-IsPreimage {L} table (Some y) letter = (x : L) × Contains table (x, Some y) × (letter ≡ Some x)
+-- the letters for which the rows give the edge's letter, each row being that letter and then the other, between
+-- the same states; a silent edge stays
+abbrev pub IsPreimage : {L M : Type 0} → List (M × L) → Option M → Option L → Type 0
+IsPreimage rows None letter = letter ≡ None
+IsPreimage {L} rows (Some y) letter = (x : L) × Contains rows (y, x) × (letter ≡ Some x)
 
-abbrev pub PreimageOf : {L M : Type 0} → List (L × Option M) → Edge M → Edge L → Type 0
-PreimageOf {L} table old e = (x : Option L) × IsPreimage table old.letter x × (e ≡ record { from = old.from; letter = x; to = old.to })
+abbrev pub PreimageOf : {L M : Type 0} → List (M × L) → Edge M → Edge L → Type 0
+PreimageOf {L} rows old e = (letter : Option L) × IsPreimage rows old.letter letter × (e ≡ record { from = old.from; letter = letter; to = old.to })
 
--- a letter for which the table gives none leads from a state to itself
-abbrev pub IsLoop : {L : Type 0} → ℕ → L → Edge L → Type 0
-IsLoop state x e = e ≡ record { from = state; letter = Some x; to = state }
+abbrev pub loop_at : {L : Type 0} → ℕ → L → Edge L
+loop_at state x = record { from = state; letter = Some x; to = state }
+
+-- a letter leads from a state below the bound to itself
+abbrev pub LoopsBelow : {L : Type 0} → ℕ → List L → Edge L → Type 0
+LoopsBelow bound letters e = (state : ℕ) × (state < bound) × ComesFrom (loop_at state) letters e

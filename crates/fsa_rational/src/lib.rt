@@ -17,4 +17,4 @@ mod translate;
 pub use join::{concat, star, union};
 pub use lettered::without_empty;
 pub use reversal::reverse;
-pub use translate::image;
+pub use translate::{image, preimage};

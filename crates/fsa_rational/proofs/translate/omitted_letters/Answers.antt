@@ -1,0 +1,10 @@
+use Rattle.fsa_rational.proofs.translate.omitted_letters.Goals as goal
+
+pub loop-row-init : goal.loop-row-init
+loop-row-init g c = ?
+
+pub loop-row-preserved : goal.loop-row-preserved
+loop-row-preserved g c = ?
+
+pub returns : goal.returns
+returns g c = ?
