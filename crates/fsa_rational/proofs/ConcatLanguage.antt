@@ -30,19 +30,19 @@ module _ {L : Type 0} (a b : Automaton L) (start one two m : Automaton L)
     (third : Extends two m (LeavesFinal a.finals 0 (length a.finals))) where
   pub concat_shape : IsConcat a b m
   concat_shape = record {
-      finals = third.finals ∙ second.finals ∙ first.finals ∙ finals;
-      only = λ e h. elim (third.only e h) [
-          inr r ↦ subst (ConcatEdge a b (length a.finals)) (sym r.2) (between r.0 r.1)
-        | inl h2 ↦ elim (second.only e h2) [
-            inr r ↦ subst (ConcatEdge a b (length a.finals)) (sym r.2) (of_second r.0 r.1)
-          | inl h1 ↦ elim (first.only e h1) [
-              inr r ↦ subst (ConcatEdge a b (length a.finals)) (sym r.2) (of_first r.0 r.1)
-            | inl h0 ↦ absurd (Contains-nil_cases e (subst (λ es. Contains es e) none h0))
-            ]
-          ]
-        ];
-      all = made;
-    }
+    finals = third.finals ∙ second.finals ∙ first.finals ∙ finals;
+    only = λ e h. elim (third.only e h) [
+      | inr r ↦ subst (ConcatEdge a b (length a.finals)) (sym r.2) (between r.0 r.1)
+      | inl h2 ↦ elim (second.only e h2) [
+        | inr r ↦ subst (ConcatEdge a b (length a.finals)) (sym r.2) (of_second r.0 r.1)
+        | inl h1 ↦ elim (first.only e h1) [
+          | inr r ↦ subst (ConcatEdge a b (length a.finals)) (sym r.2) (of_first r.0 r.1)
+          | inl h0 ↦ absurd (Contains-nil_cases e (subst (λ es. Contains es e) none h0))
+        ]
+      ]
+    ];
+    all = made;
+  }
     where
       made : (e : Edge L) → ConcatEdge a b (length a.finals) e → Contains m.edges e
       made e (of_first x h) = third.kept e (second.kept e (first.all e (x, h, refl)))
@@ -60,14 +60,14 @@ module _ {L : Type 0} (a b : Automaton L) (a_ok : IsWellFormed a) (b_ok : IsWell
       let at : slice_get (replicate (length a.finals) false ++ b.finals) s ≡ Some true = subst (λ fs. slice_get fs s ≡ Some true) is.finals h in
       let long : length (replicate (length a.finals) false) ≡ length a.finals = length-replicate (length a.finals) false in
       elim (slice_get-append_cases (replicate (length a.finals) false) b.finals s true at) [
-        inl front ↦ absurd (unmarked_states (length a.finals) s front)
-      | inr r ↦ record {
-            in_first = λ l. let e : s ≡ r.0 + length (replicate (length a.finals) false) = r.1 in absurd (omega arith);
-            in_second = λ p f.
+        | inl front ↦ absurd (unmarked_states (length a.finals) s front)
+        | inr r ↦ record {
+          in_first = λ l. let e : s ≡ r.0 + length (replicate (length a.finals) false) = r.1 in absurd (omega arith);
+          in_second = λ p f.
               let e : s ≡ r.0 + length (replicate (length a.finals) false) = r.1 in
               let same : r.0 ≡ p = omega arith in
               subst (λ k. AcceptsFrom b k []) same (stop r.2);
-          }
+        }
       ]
 
   step : (e : Edge L) (w : List L) → Part e.to w → ConcatEdge a b (length a.finals) e → Part e.from (option_to_list e.letter ++ w)
@@ -77,19 +77,21 @@ module _ {L : Type 0} (a b : Automaton L) (a_ok : IsWellFormed a) (b_ok : IsWell
       let from : x.from ≡ x.from + 0 = omega arith in
       record {
         in_first = λ l.
-          let r = rest.in_first (omega arith) in
-          let there : AcceptsFrom a x.to r.0 = subst (λ k. AcceptsFrom a k r.0) (sym to) r.3 in
-          (option_to_list x.letter ++ r.0, r.1,
-           ap (λ v. option_to_list x.letter ++ v) r.2 ∙ sym (append_assoc (option_to_list x.letter) r.0 r.1),
-           subst (λ k. AcceptsFrom a k (option_to_list x.letter ++ r.0)) from (AcceptsFrom-step a x r.0 h there),
-           r.4);
+            let r = rest.in_first (omega arith) in
+            let there : AcceptsFrom a x.to r.0 = subst (λ k. AcceptsFrom a k r.0) (sym to) r.3 in (
+              option_to_list x.letter ++ r.0,
+              r.1,
+              ap (λ v. option_to_list x.letter ++ v) r.2 ∙ sym (append_assoc (option_to_list x.letter) r.0 r.1),
+              subst (λ k. AcceptsFrom a k (option_to_list x.letter ++ r.0)) from (AcceptsFrom-step a x r.0 h there),
+              r.4,
+            );
         in_second = λ p f. absurd (omega arith);
       }
   step e w rest (of_second x h) = record {
-      in_first = λ l. absurd (omega arith);
-      in_second = λ p f. let same : x.from ≡ p = omega arith in
+    in_first = λ l. absurd (omega arith);
+    in_second = λ p f. let same : x.from ≡ p = omega arith in
         subst (λ k. AcceptsFrom b k (option_to_list x.letter ++ w)) same (AcceptsFrom-step b x w h (rest.in_second x.to refl));
-    }
+  }
   step e w rest (between q h) =
       let within : q < length a.finals = slice_get_within a.finals q true h in
       let from : q ≡ q + 0 = omega arith in
@@ -105,7 +107,7 @@ module _ {L : Type 0} (a b : Automaton L) (a_ok : IsWellFormed a) (b_ok : IsWell
   second_final q h =
       let long : length (replicate (length a.finals) false) ≡ length a.finals = length-replicate (length a.finals) false in
       let at : slice_get (replicate (length a.finals) false ++ b.finals) (q + length a.finals) ≡ Some true =
-        subst (λ k. slice_get (replicate (length a.finals) false ++ b.finals) (q + k) ≡ Some true) long (slice_get-append_right (replicate (length a.finals) false) b.finals q ∙ h) in
+      subst (λ k. slice_get (replicate (length a.finals) false ++ b.finals) (q + k) ≡ Some true) long (slice_get-append_right (replicate (length a.finals) false) b.finals q ∙ h) in
       stop (subst (λ fs. slice_get fs (q + length a.finals) ≡ Some true) (sym is.finals) at)
 
   in_concat : (u v : List L) → Accepts a u → Accepts b v → Accepts m (u ++ v)
@@ -116,9 +118,10 @@ module _ {L : Type 0} (a b : Automaton L) (a_ok : IsWellFormed a) (b_ok : IsWell
       AcceptsFrom-moved a m 0 v (λ x c. is.all (shifted 0 x) (of_first x c)) (λ q h. skip (is.all (silent (q + 0) (length a.finals)) (between q h)) there) first
 
   pub concat_language : (w : List L) → Accepts m w ↔ IsConcatenation (Accepts a) (Accepts b) w
-  concat_language w =
-      (λ h. let r = (back h).in_first a_ok.start in (r.0, r.1, r.2, r.3, r.4),
-       λ (u, v, e, first, second). subst (λ y. Accepts m y) (sym e) (in_concat u v first second))
+  concat_language w = (
+    λ h. let r = (back h).in_first a_ok.start in (r.0, r.1, r.2, r.3, r.4),
+    λ (u, v, e, first, second). subst (λ y. Accepts m y) (sym e) (in_concat u v first second),
+  )
 
   letter_from : (e : Edge L) (x : L) → e.letter ≡ Some x → ConcatEdge a b (length a.finals) e → UsesLetter a x ⊎ UsesLetter b x
   letter_from e x reads (of_first y h) = inl (y, h, reads)

@@ -76,19 +76,19 @@ pub image_silent : {L M : Type 0} (rows : List (L × Option M)) (old : Edge L) (
 image_silent {L} {M} rows old now new none added =
     let with_letter : Option M → Edge M = λ y. record { from = old.from; letter = y; to = old.to } in
     Extends-same now new (λ e. e ≡ silent old.from old.to) (ImageOf rows old)
-      (λ e is. (None, subst (λ l. IsImage rows l None) (sym none) refl, is))
-      (λ e r. r.2 ∙ ap with_letter (subst (λ l. IsImage rows l r.0) none r.1))
-      added
+    (λ e is. (None, subst (λ l. IsImage rows l None) (sym none) refl, is))
+    (λ e r. r.2 ∙ ap with_letter (subst (λ l. IsImage rows l r.0) none r.1))
+    added
 
 -- the edges that stand for one with a letter
 pub image_rows : {L M : Type 0} (rows items : List (L × Option M)) (old : Edge L) (x : L) (now new : Automaton M) → old.letter ≡ Some x → ((row : L × Option M) → Contains items row ↔ (Contains rows row × (row.0 ≡ x))) → Extends now new (ComesFrom (λ row. record { from = old.from; letter = row.1; to = old.to }) items) → Extends now new (ImageOf rows old)
 image_rows {L} {M} rows items old x now new letter are added =
     Extends-same now new (ComesFrom (λ row. record { from = old.from; letter = row.1; to = old.to }) items) (ImageOf rows old)
-      (λ e r.
-        let row = (are r.0).0 r.1 in
-        let held : Contains rows (x, r.0.1) = subst (λ k. Contains rows (k, r.0.1)) row.1 row.0 in
-        (r.0.1, subst (λ l. IsImage rows l r.0.1) (sym letter) held, r.2))
-      (λ e r.
-        let held : Contains rows (x, r.0) = subst (λ l. IsImage rows l r.0) letter r.1 in
-        ((x, r.0), (are (x, r.0)).1 (held, refl), r.2))
-      added
+    (λ e r.
+    let row = (are r.0).0 r.1 in
+    let held : Contains rows (x, r.0.1) = subst (λ k. Contains rows (k, r.0.1)) row.1 row.0 in
+    (r.0.1, subst (λ l. IsImage rows l r.0.1) (sym letter) held, r.2))
+    (λ e r.
+    let held : Contains rows (x, r.0) = subst (λ l. IsImage rows l r.0) letter r.1 in
+    ((x, r.0), (are (x, r.0)).1 (held, refl), r.2))
+    added

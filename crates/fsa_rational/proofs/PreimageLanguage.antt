@@ -33,19 +33,19 @@ module _ {L M : Type 0} (table : List (L × Option M)) (rows : List (M × L)) (k
   behind p q letter h =
       let e : Edge L = record { from = p; letter = letter; to = q } in
       elim (looped.only e h) [
-        inr r ↦
-          let x : L = r.2.0 in
-          let is : e ≡ loop_at r.0 x = r.2.2 in
-          inr (x, (omitted x).0 r.2.1, ap (λ f. f.letter) is, ap (λ f. f.to) is ∙ sym (ap (λ f. f.from) is))
-      | inl h1 ↦ elim (made.only e h1) [
-          inl h0 ↦ absurd (Contains-nil_cases e (subst (λ es. Contains es e) none h0))
         | inr r ↦
-            let old : Edge M = r.0 in
-            let P : ℕ → ℕ → Type 0 = λ u v. Contains a.edges (record { from = u; letter = old.letter; to = v }) in
-            let from : p ≡ old.from = ap (λ f. f.from) r.2.2 in
-            let to : q ≡ old.to = ap (λ f. f.to) r.2.2 in
-            let reads : letter ≡ r.2.0 = ap (λ f. f.letter) r.2.2 in
-            inl (old.letter, subst (λ v. P p v) (sym to) (subst (λ u. P u old.to) (sym from) r.1), subst (λ l. IsPreimage rows old.letter l) (sym reads) r.2.1)
+            let x : L = r.2.0 in
+            let is : e ≡ loop_at r.0 x = r.2.2 in
+            inr (x, (omitted x).0 r.2.1, ap (λ f. f.letter) is, ap (λ f. f.to) is ∙ sym (ap (λ f. f.from) is))
+        | inl h1 ↦ elim (made.only e h1) [
+          | inl h0 ↦ absurd (Contains-nil_cases e (subst (λ es. Contains es e) none h0))
+          | inr r ↦
+              let old : Edge M = r.0 in
+              let P : ℕ → ℕ → Type 0 = λ u v. Contains a.edges (record { from = u; letter = old.letter; to = v }) in
+              let from : p ≡ old.from = ap (λ f. f.from) r.2.2 in
+              let to : q ≡ old.to = ap (λ f. f.to) r.2.2 in
+              let reads : letter ≡ r.2.0 = ap (λ f. f.letter) r.2.2 in
+              inl (old.letter, subst (λ v. P p v) (sym to) (subst (λ u. P u old.to) (sym from) r.1), subst (λ l. IsPreimage rows old.letter l) (sym reads) r.2.1)
         ]
       ]
 
@@ -65,16 +65,16 @@ module _ {L M : Type 0} (table : List (L × Option M)) (rows : List (M × L)) (k
   down {p} (read {q = q} {x = x} {w = v} h rest) =
       let more : (w : List M) × AcceptsFrom a q w × Translates table v w = down rest in
       elim (behind p q (Some x) h) [
-        inl r ↦ down_from p q r.0 (Some x) x v refl r.1 r.2 more
-      | inr r ↦
-          let same : r.0 ≡ x = same_Some r.0 x (sym r.2) in
-          (more.0, subst (λ k. AcceptsFrom a k more.0) r.3 more.1, omit (subst (λ k. Contains table (k, None)) same r.1) more.2)
+        | inl r ↦ down_from p q r.0 (Some x) x v refl r.1 r.2 more
+        | inr r ↦
+            let same : r.0 ≡ x = same_Some r.0 x (sym r.2) in
+            (more.0, subst (λ k. AcceptsFrom a k more.0) r.3 more.1, omit (subst (λ k. Contains table (k, None)) same r.1) more.2)
       ]
   down {p} (skip {q = q} {w = v} h rest) =
       let more : (w : List M) × AcceptsFrom a q w × Translates table v w = down rest in
       elim (behind p q None h) [
-        inl r ↦ down_silent p q r.0 v r.1 r.2 more
-      | inr r ↦ let clash : None ≡ Some r.0 = r.2 in absurd (cc)
+        | inl r ↦ down_silent p q r.0 v r.1 r.2 more
+        | inr r ↦ let clash : None ≡ Some r.0 = r.2 in absurd (cc)
       ]
 
   new_edge : (p q : ℕ) (y : Option M) (letter : Option L) → Contains a.edges (record { from = p; letter = y; to = q }) → IsPreimage rows y letter → Contains m.edges (record { from = p; letter = letter; to = q })
@@ -110,29 +110,29 @@ module _ {L M : Type 0} (table : List (L × Option M)) (rows : List (M × L)) (k
   pub preimage_letters : (x : L) → UsesLetter m x → (z : Option M) × Contains table (x, z)
   unfolding from_a is_loop
   preimage_letters x (e, h, reads) = elim (behind e.from e.to e.letter h) [
-      inl r ↦ letter_row r.0 e.letter x reads r.2
+    | inl r ↦ letter_row r.0 e.letter x reads r.2
     | inr r ↦ let same : r.0 ≡ x = same_Some r.0 x (sym r.2 ∙ reads) in (None, subst (λ k. Contains table (k, None)) same r.1)
-    ]
+  ]
 
 -- the edge that stands for a silent one
 pub preimage_silent : {L M : Type 0} (rows : List (M × L)) (old : Edge M) (now new : Automaton L) → old.letter ≡ None → Extends now new (λ e. e ≡ silent old.from old.to) → Extends now new (PreimageOf rows old)
 preimage_silent {L} {M} rows old now new none added =
     let with_letter : Option L → Edge L = λ y. record { from = old.from; letter = y; to = old.to } in
     Extends-same now new (λ e. e ≡ silent old.from old.to) (PreimageOf rows old)
-      (λ e is. (None, subst (λ l. IsPreimage rows l None) (sym none) refl, is))
-      (λ e r. r.2 ∙ ap with_letter (subst (λ l. IsPreimage rows l r.0) none r.1))
-      added
+    (λ e is. (None, subst (λ l. IsPreimage rows l None) (sym none) refl, is))
+    (λ e r. r.2 ∙ ap with_letter (subst (λ l. IsPreimage rows l r.0) none r.1))
+    added
 
 -- the edges that stand for one with a letter
 pub preimage_rows : {L M : Type 0} (rows items : List (M × L)) (old : Edge M) (y : M) (now new : Automaton L) → old.letter ≡ Some y → ((row : M × L) → Contains items row ↔ (Contains rows row × (row.0 ≡ y))) → Extends now new (ComesFrom (λ row. record { from = old.from; letter = Some row.1; to = old.to }) items) → Extends now new (PreimageOf rows old)
 preimage_rows {L} {M} rows items old y now new letter are added =
     let with_letter : Option L → Edge L = λ l. record { from = old.from; letter = l; to = old.to } in
     Extends-same now new (ComesFrom (λ row. record { from = old.from; letter = Some row.1; to = old.to }) items) (PreimageOf rows old)
-      (λ e r.
-        let row = (are r.0).0 r.1 in
-        let held : Contains rows (y, r.0.1) = subst (λ k. Contains rows (k, r.0.1)) row.1 row.0 in
-        (Some r.0.1, subst (λ l. IsPreimage rows l (Some r.0.1)) (sym letter) (r.0.1, held, refl), r.2))
-      (λ e r.
-        let there : IsPreimage rows (Some y) r.0 = subst (λ l. IsPreimage rows l r.0) letter r.1 in
-        ((y, there.0), (are (y, there.0)).1 (there.1, refl), r.2 ∙ ap with_letter there.2))
-      added
+    (λ e r.
+    let row = (are r.0).0 r.1 in
+    let held : Contains rows (y, r.0.1) = subst (λ k. Contains rows (k, r.0.1)) row.1 row.0 in
+    (Some r.0.1, subst (λ l. IsPreimage rows l (Some r.0.1)) (sym letter) (r.0.1, held, refl), r.2))
+    (λ e r.
+    let there : IsPreimage rows (Some y) r.0 = subst (λ l. IsPreimage rows l r.0) letter r.1 in
+    ((y, there.0), (are (y, there.0)).1 (there.1, refl), r.2 ∙ ap with_letter there.2))
+    added

@@ -25,16 +25,16 @@ module _ {L : Type 0} (a : Automaton L) (start one m : Automaton L)
     (first : Extends start one (ComesFrom (turned 1) a.edges)) (second : Extends one m (EntersFinal 0 a.finals 1)) where
   pub reverse_shape : IsReverse a m
   reverse_shape = record {
-      finals = second.finals ∙ first.finals ∙ finals;
-      only = λ e h. elim (second.only e h) [
-          inr r ↦ subst (ReverseEdge a) (sym r.2) (enter r.0 r.1)
-        | inl h1 ↦ elim (first.only e h1) [
-            inr r ↦ subst (ReverseEdge a) (sym r.2) (of_operand r.0 r.1)
-          | inl h0 ↦ absurd (Contains-nil_cases e (subst (λ es. Contains es e) none h0))
-          ]
-        ];
-      all = made;
-    }
+    finals = second.finals ∙ first.finals ∙ finals;
+    only = λ e h. elim (second.only e h) [
+      | inr r ↦ subst (ReverseEdge a) (sym r.2) (enter r.0 r.1)
+      | inl h1 ↦ elim (first.only e h1) [
+        | inr r ↦ subst (ReverseEdge a) (sym r.2) (of_operand r.0 r.1)
+        | inl h0 ↦ absurd (Contains-nil_cases e (subst (λ es. Contains es e) none h0))
+      ]
+    ];
+    all = made;
+  }
     where
       made : (e : Edge L) → ReverseEdge a e → Contains m.edges e
       made e (of_operand x h) = second.kept e (first.all e (x, h, refl))
@@ -61,16 +61,16 @@ module _ {L : Type 0} (a : Automaton L) (a_ok : IsWellFormed a) (m : Automaton L
 
   step : (e : Edge L) (w : List L) → Part e.to w → ReverseEdge a e → Part e.from (option_to_list e.letter ++ w)
   step e w rest (of_operand x h) = record {
-      at_start = λ z. absurd (omega arith);
-      at_state = λ p f v from_p.
+    at_start = λ z. absurd (omega arith);
+    at_state = λ p f v from_p.
         let same : p ≡ x.to = omega arith in
         let longer = AcceptsFrom-step a x v h (subst (λ k. AcceptsFrom a k v) same from_p) in
         subst (λ y. Accepts a y) (reverse_letter x.letter w v) (rest.at_state x.from refl (option_to_list x.letter ++ v) longer);
-    }
+  }
   step e w rest (enter q h) = record {
-      at_start = λ _. subst (λ y. Accepts a y) (append-nil (reverse w)) (rest.at_state q refl [] (stop h));
-      at_state = λ p f v from_p. absurd (omega arith);
-    }
+    at_start = λ _. subst (λ y. Accepts a y) (append-nil (reverse w)) (rest.at_state q refl [] (stop h));
+    at_state = λ p f v from_p. absurd (omega arith);
+  }
 
   back : {s : ℕ} {w : List L} → AcceptsFrom m s w → Part s w
   back = AcceptsFrom-least m Part final (λ e w h rest. step e w rest (is.only e h))
@@ -88,9 +88,10 @@ module _ {L : Type 0} (a : Automaton L) (a_ok : IsWellFormed a) (m : Automaton L
       turn after more (skip (is.all (turned 1 e) (of_operand e h)) rest)
 
   pub reverse_language : (w : List L) → Accepts m w ↔ Accepts a (reverse w)
-  reverse_language w =
-      (λ h. (back h).at_start refl,
-       λ h. subst (λ y. Accepts m y) (append-nil (reverse (reverse w)) ∙ reverse-reverse w) (turn [] h (stop start_final)))
+  reverse_language w = (
+    λ h. (back h).at_start refl,
+    λ h. subst (λ y. Accepts m y) (append-nil (reverse (reverse w)) ∙ reverse-reverse w) (turn [] h (stop start_final)),
+  )
 
   letter_from : (e : Edge L) (x : L) → e.letter ≡ Some x → ReverseEdge a e → UsesLetter a x
   letter_from e x reads (of_operand y h) = (y, h, reads)

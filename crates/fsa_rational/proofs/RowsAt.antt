@@ -47,10 +47,11 @@ module _ {K V : Type 0} (R : K → K → Ordering) (o : IsTotalOrder R) (key : K
   pub rows_at_is : ((x y : K) → R x y ≡ Equal → x ≡ y) → ((x : K) → R x x ≡ Equal) → (rows rest : List (K × V)) (i j : ℕ) → rest ≡ drop i rows → i ≤ length rows → j ≤ length rest → IsPartitionPoint (λ row. is_lt (R row.0 key) ≡ true) (λ row. is_lt (R row.0 key) ≡ false) rows i → IsPartitionPoint (λ row. is_le (R row.0 key) ≡ true) (λ row. is_le (R row.0 key) ≡ false) rest j → (row : K × V) → Contains (take j rest) row ↔ (Contains rows row × (row.0 ≡ key))
   rows_at_is exact itself rows rest i j is_rest within rest_within start end row =
       let both = rows_out index 1 rows rest rows i j is_rest refl within rest_within
-        ((λ k d a b. lt_is (R (get_or rows k d).0 key) ∙ start.0 k d a b), (λ k d a b. lt_is (R (get_or rows k d).0 key) ∙ start.1 k d a b))
-        ((λ k d a b. le_is (R (get_or rest k d).0 key) ∙ end.0 k d a b), (λ k d a b. le_is (R (get_or rest k d).0 key) ∙ end.1 k d a b)) row in
-      (λ h. let r = both.0 h in (r.0, exact row.0 key (equal_index (R row.0 key) r.1)),
-       λ r. both.1 (r.0, equal_itself (R row.0 key) (subst (λ k. R row.0 k ≡ Equal) r.1 (itself row.0))))
+      ((λ k d a b. lt_is (R (get_or rows k d).0 key) ∙ start.0 k d a b), (λ k d a b. lt_is (R (get_or rows k d).0 key) ∙ start.1 k d a b))
+      ((λ k d a b. le_is (R (get_or rest k d).0 key) ∙ end.0 k d a b), (λ k d a b. le_is (R (get_or rest k d).0 key) ∙ end.1 k d a b)) row in (
+        λ h. let r = both.0 h in (r.0, exact row.0 key (equal_index (R row.0 key) r.1)),
+        λ r. both.1 (r.0, equal_itself (R row.0 key) (subst (λ k. R row.0 k ≡ Equal) r.1 (itself row.0))),
+      )
 
 own_reverse : (o : Ordering) → o ≡ ordering_reverse o → o ≡ Equal
 own_reverse Less e = cc

@@ -28,19 +28,19 @@ module _ {L : Type 0} (a : Automaton L) (start one two m : Automaton L)
     (third : Extends two m (LeavesFinal a.finals 1 0)) where
   pub star_shape : IsStar a m
   star_shape = record {
-      finals = third.finals ∙ second.finals ∙ first.finals ∙ finals;
-      only = λ e h. elim (third.only e h) [
-          inr r ↦ subst (StarEdge a) (sym r.2) (again r.0 r.1)
-        | inl h2 ↦ elim (second.only e h2) [
-            inr is ↦ subst (StarEdge a) (sym is) enter
-          | inl h1 ↦ elim (first.only e h1) [
-              inr r ↦ subst (StarEdge a) (sym r.2) (of_operand r.0 r.1)
-            | inl h0 ↦ absurd (Contains-nil_cases e (subst (λ es. Contains es e) none h0))
-            ]
-          ]
-        ];
-      all = made;
-    }
+    finals = third.finals ∙ second.finals ∙ first.finals ∙ finals;
+    only = λ e h. elim (third.only e h) [
+      | inr r ↦ subst (StarEdge a) (sym r.2) (again r.0 r.1)
+      | inl h2 ↦ elim (second.only e h2) [
+        | inr is ↦ subst (StarEdge a) (sym is) enter
+        | inl h1 ↦ elim (first.only e h1) [
+          | inr r ↦ subst (StarEdge a) (sym r.2) (of_operand r.0 r.1)
+          | inl h0 ↦ absurd (Contains-nil_cases e (subst (λ es. Contains es e) none h0))
+        ]
+      ]
+    ];
+    all = made;
+  }
     where
       made : (e : Edge L) → StarEdge a e → Contains m.edges e
       made e (of_operand x h) = third.kept e (second.kept e (first.all e (x, h, refl)))
@@ -63,26 +63,28 @@ module _ {L : Type 0} (a : Automaton L) (a_ok : IsWellFormed a) (m : Automaton L
 
   step : (e : Edge L) (w : List L) → Part e.to w → StarEdge a e → Part e.from (option_to_list e.letter ++ w)
   step e w rest (of_operand x h) = record {
-      at_start = λ z. absurd (omega arith);
-      in_operand = λ p f.
+    at_start = λ z. absurd (omega arith);
+    in_operand = λ p f.
         let r = rest.in_operand x.to refl in
-        let same : x.from ≡ p = omega arith in
-        (option_to_list x.letter ++ r.0, r.1,
-         ap (λ v. option_to_list x.letter ++ v) r.2 ∙ sym (append_assoc (option_to_list x.letter) r.0 r.1),
-         subst (λ k. AcceptsFrom a k (option_to_list x.letter ++ r.0)) same (AcceptsFrom-step a x r.0 h r.3),
-         r.4);
-    }
+        let same : x.from ≡ p = omega arith in (
+          option_to_list x.letter ++ r.0,
+          r.1,
+          ap (λ v. option_to_list x.letter ++ v) r.2 ∙ sym (append_assoc (option_to_list x.letter) r.0 r.1),
+          subst (λ k. AcceptsFrom a k (option_to_list x.letter ++ r.0)) same (AcceptsFrom-step a x r.0 h r.3),
+          r.4,
+        );
+  }
   step e w rest enter = record {
-      at_start = λ _.
+    at_start = λ _.
         let r = rest.in_operand 0 (omega arith) in
         let words = r.4 in
         (r.0 ∷ words.0, r.2 ∙ ap (λ v. r.0 ++ v) words.1, All-cons (Accepts a) r.0 words.0 r.3 words.2);
-      in_operand = λ p f. absurd (omega arith);
-    }
+    in_operand = λ p f. absurd (omega arith);
+  }
   step e w rest (again q h) = record {
-      at_start = λ z. absurd (omega arith);
-      in_operand = λ p f. let same : q ≡ p = omega arith in ([], w, refl, subst (λ k. AcceptsFrom a k []) same (stop h), rest.at_start refl);
-    }
+    at_start = λ z. absurd (omega arith);
+    in_operand = λ p f. let same : q ≡ p = omega arith in ([], w, refl, subst (λ k. AcceptsFrom a k []) same (stop h), rest.at_start refl);
+  }
 
   back : {s : ℕ} {w : List L} → AcceptsFrom m s w → Part s w
   back = AcceptsFrom-least m Part final (λ e w h rest. step e w rest (is.only e h))
@@ -95,8 +97,8 @@ module _ {L : Type 0} (a : Automaton L) (a_ok : IsWellFormed a) (m : Automaton L
   in_star (u ∷ words) all =
       let rest : Accepts m (joined words) = in_star words (All-tail (Accepts a) u words all) in
       skip (is.all (silent 0 1) enter)
-        (AcceptsFrom-moved a m 1 (joined words) (λ x c. is.all (shifted 1 x) (of_operand x c))
-          (λ q h. skip (is.all (silent (q + 1) 0) (again q h)) rest) (All-head (Accepts a) u words all))
+      (AcceptsFrom-moved a m 1 (joined words) (λ x c. is.all (shifted 1 x) (of_operand x c))
+      (λ q h. skip (is.all (silent (q + 1) 0) (again q h)) rest) (All-head (Accepts a) u words all))
 
   pub star_language : (w : List L) → Accepts m w ↔ IsRepetition (Accepts a) w
   star_language w = (λ h. (back h).at_start refl, λ (words, e, all). subst (λ y. Accepts m y) (sym e) (in_star words all))

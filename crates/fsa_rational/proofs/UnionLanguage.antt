@@ -31,23 +31,23 @@ module _ {L : Type 0} (a b : Automaton L) (n : ℕ) (raised : n ≡ length a.fin
     (third : Extends two three (λ e. e ≡ silent 0 1)) (fourth : Extends three m (λ e. e ≡ silent 0 n)) where
   pub union_shape : IsUnion a b n m
   union_shape = record {
-      raised = raised;
-      finals = fourth.finals ∙ third.finals ∙ second.finals ∙ first.finals ∙ finals;
-      only = λ e h. elim (fourth.only e h) [
-          inr is ↦ subst (UnionEdge a b n) (sym is) to_second
-        | inl h3 ↦ elim (third.only e h3) [
-            inr is ↦ subst (UnionEdge a b n) (sym is) to_first
-          | inl h2 ↦ elim (second.only e h2) [
-              inr r ↦ subst (UnionEdge a b n) (sym r.2) (of_second r.0 r.1)
-            | inl h1 ↦ elim (first.only e h1) [
-                inr r ↦ subst (UnionEdge a b n) (sym r.2) (of_first r.0 r.1)
-              | inl h0 ↦ absurd (Contains-nil_cases e (subst (λ es. Contains es e) none h0))
-              ]
-            ]
+    raised = raised;
+    finals = fourth.finals ∙ third.finals ∙ second.finals ∙ first.finals ∙ finals;
+    only = λ e h. elim (fourth.only e h) [
+      | inr is ↦ subst (UnionEdge a b n) (sym is) to_second
+      | inl h3 ↦ elim (third.only e h3) [
+        | inr is ↦ subst (UnionEdge a b n) (sym is) to_first
+        | inl h2 ↦ elim (second.only e h2) [
+          | inr r ↦ subst (UnionEdge a b n) (sym r.2) (of_second r.0 r.1)
+          | inl h1 ↦ elim (first.only e h1) [
+            | inr r ↦ subst (UnionEdge a b n) (sym r.2) (of_first r.0 r.1)
+            | inl h0 ↦ absurd (Contains-nil_cases e (subst (λ es. Contains es e) none h0))
           ]
-        ];
-      all = made;
-    }
+        ]
+      ]
+    ];
+    all = made;
+  }
     where
       made : (e : Edge L) → UnionEdge a b n e → Contains m.edges e
       made e (of_first x h) = fourth.kept e (third.kept e (second.kept e (first.all e (x, h, refl))))
@@ -86,8 +86,8 @@ module _ {L : Type 0} (a b : Automaton L) (a_ok : IsWellFormed a) (b_ok : IsWell
       let raised : n ≡ length a.finals + 1 = is.raised in
       let at : slice_get ((false ∷ a.finals) ++ b.finals) s ≡ Some true = subst (λ fs. slice_get fs s ≡ Some true) is.finals h in
       elim (slice_get-append_cases (false ∷ a.finals) b.finals s true at) [
-        inl front ↦ at_front s front
-      | inr r ↦ final_second r.0 s r.2 (let e : s ≡ r.0 + length (false ∷ a.finals) = r.1 in let l : length (false ∷ a.finals) ≡ suc (length a.finals) = refl in omega arith)
+        | inl front ↦ at_front s front
+        | inr r ↦ final_second r.0 s r.2 (let e : s ≡ r.0 + length (false ∷ a.finals) = r.1 in let l : length (false ∷ a.finals) ≡ suc (length a.finals) = refl in omega arith)
       ]
     where
       at_front : (k : ℕ) → slice_get (false ∷ a.finals) k ≡ Some true → Part k []
@@ -101,7 +101,7 @@ module _ {L : Type 0} (a b : Automaton L) (a_ok : IsWellFormed a) (b_ok : IsWell
       record {
         at_start = λ z. absurd (omega arith);
         in_first = λ q f _. let same : x.from ≡ q = omega arith in
-          subst (λ k. AcceptsFrom a k (option_to_list x.letter ++ w)) same (AcceptsFrom-step a x w h (rest.in_first x.to refl ends.1));
+            subst (λ k. AcceptsFrom a k (option_to_list x.letter ++ w)) same (AcceptsFrom-step a x w h (rest.in_first x.to refl ends.1));
         in_second = λ q f. absurd (omega arith);
       }
   step e w rest (of_second x h) =
@@ -110,7 +110,7 @@ module _ {L : Type 0} (a b : Automaton L) (a_ok : IsWellFormed a) (b_ok : IsWell
         at_start = λ z. absurd (omega arith);
         in_first = λ q f l. absurd (omega arith);
         in_second = λ q f. let same : x.from ≡ q = omega arith in
-          subst (λ k. AcceptsFrom b k (option_to_list x.letter ++ w)) same (AcceptsFrom-step b x w h (rest.in_second x.to refl));
+            subst (λ k. AcceptsFrom b k (option_to_list x.letter ++ w)) same (AcceptsFrom-step b x w h (rest.in_second x.to refl));
       }
   step e w rest to_first =
       let raised : n ≡ length a.finals + 1 = is.raised in
@@ -134,7 +134,7 @@ module _ {L : Type 0} (a b : Automaton L) (a_ok : IsWellFormed a) (b_ok : IsWell
   first_final q h =
       let e : q + 1 ≡ suc q = omega arith in
       let at : slice_get ((false ∷ a.finals) ++ b.finals) (suc q) ≡ Some true =
-        slice_get-append_left (false ∷ a.finals) b.finals (suc q) (let l = slice_get_within a.finals q true h in let k : length (false ∷ a.finals) ≡ suc (length a.finals) = refl in omega arith) ∙ h in
+      slice_get-append_left (false ∷ a.finals) b.finals (suc q) (let l = slice_get_within a.finals q true h in let k : length (false ∷ a.finals) ≡ suc (length a.finals) = refl in omega arith) ∙ h in
       stop (subst (λ k. slice_get m.finals k ≡ Some true) (sym e) (subst (λ fs. slice_get fs (suc q) ≡ Some true) (sym is.finals) at))
 
   second_final : (q : ℕ) → IsFinal b q → AcceptsFrom m (q + n) []
@@ -146,12 +146,12 @@ module _ {L : Type 0} (a b : Automaton L) (a_ok : IsWellFormed a) (b_ok : IsWell
   in_union : (w : List L) → Accepts a w ⊎ Accepts b w → Accepts m w
   in_union w (inl h) =
       skip (is.all (silent 0 1) to_first)
-        (subst (λ v. AcceptsFrom m 1 v) (append-nil w) (AcceptsFrom-moved a m 1 [] (λ e c. is.all (shifted 1 e) (of_first e c)) first_final h))
+      (subst (λ v. AcceptsFrom m 1 v) (append-nil w) (AcceptsFrom-moved a m 1 [] (λ e c. is.all (shifted 1 e) (of_first e c)) first_final h))
   in_union w (inr h) =
       let e : 0 + n ≡ n = omega arith in
       skip (is.all (silent 0 n) to_second)
-        (subst (λ k. AcceptsFrom m k w) e
-          (subst (λ v. AcceptsFrom m (0 + n) v) (append-nil w) (AcceptsFrom-moved b m n [] (λ x c. is.all (shifted n x) (of_second x c)) second_final h)))
+      (subst (λ k. AcceptsFrom m k w) e
+      (subst (λ v. AcceptsFrom m (0 + n) v) (append-nil w) (AcceptsFrom-moved b m n [] (λ x c. is.all (shifted n x) (of_second x c)) second_final h)))
 
   pub union_language : (w : List L) → Accepts m w ↔ (Accepts a w ⊎ Accepts b w)
   union_language w = (λ h. (back h).at_start refl, in_union w)

@@ -56,11 +56,11 @@ unmarked_states (suc n) (suc k) e = unmarked_states n k e
 -- one state more, and of all of them one is final
 pub one_final : (n at k : ℕ) → slice_get (set (replicate n false ++ false ∷ []) at true) k ≡ Some true → k ≡ at
 one_final n at k e = elim (cases_eq k at) [
-    inl same ↦ same
+  | inl same ↦ same
   | inr other ↦
       let old : slice_get (replicate n false ++ false ∷ []) k ≡ Some true = sym (slice_get-set_other (replicate n false ++ false ∷ []) at k true other) ∙ e in
       absurd (elim (slice_get-append_cases (replicate n false) (false ∷ []) k true old) [ inl front ↦ unmarked_states n k front | inr r ↦ last r.0 r.2 ])
-  ]
+]
   where
     last : (j : ℕ) → slice_get (false ∷ []) j ≡ Some true → ⊥
     last zero f = cc
@@ -75,3 +75,8 @@ is_final_set n at l = let long = one_more_states n in slice_get-set_same (replic
 -- a list and its permutation have the same elements
 pub same_elements : {X : Type 0} (xs ys : List X) → IsPermutation xs ys → (x : X) → Contains ys x ↔ Contains xs x
 same_elements xs ys moved x = (λ h. Contains-permutation ys xs x (IsPermutation-sym xs ys moved) h, λ h. Contains-permutation xs ys x moved h)
+
+pub same_elements_then : {X : Type 0} (P : X → Type 0) (xs ys : List X) → IsPermutation xs ys → ((x : X) → Contains xs x ↔ P x) → (x : X) → Contains ys x ↔ P x
+same_elements_then P xs ys moved is x =
+    let same = same_elements xs ys moved x in
+    (λ h. (is x).0 (same.0 h), λ p. same.1 ((is x).1 p))

@@ -50,7 +50,12 @@ pub fn add_silent<L: Copy>(m: &mut Fsa<L>, from: usize, to: usize) -> Result<(),
 }
 
 /// Adds a silent edge from each final state, its number raised, to a state.
-pub fn leave_finals<L: Copy>(m: &mut Fsa<L>, finals: &[bool], by: usize, to: usize) -> Result<(), AllocError>
+pub fn leave_finals<L: Copy>(
+    m: &mut Fsa<L>,
+    finals: &[bool],
+    by: usize,
+    to: usize,
+) -> Result<(), AllocError>
     requires room { length finals.now + by ≤ length m.old.finals }
     requires to { to < length m.old.finals }
     ensures { OnOk result (Extends m.old m.new (LeavesFinal finals.now by to)) }
@@ -65,7 +70,12 @@ pub fn leave_finals<L: Copy>(m: &mut Fsa<L>, finals: &[bool], by: usize, to: usi
 }
 
 /// Adds a silent edge from a state to each final state, its number raised.
-pub fn enter_finals<L: Copy>(m: &mut Fsa<L>, from: usize, finals: &[bool], by: usize) -> Result<(), AllocError>
+pub fn enter_finals<L: Copy>(
+    m: &mut Fsa<L>,
+    from: usize,
+    finals: &[bool],
+    by: usize,
+) -> Result<(), AllocError>
     requires room { length finals.now + by ≤ length m.old.finals }
     requires from { from < length m.old.finals }
     ensures { OnOk result (Extends m.old m.new (EntersFinal from finals.now by)) }

@@ -8,7 +8,7 @@ ghost use Rattle.fsa_rational.specs.Shapes.{Extends, ForEach, IsLettered};
 ghost use Rattle.fsa_rational.specs.Bypass.{TakesOver, IsBypassed};
 
 use fsa::{Edge, Fsa};
-use fsa_walk::{close, Marked, Rows};
+use fsa_walk::{Marked, Rows, close};
 use fsm_base::Letter;
 use std::alloc::AllocError;
 
@@ -28,7 +28,12 @@ pub fn without_empty<L: Letter>(a: &Fsa<L>) -> Result<Fsa<L>, AllocError>
 
 /// Gives each of the states the lettered edges of the states that silent edges reach from it, and makes it final
 /// where one of them is.
-fn bypass<L: Letter>(m: &mut Fsa<L>, a: &Fsa<L>, rows: &Rows<L>, states: &[usize]) -> Result<(), AllocError>
+fn bypass<L: Letter>(
+    m: &mut Fsa<L>,
+    a: &Fsa<L>,
+    rows: &Rows<L>,
+    states: &[usize],
+) -> Result<(), AllocError>
     requires edges { m.old.edges ≡ [] }
     requires finals { m.old.finals ≡ replicate (length a.now.finals) false }
     requires within { AreWithin rows.now (length a.now.finals) }
@@ -72,7 +77,13 @@ fn reach<L: Letter>(rows: &Rows<L>, state: usize, reached: &mut Marked) -> Resul
 }
 
 /// Gives a state the lettered edges of the states that it reaches, and makes it final where one of them is.
-fn take_over<L: Letter>(m: &mut Fsa<L>, state: usize, a: &Fsa<L>, rows: &Rows<L>, reached: &[usize]) -> Result<(), AllocError>
+fn take_over<L: Letter>(
+    m: &mut Fsa<L>,
+    state: usize,
+    a: &Fsa<L>,
+    rows: &Rows<L>,
+    reached: &[usize],
+) -> Result<(), AllocError>
     requires state { state < length m.old.finals }
     requires states { length m.old.finals ≡ length a.now.finals }
     requires within { AreWithin rows.now (length m.old.finals) }

@@ -14,7 +14,10 @@ use std::alloc::{AllocError, Global};
 /// The automaton of the words that the table gives for the words of `a`, letter by letter; a letter for which it
 /// gives none is left out. A letter that has no row stands in no word for which the table gives one, and a letter
 /// that has several rows stands for each.
-pub fn image<L: Letter, M: Letter>(a: &Fsa<L>, table: &[(L, Option<M>)]) -> Result<Fsa<M>, AllocError>
+pub fn image<L: Letter, M: Letter>(
+    a: &Fsa<L>,
+    table: &[(L, Option<M>)],
+) -> Result<Fsa<M>, AllocError>
     ensures letters { IfOk result (λ m. (y : M) → UsesLetter m y → (x : L) × Contains table.now (x, Some y)) }
     ensures language { IfOk result (λ m. (w : List M) → Accepts m w ↔ ((v : List L) × Accepts a.now v × Translates table.now v w)) }
 {
@@ -35,7 +38,11 @@ fn same_states<L: Letter, M: Letter>(a: &Fsa<L>) -> Result<Fsa<M>, AllocError>
 }
 
 /// Adds the edges that the rows give for an edge.
-fn add_image<L: Letter, M: Letter>(m: &mut Fsa<M>, edge: &Edge<L>, rows: &[(L, Option<M>)]) -> Result<(), AllocError>
+fn add_image<L: Letter, M: Letter>(
+    m: &mut Fsa<M>,
+    edge: &Edge<L>,
+    rows: &[(L, Option<M>)],
+) -> Result<(), AllocError>
     requires from { edge.now.from < length m.old.finals }
     requires to { edge.now.to < length m.old.finals }
     requires sorted { IsSortedByKey (λ row. row.0) L.cmp rows.now }
@@ -56,7 +63,10 @@ fn add_image<L: Letter, M: Letter>(m: &mut Fsa<M>, edge: &Edge<L>, rows: &[(L, O
 
 /// The automaton of the words for which the table gives a word of `a`, letter by letter; a letter for which it
 /// gives none may stand anywhere. A letter that has no row stands in none of the words.
-pub fn preimage<L: Letter, M: Letter>(a: &Fsa<M>, table: &[(L, Option<M>)]) -> Result<Fsa<L>, AllocError>
+pub fn preimage<L: Letter, M: Letter>(
+    a: &Fsa<M>,
+    table: &[(L, Option<M>)],
+) -> Result<Fsa<L>, AllocError>
     ensures letters { IfOk result (λ m. (x : L) → UsesLetter m x → (y : Option M) × Contains table.now (x, y)) }
     ensures language { IfOk result (λ m. (v : List L) → Accepts m v ↔ ((w : List M) × Accepts a.now w × Translates table.now v w)) }
 {
@@ -70,7 +80,10 @@ pub fn preimage<L: Letter, M: Letter>(a: &Fsa<M>, table: &[(L, Option<M>)]) -> R
 }
 
 /// The rows that give a letter, each as that letter and the one that it stands for.
-fn kept_rows<L: Letter, M: Letter>(alloc: Global, table: &[(L, Option<M>)]) -> Result<Vec<(M, L)>, AllocError>
+fn kept_rows<L: Letter, M: Letter>(
+    alloc: Global,
+    table: &[(L, Option<M>)],
+) -> Result<Vec<(M, L)>, AllocError>
     ensures { IfOk result (λ rows. (row : M × L) → Contains rows.items row ↔ Contains table.now (row.1, Some row.0)) }
 {
     let mut rows = Vec::new(alloc);
@@ -83,7 +96,10 @@ fn kept_rows<L: Letter, M: Letter>(alloc: Global, table: &[(L, Option<M>)]) -> R
 }
 
 /// The letters for which the table gives none.
-fn omitted_letters<L: Letter, M: Letter>(alloc: Global, table: &[(L, Option<M>)]) -> Result<Vec<L>, AllocError>
+fn omitted_letters<L: Letter, M: Letter>(
+    alloc: Global,
+    table: &[(L, Option<M>)],
+) -> Result<Vec<L>, AllocError>
     ensures { IfOk result (λ letters. (x : L) → Contains letters.items x ↔ Contains table.now (x, None)) }
 {
     let mut letters = Vec::new(alloc);
@@ -96,7 +112,11 @@ fn omitted_letters<L: Letter, M: Letter>(alloc: Global, table: &[(L, Option<M>)]
 }
 
 /// Adds the edges for which the table gives an edge's letter.
-fn add_preimage<L: Letter, M: Letter>(m: &mut Fsa<L>, edge: &Edge<M>, rows: &[(M, L)]) -> Result<(), AllocError>
+fn add_preimage<L: Letter, M: Letter>(
+    m: &mut Fsa<L>,
+    edge: &Edge<M>,
+    rows: &[(M, L)],
+) -> Result<(), AllocError>
     requires from { edge.now.from < length m.old.finals }
     requires to { edge.now.to < length m.old.finals }
     requires sorted { IsSortedByKey (λ row. row.0) M.cmp rows.now }

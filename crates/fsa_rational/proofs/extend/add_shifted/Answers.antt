@@ -26,4 +26,4 @@ add_edge-requires-clause-to g c =
 pub loop-edge-preserved : goal.loop-edge-preserved
 loop-edge-preserved g c =
     comes_more (shifted c.args.by) c.args.edges.now c.loop-edge.edge-index c.edge-item.result c.loop-edge-test.true c.edge-item.is
-      c.args.m.now c.loop-edge.m c.add_edge.new.self c.loop-edge.invariant c.in_ok-add_edge.ensures.ok
+    c.args.m.now c.loop-edge.m c.add_edge.new.self c.loop-edge.invariant c.in_ok-add_edge.ensures.ok

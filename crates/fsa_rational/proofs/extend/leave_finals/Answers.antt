@@ -10,11 +10,11 @@ pub loop-state-preserved : goal.loop-state-preserved
 loop-state-preserved g c =
     let at = slice_get-get_or c.args.finals.now c.loop-state.state false c.loop-state-test.true in
     elim c.if-is_final.branch [
-      then-is_final+in_ok-add_silent w ↦
-        rw w.m-is (finals_more (λ q. silent (q + c.args.by) c.args.to) c.args.finals.now c.loop-state.state c.args.m.now c.loop-state.m w.add_silent.new.m
+      | then-is_final+in_ok-add_silent w ↦
+          rw w.m-is (finals_more (λ q. silent (q + c.args.by) c.args.to) c.args.finals.now c.loop-state.state c.args.m.now c.loop-state.m w.add_silent.new.m
           (at ∙ ap Some w.if-is_final.true) c.loop-state.invariant w.in_ok-add_silent.ensures)
-    | else-is_final w ↦
-        rw w.m-is (finals_past (λ q. silent (q + c.args.by) c.args.to) c.args.finals.now c.loop-state.state c.args.m.now c.loop-state.m (at ∙ ap Some w.if-is_final.false) c.loop-state.invariant)
+      | else-is_final w ↦
+          rw w.m-is (finals_past (λ q. silent (q + c.args.by) c.args.to) c.args.finals.now c.loop-state.state c.args.m.now c.loop-state.m (at ∙ ap Some w.if-is_final.false) c.loop-state.invariant)
     ]
 
 pub returns : goal.returns

@@ -19,9 +19,9 @@ returns g c =
     let a = c.args.a.now in
     let b = c.args.b.now in
     let shape = concat_shape a b c.in_ok-m.m c.add_shifted.new.m c.add_shifted-2.new.m c.leave_finals.new.m
-      (ap (λ m. m.edges) c.in_ok-m.ensures) (ap (λ m. m.finals) c.in_ok-m.ensures)
-      (rw c.edges.ensures.edges at c.in_ok-add_shifted.ensures) (rw (c.edges-2.ensures.edges, c.states.ensures.number) at c.in_ok-add_shifted-2.ensures)
-      (rw (c.finals.ensures.finals, c.states-2.ensures.number) at c.in_ok-leave_finals.ensures) in
+    (ap (λ m. m.edges) c.in_ok-m.ensures) (ap (λ m. m.finals) c.in_ok-m.ensures)
+    (rw c.edges.ensures.edges at c.in_ok-add_shifted.ensures) (rw (c.edges-2.ensures.edges, c.states.ensures.number) at c.in_ok-add_shifted-2.ensures)
+    (rw (c.finals.ensures.finals, c.states-2.ensures.number) at c.in_ok-leave_finals.ensures) in
     record {
       letters = concat_letters a b c.edges.ensures.formed c.edges-2.ensures.formed c.leave_finals.new.m shape;
       language = concat_language a b c.edges.ensures.formed c.edges-2.ensures.formed c.leave_finals.new.m shape;

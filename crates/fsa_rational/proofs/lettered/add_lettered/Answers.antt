@@ -12,11 +12,11 @@ add_edge-requires-clause-to g c =
 pub loop-edge-preserved : goal.loop-edge-preserved
 loop-edge-preserved g c =
     elim c.if-is_some.branch [
-      then-is_some+in_ok-add_edge w ↦
-        rw w.m-is (each_more (IsLettered c.args.from) c.args.edges.now c.loop-edge.edge-index c.edge-item.result c.loop-edge-test.true c.edge-item.is
+      | then-is_some+in_ok-add_edge w ↦
+          rw w.m-is (each_more (IsLettered c.args.from) c.args.edges.now c.loop-edge.edge-index c.edge-item.result c.loop-edge-test.true c.edge-item.is
           c.args.m.now c.loop-edge.m w.add_edge.new.self c.loop-edge.invariant
           (lettered_push c.args.from c.edge-item.result c.loop-edge.m w.add_edge.new.self (sym c.is_some.ensures ∙ w.if-is_some.true) w.in_ok-add_edge.ensures.ok))
-    | else-is_some w ↦
-        rw w.m-is (each_past (IsLettered c.args.from) c.args.edges.now c.loop-edge.edge-index c.edge-item.result c.loop-edge-test.true c.edge-item.is
+      | else-is_some w ↦
+          rw w.m-is (each_past (IsLettered c.args.from) c.args.edges.now c.loop-edge.edge-index c.edge-item.result c.loop-edge-test.true c.edge-item.is
           c.args.m.now c.loop-edge.m (λ f r. no_letter c.edge-item.result.letter (sym c.is_some.ensures ∙ w.if-is_some.false) r.0 r.1) c.loop-edge.invariant)
     ]

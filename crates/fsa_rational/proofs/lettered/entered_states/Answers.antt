@@ -15,19 +15,22 @@ add-requires-then-is_some g c =
 pub loop-edge-preserved : goal.loop-edge-preserved
 loop-edge-preserved g c =
     elim c.if-is_some.branch [
-      then-is_some+in_ok-add-2 w ↦
-        let now = c.loop-edge.states in
-        let new = w.add-then-is_some.new.self in
-        let adds = w.in_ok-add-2.ensures.ok in
-        rw w.states-is
-          (adds.grows.bound ∙ c.loop-edge.invariant.0,
-           Grows-keeps now new (λ k. k ≡ c.edge-item.result.to) adds.grows 0 c.loop-edge.invariant.1,
-           entered_more c.edges-edge-items.result.now c.loop-edge.edge-index c.edge-item.result c.loop-edge-test.true c.edge-item.is now c.loop-edge.invariant.2 new adds)
-    | else-is_some w ↦
-        rw w.states-is
-          (c.loop-edge.invariant.0, c.loop-edge.invariant.1,
-           entered_past c.edges-edge-items.result.now c.loop-edge.edge-index c.edge-item.result c.loop-edge-test.true c.edge-item.is c.loop-edge.states c.loop-edge.invariant.2
-             (sym c.is_some.ensures ∙ w.if-is_some.false))
+      | then-is_some+in_ok-add-2 w ↦
+          let now = c.loop-edge.states in
+          let new = w.add-then-is_some.new.self in
+          let adds = w.in_ok-add-2.ensures.ok in
+          rw w.states-is (
+            adds.grows.bound ∙ c.loop-edge.invariant.0,
+            Grows-keeps now new (λ k. k ≡ c.edge-item.result.to) adds.grows 0 c.loop-edge.invariant.1,
+            entered_more c.edges-edge-items.result.now c.loop-edge.edge-index c.edge-item.result c.loop-edge-test.true c.edge-item.is now c.loop-edge.invariant.2 new adds,
+          )
+      | else-is_some w ↦
+          rw w.states-is (
+            c.loop-edge.invariant.0,
+            c.loop-edge.invariant.1,
+            entered_past c.edges-edge-items.result.now c.loop-edge.edge-index c.edge-item.result c.loop-edge-test.true c.edge-item.is c.loop-edge.states c.loop-edge.invariant.2
+                (sym c.is_some.ensures ∙ w.if-is_some.false),
+          )
     ]
 
 pub returns-clause-targets : goal.returns-clause-targets

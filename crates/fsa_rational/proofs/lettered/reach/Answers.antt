@@ -12,6 +12,6 @@ returns g c =
     record {
       bound = on_ok_weaker c.close.result (λ a. a.grows.bound ∙ same) c.close.ensures.ok;
       reached = on_ok_weaker c.close.result
-        (λ a. reached_from c.args.rows.now c.args.state c.clear.new.self c.add.new.self c.close.new.states (ap (λ m. m.found) c.clear.ensures) c.in_ok-add.ensures.ok a)
-        c.close.ensures.ok;
+          (λ a. reached_from c.args.rows.now c.args.state c.clear.new.self c.add.new.self c.close.new.states (ap (λ m. m.found) c.clear.ensures) c.in_ok-add.ensures.ok a)
+          c.close.ensures.ok;
     }

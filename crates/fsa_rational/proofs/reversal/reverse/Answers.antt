@@ -17,7 +17,7 @@ add_turned-requires g c =
     let made = ap (λ m. m.finals) c.in_ok-m.ensures in
     let finals = ap (λ m. m.finals) c.set_final.ensures ∙ ap (λ fs. set fs 1 true) made in
     let long : length c.set_final.new.self.finals ≡ length a.finals + 1 =
-      ap length finals ∙ length-set (replicate (length a.finals) false ++ false ∷ []) 1 true ∙ one_more_states (length a.finals) in
+    ap length finals ∙ length-set (replicate (length a.finals) false ++ false ∷ []) 1 true ∙ one_more_states (length a.finals) in
     rw c.edges-edges.ensures.edges (FitsBelow-from a c.edges-edges.ensures.formed 1 _ (omega arith))
 
 pub returns : goal.returns
@@ -27,7 +27,7 @@ returns g c =
     let finals = ap (λ m. m.finals) c.set_final.ensures ∙ ap (λ fs. set fs 1 true) made in
     let none = ap (λ m. m.edges) c.set_final.ensures ∙ ap (λ m. m.edges) c.in_ok-m.ensures in
     let shape = reverse_shape a c.set_final.new.self c.add_turned.new.m c.enter_finals.new.m none finals
-      (rw c.edges-edges.ensures.edges at c.in_ok-add_turned.ensures) (rw c.finals.ensures.finals at c.in_ok-enter_finals.ensures) in
+    (rw c.edges-edges.ensures.edges at c.in_ok-add_turned.ensures) (rw c.finals.ensures.finals at c.in_ok-enter_finals.ensures) in
     record {
       letters = reverse_letters a c.edges-edges.ensures.formed c.enter_finals.new.m shape;
       language = reverse_language a c.edges-edges.ensures.formed c.enter_finals.new.m shape;

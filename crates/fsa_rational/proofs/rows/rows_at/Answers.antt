@@ -16,6 +16,6 @@ returns g c =
     let up = rising R o key rows c.requires in
     let up_rest = IsNonDecreasingBy-take (index R o key) m (drop i rows) (IsNonDecreasingBy-drop (index R o key) i rows up) in
     rows_at_is R o key g.met.K.Letter.equal_is_same (compares_itself R o) rows (take m (drop i rows)) i c.partition_point-2.result (take_rest rows i)
-      c.partition_point.ensures.bound c.partition_point-2.ensures.bound
-      (IsPartitionPoint-from_clause (λ row. is_lt (R row.0 key)) _ _ c.partition_point.ensures.partitioned (split_lt R o key rows up) (λ a r q k. search rules))
-      (IsPartitionPoint-from_clause (λ row. is_le (R row.0 key)) _ _ c.partition_point-2.ensures.partitioned (split_le R o key (take m (drop i rows)) up_rest) (λ a r q k. search rules))
+    c.partition_point.ensures.bound c.partition_point-2.ensures.bound
+    (IsPartitionPoint-from_clause (λ row. is_lt (R row.0 key)) _ _ c.partition_point.ensures.partitioned (split_lt R o key rows up) (λ a r q k. search rules))
+    (IsPartitionPoint-from_clause (λ row. is_le (R row.0 key)) _ _ c.partition_point-2.ensures.partitioned (split_le R o key (take m (drop i rows)) up_rest) (λ a r q k. search rules))

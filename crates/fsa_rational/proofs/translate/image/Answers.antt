@@ -24,7 +24,7 @@ add_image-requires-clause-sorted g c = rw c.deref.ensures.value c.sorted_rows-ro
 pub loop-edge-preserved : goal.loop-edge-preserved
 loop-edge-preserved g c =
     each_more (ImageOf c.sorted_rows-rows.result.items) c.edges-edge-items.result.now c.loop-edge.edge-index c.edge-item.result c.loop-edge-test.true c.edge-item.is
-      c.in_ok-m.m c.loop-edge.m c.add_image.new.m c.loop-edge.invariant (rw c.deref.ensures.value at c.in_ok-add_image.ensures)
+    c.in_ok-m.m c.loop-edge.m c.add_image.new.m c.loop-edge.invariant (rw c.deref.ensures.value at c.in_ok-add_image.ensures)
 
 pub returns : goal.returns
 returns g c =
