@@ -1,13 +1,12 @@
 -- A state takes over the edges of the states that it reaches, one after another.
-use Rattle.std.proofs.Common.{◌≡◌, ℕ, ◌+◌, ◌<◌, ◌≤◌, ◌⊎◌, ◌↔◌, List, [], ◌∷◌, ◌++◌, Bool, true, false, Option, Some, None, length, get_or, set, take, replicate, refl, subst, sym, ap, inl, inr, arith, ◌∙◌}
+use Rattle.std.proofs.Common.{◌≡◌, ℕ, ◌+◌, ◌<◌, ◌≤◌, ◌⊎◌, ◌↔◌, List, [], ◌∷◌, ◌++◌, Bool, true, false, Option, Some, None, length, get_or, set, take, replicate, refl, subst, sym, ap, inl, inr, ◌∙◌}
 use Rattle.std.specs.List.{Contains, slice_get}
 use Rattle.std.proofs.lemmas.Bool.{cases_eq, false≢true}
-use Rattle.std.proofs.lemmas.Option.{same_Some}
 use Rattle.std.proofs.lemmas.List.{take_more, take_all, length-set, length-replicate}
 use Rattle.std.proofs.lemmas.List.Elements.{Contains-push_cases, Contains-push, Contains-append_left}
 use Rattle.fsm_words.proofs.Members.{Contains-nil_cases}
 use Rattle.fsm_words.proofs.Places.{slice_get-set_same, slice_get-set_other}
-use Rattle.fsa.specs.Automaton.{Automaton, IsFinal, IsWellFormed}
+use Rattle.fsa.specs.Automaton.{Automaton, IsFinal}
 use Rattle.fsa.specs.declared.automaton.Edge.{Edge}
 use Rattle.fsa.proofs.Arcs.{edge_same}
 use Rattle.std.specs.Option.{is_some}

@@ -1,9 +1,9 @@
 -- An automaton whose entered states took over what silent edges reach from them has the same language, and no
 -- silent edge.
-use Rattle.std.proofs.Common.{◌≡◌, ℕ, ◌<◌, ◌↔◌, List, [], ◌∷◌, Bool, true, Option, Some, None, length, refl, subst, sym, ap, ◌∙◌}
-use Rattle.std.specs.List.{Contains, slice_get}
+use Rattle.std.proofs.Common.{◌≡◌, ℕ, ◌↔◌, List, Some, None, refl, subst, sym, ap, ◌∙◌}
+use Rattle.std.specs.List.{Contains}
 use Rattle.std.proofs.lemmas.Option.{same_Some}
-use Rattle.fsa.specs.Automaton.{Automaton, IsFinal, UsesLetter, HasNoSilentEdge}
+use Rattle.fsa.specs.Automaton.{Automaton, UsesLetter, HasNoSilentEdge}
 use Rattle.fsa.specs.Language.{AcceptsFrom, Accepts, stop, read, skip}
 use Rattle.fsa.specs.declared.automaton.Edge.{Edge}
 use Rattle.fsa_walk.specs.Reaches.{Reaches, here, along}

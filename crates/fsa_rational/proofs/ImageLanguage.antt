@@ -1,5 +1,5 @@
 -- The image: each edge carries what the table gives for its letter.
-use Rattle.std.proofs.Common.{◌≡◌, ℕ, ◌<◌, ◌↔◌, List, [], ◌∷◌, Bool, true, Option, Some, None, length, refl, subst, sym, ap, inl, inr, ◌∙◌}
+use Rattle.std.proofs.Common.{◌≡◌, ℕ, ◌↔◌, List, [], ◌∷◌, true, Option, Some, None, refl, subst, sym, ap, inl, inr, ◌∙◌}
 use Rattle.std.specs.List.{Contains, slice_get}
 use Rattle.fsm_words.specs.Words.{Translates, finish, keep, omit}
 use Rattle.fsm_words.proofs.Members.{Contains-nil_cases}

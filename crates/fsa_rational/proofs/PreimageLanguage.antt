@@ -1,6 +1,6 @@
 -- The preimage: each edge carries the letters for which the table gives its letter, and a letter for which the table
 -- gives none leads from each state to itself.
-use Rattle.std.proofs.Common.{◌≡◌, ℕ, ◌<◌, ◌⊎◌, ◌↔◌, List, [], ◌∷◌, Bool, true, Option, Some, None, length, refl, subst, sym, ap, inl, inr, ◌∙◌}
+use Rattle.std.proofs.Common.{◌≡◌, ℕ, ◌<◌, ◌⊎◌, ◌↔◌, List, [], ◌∷◌, true, Option, Some, None, length, refl, subst, sym, ap, inl, inr, ◌∙◌}
 use Rattle.std.specs.List.{Contains, slice_get}
 use Rattle.std.proofs.lemmas.Option.{same_Some}
 use Rattle.fsm_words.specs.Words.{Translates, finish, keep, omit}

@@ -1,6 +1,6 @@
 -- The reversal: each edge in the other direction, a new start from which silent edges lead to the final states, and
 -- the old start as the only final state.
-use Rattle.std.proofs.Common.{◌≡◌, ℕ, ◌+◌, ◌<◌, ◌≤◌, ◌↔◌, List, [], ◌∷◌, ◌++◌, reverse, Bool, true, false, Option, Some, None, length, set, replicate, refl, subst, sym, ap, inl, inr, arith, ◌∙◌, append_assoc}
+use Rattle.std.proofs.Common.{◌≡◌, ℕ, ◌+◌, ◌↔◌, List, [], ◌∷◌, ◌++◌, reverse, true, false, Option, Some, None, length, set, replicate, refl, subst, sym, ap, inl, inr, arith, ◌∙◌, append_assoc}
 use Rattle.std.specs.Option.{option_to_list}
 use Rattle.std.specs.List.{Contains, slice_get}
 use Rattle.std.proofs.lemmas.List.{append-nil, reverse-append, reverse-reverse}

@@ -1,13 +1,13 @@
 -- The repetition: a new start that is final, a silent edge from it to the operand's start, and one back to it from
 -- each of the operand's final states.
-use Rattle.std.proofs.Common.{◌≡◌, ℕ, ◌+◌, ◌<◌, ◌≤◌, ◌↔◌, List, [], ◌∷◌, ◌++◌, Bool, true, false, Option, Some, None, All, length, set, replicate, refl, subst, sym, ap, inl, inr, arith, ◌∙◌, append_assoc}
+use Rattle.std.proofs.Common.{◌≡◌, ℕ, ◌+◌, ◌↔◌, List, [], ◌∷◌, ◌++◌, true, false, Some, All, length, set, replicate, refl, subst, sym, ap, inl, inr, arith, ◌∙◌, append_assoc}
 use Rattle.std.specs.Option.{option_to_list}
 use Rattle.std.specs.List.{Contains, slice_get}
 use Rattle.std.proofs.lemmas.List.Elements.{All-nil, All-cons, All-head, All-tail}
 use Rattle.fsm_words.specs.Words.{IsRepetition, joined}
 use Rattle.fsm_words.proofs.Members.{Contains-nil_cases}
 use Rattle.fsa.specs.Automaton.{Automaton, IsFinal, IsWellFormed, UsesLetter}
-use Rattle.fsa.specs.Language.{AcceptsFrom, Accepts, stop, read, skip}
+use Rattle.fsa.specs.Language.{AcceptsFrom, Accepts, stop, skip}
 use Rattle.fsa.specs.declared.automaton.Edge.{Edge}
 use Rattle.fsa_rational.specs.Shapes.{Extends, ComesFrom, LeavesFinal, silent, shifted}
 use Rattle.fsa_rational.proofs.Walks.{AcceptsFrom-least, AcceptsFrom-step, AcceptsFrom-moved, one_final, is_final_set}

@@ -1,5 +1,5 @@
 -- The union: a new start, from which a silent edge leads to the start of each operand.
-use Rattle.std.proofs.Common.{◌≡◌, ℕ, zero, suc, ◌+◌, ◌<◌, ◌≤◌, ◌⊎◌, ◌↔◌, List, [], ◌∷◌, ◌++◌, Bool, true, false, Option, Some, None, length, refl, subst, sym, ap, inl, inr, arith, ◌∙◌}
+use Rattle.std.proofs.Common.{◌≡◌, ℕ, zero, suc, ◌+◌, ◌<◌, ◌⊎◌, ◌↔◌, List, [], ◌∷◌, ◌++◌, true, false, Some, length, refl, subst, sym, ap, inl, inr, arith, ◌∙◌}
 use Rattle.std.specs.Option.{option_to_list}
 use Rattle.std.specs.List.{Contains, slice_get}
 use Rattle.std.proofs.lemmas.List.{append-nil, length-append}
@@ -7,7 +7,7 @@ use Rattle.std.proofs.lemmas.Option.{slice_get_within}
 use Rattle.fsm_words.proofs.Members.{Contains-nil_cases}
 use Rattle.fsm_words.proofs.Places.{slice_get-append_cases, slice_get-append_left, slice_get-append_right}
 use Rattle.fsa.specs.Automaton.{Automaton, IsFinal, IsWellFormed, UsesLetter}
-use Rattle.fsa.specs.Language.{AcceptsFrom, Accepts, stop, read, skip}
+use Rattle.fsa.specs.Language.{AcceptsFrom, Accepts, stop, skip}
 use Rattle.fsa.specs.declared.automaton.Edge.{Edge}
 use Rattle.fsa_rational.specs.Shapes.{Extends, ComesFrom, silent, shifted}
 use Rattle.fsa_rational.proofs.Walks.{AcceptsFrom-least, AcceptsFrom-step, AcceptsFrom-moved}

@@ -1,5 +1,5 @@
 -- Paths of an automaton: what follows from each step, and the same path among the states of another.
-use Rattle.std.proofs.Common.{◌≡◌, ℕ, zero, suc, ◌+◌, ◌<◌, ◌≤◌, ◌↔◌, List, [], ◌∷◌, ◌++◌, Option, Some, None, true, false, replicate, Bool, set, length, refl, subst, sym, ap, inl, inr, arith, ◌∙◌}
+use Rattle.std.proofs.Common.{◌≡◌, ℕ, zero, suc, ◌+◌, ◌<◌, ◌≤◌, ◌↔◌, List, [], ◌∷◌, ◌++◌, Option, Some, None, true, false, replicate, set, length, sym, inl, inr, arith, ◌∙◌}
 use Rattle.std.specs.Option.{option_to_list}
 use Rattle.std.specs.List.{Contains, slice_get}
 use Rattle.std.specs.List.Sorted.{IsPermutation}
@@ -9,7 +9,7 @@ use Rattle.std.proofs.lemmas.Bool.{cases_eq}
 use Rattle.std.proofs.lemmas.List.{length_push, length-replicate}
 use Rattle.fsm_words.proofs.Places.{slice_get-set_same, slice_get-set_other, slice_get-append_cases}
 use Rattle.fsa.specs.Automaton.{Automaton, IsFinal, IsWellFormed}
-use Rattle.fsa.specs.Language.{AcceptsFrom, Accepts, stop, read, skip}
+use Rattle.fsa.specs.Language.{AcceptsFrom, stop, read, skip}
 use Rattle.fsa.specs.declared.automaton.Edge.{Edge}
 use Rattle.fsa_rational.specs.Shapes.{shifted, FitsBelow}
 

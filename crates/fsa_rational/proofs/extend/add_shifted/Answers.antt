@@ -1,4 +1,4 @@
-use Rattle.std.proofs.Common.{◌≡◌, ◌+◌, ◌<◌, length, arith, sym, ap}
+use Rattle.std.proofs.Common.{arith, sym}
 use Rattle.fsa_rational.specs.Shapes.{shifted}
 use Rattle.fsa_rational.proofs.Extended.{comes_more}
 use Rattle.fsa_rational.proofs.extend.add_shifted.Goals as goal

@@ -1,4 +1,4 @@
-use Rattle.std.proofs.Common.{◌≡◌, ◌+◌, ◌≤◌, length, ap, arith, ◌∙◌}
+use Rattle.std.proofs.Common.{length, ap, arith}
 use Rattle.fsa_rational.proofs.Walks.{FitsBelow-from}
 use Rattle.fsa_rational.proofs.ConcatLanguage.{concat_shape, concat_letters, concat_language, concat_states}
 use Rattle.fsa_rational.proofs.join.concat.Goals as goal

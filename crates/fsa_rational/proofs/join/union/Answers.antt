@@ -1,4 +1,4 @@
-use Rattle.std.proofs.Common.{◌≡◌, ◌+◌, ◌-◌, ◌≤◌, length, ap, arith, ◌∙◌}
+use Rattle.std.proofs.Common.{◌≡◌, ◌+◌, ◌-◌, length, ap, arith}
 use Rattle.fsa_rational.proofs.Walks.{FitsBelow-from}
 use Rattle.fsa_rational.proofs.UnionLanguage.{union_shape, union_letters, union_language, union_states}
 use Rattle.fsa_rational.proofs.join.union.Goals as goal

@@ -1,4 +1,4 @@
-use Rattle.std.proofs.Common.{◌≡◌, sym, ◌∙◌}
+use Rattle.std.proofs.Common.{sym, ◌∙◌}
 use Rattle.fsa_rational.specs.Shapes.{IsLettered}
 use Rattle.fsa_rational.proofs.Extended.{each_more, each_past}
 use Rattle.fsa_rational.proofs.Bypassing.{lettered_push, no_letter}

@@ -1,4 +1,4 @@
-use Rattle.std.proofs.Common.{◌≡◌, ◌<◌, ◌≤◌, length, get_or, ap, sym, ◌∙◌}
+use Rattle.std.proofs.Common.{get_or, ap, ◌∙◌}
 use Rattle.std.proofs.lemmas.List.{get_or_default}
 use Rattle.fsa_rational.proofs.Bypassing.{bypassed_none, bypassed_more, bypassed_all}
 use Rattle.fsa_rational.proofs.lettered.bypass.Goals as goal

@@ -1,4 +1,4 @@
-use Rattle.std.proofs.Common.{◌≡◌, ◌<◌, length, get_or, sym, subst, ◌∙◌}
+use Rattle.std.proofs.Common.{◌<◌, length, get_or, sym, subst, ◌∙◌}
 use Rattle.std.proofs.lemmas.Bool.{false≢true}
 use Rattle.std.proofs.lemmas.List.{get_or_default}
 use Rattle.fsa_rational.proofs.Bypassing.{FollowsFinal, follows_final, follows_other, takes_more}

@@ -1,4 +1,3 @@
-use Rattle.std.proofs.Common.{◌≡◌}
 use Rattle.fsa_rational.proofs.Walks.{same_elements}
 use Rattle.fsa_rational.proofs.EmptyLanguage.{bypassed_not_silent, bypassed_letters, bypassed_language}
 use Rattle.fsa_rational.proofs.lettered.without_empty.Goals as goal

@@ -1,4 +1,4 @@
-use Rattle.std.proofs.Common.{◌≡◌, ◌∙◌}
+use Rattle.std.proofs.Common.{◌≡◌}
 use Rattle.std.proofs.lemmas.Result.{on_ok_weaker}
 use Rattle.fsa_rational.proofs.Extended.{comes_more, each_all}
 use Rattle.fsa_rational.proofs.ImageLanguage.{image_silent, image_rows}

@@ -1,4 +1,4 @@
-use Rattle.std.proofs.Common.{◌≡◌, Some, ◌∙◌}
+use Rattle.std.proofs.Common.{◌≡◌, Some}
 use Rattle.std.proofs.lemmas.Result.{on_ok_weaker}
 use Rattle.fsa_rational.proofs.Extended.{comes_more, each_all}
 use Rattle.fsa_rational.proofs.PreimageLanguage.{preimage_silent, preimage_rows}

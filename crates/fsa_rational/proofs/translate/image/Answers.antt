@@ -1,4 +1,4 @@
-use Rattle.std.proofs.Common.{◌≡◌, length, ap, sym, ◌∙◌}
+use Rattle.std.proofs.Common.{ap, sym, ◌∙◌}
 use Rattle.std.specs.List.{Contains}
 use Rattle.fsa_rational.specs.Shapes.{ImageOf}
 use Rattle.fsa_rational.proofs.Extended.{each_more, each_all}

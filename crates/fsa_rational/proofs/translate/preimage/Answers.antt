@@ -1,4 +1,4 @@
-use Rattle.std.proofs.Common.{◌≡◌, ◌↔◌, Some, length, ap, sym, ◌∙◌}
+use Rattle.std.proofs.Common.{Some, ap, sym, ◌∙◌}
 use Rattle.std.specs.List.{Contains}
 use Rattle.fsa_rational.specs.Shapes.{PreimageOf}
 use Rattle.fsa_rational.proofs.Extended.{each_more, each_all}
