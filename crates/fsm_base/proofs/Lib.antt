@@ -1,1 +1,5 @@
+pub mod AlphabetLemmas
+pub mod CutLemmas
+pub mod OrderLemmas
+pub mod SortedLemmas
 pub mod TableLemmas

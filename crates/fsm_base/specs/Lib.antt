@@ -1,3 +1,6 @@
+pub mod Alphabet
 pub mod Cut
 pub mod Longest
+pub mod Sorted
 pub mod Symbols
+pub mod Tokens

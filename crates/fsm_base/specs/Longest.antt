@@ -1,8 +1,9 @@
 -- What the cut of a text is, in the words of its rule: at each place the longest symbol of the alphabet
 -- that the rest begins with, or the first place where there is none.
-use Rattle.std.specs.Prelude.{◌≡◌, ℕ, ◌+◌, ◌<◌, ◌≤◌, List, [], ◌∷◌, ◌++◌, length, Contains}
+use Rattle.std.specs.Prelude.{◌≡◌, ℕ, ◌+◌, ◌<◌, ◌≤◌, List, [], ◌∷◌, ◌++◌, length, All, Contains, Ok, Err, MatchResult}
 use Rattle.fsm_words.specs.Words.{joined}
-use Rattle.fsm_base.specs.Cut.{characters}
+use Rattle.fsm_base.specs.Cut.{characters, cut}
+use Rattle.fsm_base.specs.Symbols.{IsSymbol}
 
 -- the text begins with these bytes
 abbrev pub BeginsWith : List ℕ → List ℕ → Type 0
@@ -32,3 +33,27 @@ pub record StopsAt (symbols : List (List ℕ)) (text : List ℕ) (place : ℕ) :
   pub more : 0 < length rest
   pub none : BeginsWithNone symbols rest
   pub at : place ≡ characters (joined word) + 1
+
+-- the cut takes the longest symbol at each place, and stops at the first place where there is none
+abbrev pub CutTakesLongest : Type 0
+CutTakesLongest =
+    (symbols : List (List ℕ)) (text : List ℕ) → All IsSymbol symbols
+    → MatchResult (cut symbols text) (λ word. TakesLongest symbols text word []) (StopsAt symbols text)
+
+-- no other word takes the longest symbol at each place
+abbrev pub OnlyCutTakesLongest : Type 0
+OnlyCutTakesLongest =
+    (symbols : List (List ℕ)) (text : List ℕ) (word : List (List ℕ)) → All IsSymbol symbols
+    → TakesLongest symbols text word [] → cut symbols text ≡ Ok word
+
+-- no other place is the first where there is none
+abbrev pub OnlyCutStops : Type 0
+OnlyCutStops =
+    (symbols : List (List ℕ)) (text : List ℕ) (place : ℕ) → All IsSymbol symbols
+    → StopsAt symbols text place → cut symbols text ≡ Err place
+
+-- the symbols of a cut joined are the text
+abbrev pub CutJoins : Type 0
+CutJoins =
+    (symbols : List (List ℕ)) (text : List ℕ) (word : List (List ℕ)) → All IsSymbol symbols
+    → cut symbols text ≡ Ok word → joined word ≡ text

@@ -3,12 +3,22 @@
 //! - [`Letter`], [`Sym`], [`Pair`], [`Bound`]: what automata read.
 //! - [`Text`]: a text, ordered by its bytes.
 //! - [`SymbolTable`]: the texts of the symbols, by their numbers.
+//! - [`Alphabet`]: symbols with their texts; [`Alphabet::tokens`] cuts a text into symbols, and
+//!   [`Alphabet::text`] joins them again.
+//! - [`cut_takes_longest`]: the law of the cut, as a contract.
 #![tactic(auto)]
 
+mod alphabet;
+mod laws;
 mod letters;
+mod longest;
 mod symbols;
+#[cfg(test)]
+mod tests;
 mod text;
 
+pub use alphabet::{Alphabet, TokensError};
+pub use laws::cut_takes_longest;
 pub use letters::{Bound, Letter, Pair, Sym};
 pub use symbols::SymbolTable;
 pub use text::Text;

@@ -2,11 +2,10 @@ ghost use Rattle.std.specs.Prelude.{◌≡◌, ◌==◌, ◌<◌, [], length, ta
 ghost use Rattle.std.specs.Option.{option_map};
 ghost use Rattle.fsm_base.specs.Symbols.{IsTable, number_of, with_text};
 
+use crate::Sym;
 use indexmap::IndexSet;
 use std::alloc::{AllocError, Global};
 use std::marker::Model;
-
-use crate::Sym;
 
 /// The texts of the symbols, numbered from 0 in the order in which they came.
 ///
@@ -80,7 +79,8 @@ impl SymbolTable {
 
     /// The text of a symbol, or `None` where the table has no symbol of this number.
     pub fn text_of(&self, sym: Sym) -> Option<&str>
-        ensures { option_map (λ text. text.now) result ≡ slice_get self.now sym.0 }
+        ensures text { option_map (λ text. text.now) result ≡ slice_get self.now sym.0 }
+        ensures formed { IsTable self.now }
     {
         let text = self.texts.get_index(sym.0 as usize)?;
         Some(text.as_str())

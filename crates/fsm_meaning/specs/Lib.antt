@@ -3,3 +3,4 @@ pub mod OnePair
 pub mod Projects
 pub mod Relation
 pub mod Replies
+pub mod Transcripts

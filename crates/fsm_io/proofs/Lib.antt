@@ -1,0 +1,5 @@
+pub mod Known
+mod Pieces
+mod Gathering
+pub mod Cuts
+pub mod Streams

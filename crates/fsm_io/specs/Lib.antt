@@ -1,0 +1,10 @@
+pub mod Adapters
+pub mod Buffers
+pub mod Causes
+pub mod Sinks
+pub mod Folders
+pub mod Gather
+pub mod Held
+pub mod Objects
+pub mod Lines
+pub mod Reading
