@@ -18,7 +18,7 @@ abbrev pub IsBefore : ℕ → ℕ → ℕ → ℕ → Type 0
 IsBefore state upto s k = (s < state) ⊎ ((s ≡ state) × (k < upto))
 
 -- two edges with the same ends and letter are the same
-edge_same : {M : Type 0} (e f : Edge M) → e.from ≡ f.from → e.letter ≡ f.letter → e.to ≡ f.to → e ≡ f
+pub edge_same : {M : Type 0} (e f : Edge M) → e.from ≡ f.from → e.letter ≡ f.letter → e.to ≡ f.to → e ≡ f
 edge_same {M} e f a b c =
     let with_from : ℕ → Edge M = λ n. record { from = n; letter = e.letter; to = e.to } in
     let with_letter : Option M → Edge M = λ x. record { from = f.from; letter = x; to = e.to } in

@@ -1,7 +1,5 @@
 -- Each change to an automaton keeps it well formed.
-use Rattle.std.proofs.Common.{◌≡◌, ℕ, ◌+◌, ◌<◌, List, [], ◌∷◌, ◌++◌, Bool, length, set, subst, sym, inl, inr, arith, rules, length-append}
-use Rattle.std.specs.List.{Contains}
-use Rattle.std.proofs.lemmas.List.{length-set, length_push}
+use Rattle.std.proofs.Common.{◌+◌, ◌<◌, List, [], ◌∷◌, ◌++◌, Bool, length, subst, inl, inr, arith}
 use Rattle.std.proofs.lemmas.List.Elements.{Contains-push_cases}
 use Rattle.fsa.specs.Automaton.{Automaton, IsWellFormed}
 use Rattle.fsa.specs.declared.automaton.Edge.{Edge}

@@ -1,8 +1,7 @@
 -- The paths of a complete automaton: a step is taken back, since a letter has one place and a place one next
 -- state.
-use Rattle.std.proofs.Common.{◌≡◌, ℕ, ◌+◌, ◌*◌, ◌<◌, List, [], ◌∷◌, Some, true, ◌≤◌, ◌↔◌, Bool, IsTrue, length, get_or, drop, subst, sym, ap, arith, ◌∙◌, add-one}
+use Rattle.std.proofs.Common.{◌≡◌, ℕ, ◌+◌, ◌*◌, ◌<◌, List, [], ◌∷◌, Some, true, ◌≤◌, ◌↔◌, Bool, IsTrue, length, get_or, drop, subst, sym, ap, ◌∙◌}
 use Rattle.std.specs.List.{slice_get}
-use Rattle.std.proofs.lemmas.Option.{same_Some}
 use Rattle.std.proofs.lemmas.List.{drop_more, drop_all}
 use Rattle.fsm_words.specs.Words.{IsDistinct}
 use Rattle.fsm_words.proofs.Places.{same_at}

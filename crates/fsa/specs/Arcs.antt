@@ -1,5 +1,5 @@
 -- The edges that show a complete automaton: one for each entry of its table.
-use Rattle.std.specs.Prelude.{◌≡◌, ℕ, List, Option, Some, Contains, slice_get}
+use Rattle.std.specs.Prelude.{◌≡◌, ℕ, List, Some, Contains, slice_get}
 use Rattle.fsa.specs.Complete.{Complete, next_state}
 use Rattle.fsa.specs.declared.automaton.Edge.{Edge}
 

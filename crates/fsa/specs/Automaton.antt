@@ -1,7 +1,7 @@
 -- A finite automaton with silent edges (Hopcroft, Motwani and Ullman, Introduction to Automata Theory,
 -- section 2.5; Beesley and Karttunen, Finite State Morphology, 2003, section 2.2). States are counted from
 -- 0, state 0 is the start, and `finals` says of each state whether it is final.
-use Rattle.std.specs.Prelude.{◌≡◌, ◌<◌, ℕ, List, Bool, true, Option, Some, Contains, slice_get, length}
+use Rattle.std.specs.Prelude.{◌≡◌, ◌<◌, ℕ, List, Bool, true, Some, Contains, slice_get, length}
 use Rattle.fsa.specs.declared.automaton.Edge.{Edge}
 
 pub record Automaton (L : Type 0) : Type 0 where

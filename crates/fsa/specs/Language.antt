@@ -1,8 +1,7 @@
 -- The language of an automaton: the words on its paths from the start to a final state, silent edges left out
 -- (Hopcroft, Motwani and Ullman, section 2.5).
-use Rattle.std.specs.Prelude.{◌≡◌, ℕ, List, [], ◌∷◌, Option, Some, None, Contains}
+use Rattle.std.specs.Prelude.{ℕ, List, [], ◌∷◌, Some, None, Contains}
 use Rattle.fsa.specs.Automaton.{Automaton, IsFinal}
-use Rattle.fsa.specs.declared.automaton.Edge.{Edge}
 
 -- some path from the state to a final state has these letters, silent edges left out
 pub data AcceptsFrom {L : Type 0} (m : Automaton L) : ℕ → List L → Type 0 where

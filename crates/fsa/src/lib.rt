@@ -10,6 +10,8 @@
 mod automaton;
 mod complete;
 mod place;
+#[cfg(test)]
+mod tests;
 
 pub use automaton::{Edge, Fsa};
 pub use complete::Dfa;

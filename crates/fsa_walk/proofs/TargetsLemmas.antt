@@ -1,12 +1,14 @@
 -- The states that edges enter, one edge more at a time.
-use Rattle.std.proofs.Common.{◌≡◌, ℕ, ◌+◌, ◌<◌, ◌≤◌, ◌⊎◌, List, [], ◌∷◌, ◌++◌, Option, length, get_or, take, drop, refl, subst, sym, ap, inl, inr, arith, ◌∙◌}
+use Rattle.std.proofs.Common.{◌≡◌, ℕ, ◌+◌, ◌<◌, ◌≤◌, ◌⊎◌, List, [], ◌∷◌, ◌++◌, Option, length, get_or, take, drop, subst, sym, ap, inl, inr, ◌∙◌}
 use Rattle.std.specs.List.{Contains}
+use Rattle.std.specs.List.Sorted.{IsPermutation}
+use Rattle.std.proofs.lemmas.List.Sorted.{Contains-permutation, IsPermutation-sym}
 use Rattle.std.proofs.lemmas.List.{take_more, take_all, take-append-drop}
 use Rattle.std.proofs.lemmas.List.Elements.{Contains-push_cases, Contains-push, Contains-append_left}
 use Rattle.fsm_words.proofs.Members.{Contains-nil_cases}
 use Rattle.fsa.specs.declared.automaton.Edge.{Edge}
 use Rattle.fsa_walk.specs.Marks.{Marks, Adds, Grows}
-use Rattle.fsa_walk.specs.Targets.{IsTarget}
+use Rattle.fsa_walk.specs.Targets.{IsTarget, AreWithin}
 use Rattle.fsa_walk.proofs.Added.{Adds-none, Adds-then, Adds-same, Grows-weaker}
 
 module _ {L : Type 0} (edges : List (Edge L)) (letter : Option L) where
@@ -46,3 +48,18 @@ module _ {L : Type 0} (edges : List (Edge L)) (letter : Option L) where
 
   pub targets_some : (i : ℕ) (start now : Marks) → Adds start now (IsTarget (take i edges) letter) → Grows start now (IsTarget edges letter)
   targets_some i start now h = Grows-weaker start now (IsTarget (take i edges) letter) (IsTarget edges letter) (targets_front i) h.grows
+
+-- edges that enter states below a bound, one edge more, and in another order
+module _ {L : Type 0} (bound : ℕ) where
+  pub AreWithin-nil : AreWithin {L = L} [] bound
+  AreWithin-nil e h = absurd (Contains-nil_cases e h)
+
+  pub AreWithin-push : (edges more : List (Edge L)) (e : Edge L) → more ≡ edges ++ e ∷ [] → e.to < bound → AreWithin edges bound → AreWithin more bound
+  AreWithin-push edges more e is below within f h =
+      elim (Contains-push_cases edges e f (subst (λ es. Contains es f) is h)) [
+        | inl held ↦ within f held
+        | inr same ↦ subst (λ g. g.to < bound) same below
+      ]
+
+  pub AreWithin-permutation : (edges others : List (Edge L)) → IsPermutation edges others → AreWithin edges bound → AreWithin others bound
+  AreWithin-permutation edges others moved within f h = within f (Contains-permutation others edges f (IsPermutation-sym edges others moved) h)

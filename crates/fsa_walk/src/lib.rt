@@ -10,6 +10,8 @@ mod closure;
 mod marked;
 mod rows;
 mod table;
+#[cfg(test)]
+mod tests;
 
 pub use closure::{add_targets, close};
 pub use marked::Marked;

@@ -1,7 +1,6 @@
 -- Which elements a list has: by its first element, through `map` and through `++`.
-use Rattle.std.proofs.Common.{◌≡◌, ℕ, zero, suc, ◌<◌, List, [], ◌∷◌, ◌++◌, ◌⊎◌, length, map, get_or, sym, refl, subst, inl, inr, arith, ap, ◌∙◌}
+use Rattle.std.proofs.Common.{◌≡◌, zero, suc, List, [], ◌∷◌, ◌⊎◌, map, refl, subst, inl, inr, arith}
 use Rattle.std.specs.List.{Contains}
-use Rattle.std.proofs.lemmas.List.Elements.{Contains-append_left, Contains-append_right, Contains-append_cases, Contains-get_or}
 
 pub Contains-nil_cases : {X : Type 0} (x : X) → Contains [] x → ⊥
 Contains-nil_cases x (k, l, e) = omega arith

@@ -1,6 +1,6 @@
 -- Words and sets of words. A word over an alphabet is a list of its letters, and a set of words is a
 -- test on lists (Beesley and Karttunen, Finite State Morphology, 2003, section 2.3).
-use Rattle.std.specs.Prelude.{◌≡◌, List, ◌++◌, ℕ, All, Contains, Some, slice_get}
+use Rattle.std.specs.Prelude.{◌≡◌, List, [], ◌∷◌, ◌++◌, ℕ, All, Contains, Option, Some, None, slice_get}
 use Rattle.std.specs.List.{flat_map}
 
 -- every letter of the word is one of these
@@ -22,3 +22,10 @@ IsConcatenation {L} P Q w = (u : List L) × (v : List L) × (w ≡ u ++ v) × P 
 -- any number of words of the set, joined
 abbrev pub IsRepetition : {L : Type 0} → (List L → Type 0) → List L → Type 0
 IsRepetition {L} P w = (words : List (List L)) × (w ≡ joined words) × All P words
+
+-- the word w is what a table gives for the letters of v, in their order; a letter for which it gives none is
+-- left out
+pub data Translates {L M : Type 0} (table : List (L × Option M)) : List L → List M → Type 0 where
+  finish : Translates table [] []
+  keep : {x : L} {y : M} {v : List L} {w : List M} → Contains table (x, Some y) → Translates table v w → Translates table (x ∷ v) (y ∷ w)
+  omit : {x : L} {v : List L} {w : List M} → Contains table (x, None) → Translates table v w → Translates table (x ∷ v) w

@@ -1,5 +1,3 @@
-use Rattle.std.proofs.Common.{◌≡◌, ◌<◌, ◌≤◌, Some, length, arith, sym, subst, refl}
-use Rattle.std.specs.List.{slice_get, Contains}
 use Rattle.std.proofs.lemmas.Option.{slice_get_within}
 use Rattle.fsa.proofs.Paths.{accepts_more, accepts_all}
 use Rattle.fsa.proofs.complete.Dfa.accepts.Goals as goal

@@ -1,4 +1,4 @@
-use Rattle.std.proofs.Common.{ℕ, ◌<◌, ◌↔◌, length, drop}
+use Rattle.std.proofs.Common.{◌<◌, ◌↔◌, length, drop}
 use Rattle.fsa.specs.Complete.{Accepts, AcceptsFrom}
 use Rattle.fsa.proofs.complete.Dfa.accepts.Given as goal
 

@@ -1,5 +1,4 @@
-use Rattle.std.proofs.Common.{◌≡◌, ◌≤◌, Some, length, arith, subst, ap, sym, ◌∙◌}
-use Rattle.std.specs.List.{slice_get}
+use Rattle.std.proofs.Common.{◌≤◌, Some, length, ap, sym, ◌∙◌}
 use Rattle.std.proofs.lemmas.Option.{slice_get-get_or}
 use Rattle.fsa.proofs.Arcs.{HasArcs-row_none, HasArcs-row_more, HasArcs-row_all}
 use Rattle.fsa.proofs.complete.Dfa.add_row.Goals as goal

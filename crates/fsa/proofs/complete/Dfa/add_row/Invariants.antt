@@ -1,4 +1,4 @@
-use Rattle.std.proofs.Common.{◌≡◌, ◌<◌}
+use Rattle.std.proofs.Common.{◌≡◌}
 use Rattle.fsa.specs.Arcs.{HasArcs}
 use Rattle.fsa.proofs.Arcs.{IsBefore}
 use Rattle.fsa.proofs.complete.Dfa.add_row.Given as goal

@@ -1,4 +1,4 @@
-use Rattle.std.proofs.Common.{◌≤◌, length, arith}
+use Rattle.std.proofs.Common.{arith}
 use Rattle.fsa.proofs.Arcs.{arcs_letters, arcs_not_silent, arcs_language}
 use Rattle.fsa.proofs.complete.Dfa.to_fsa.Goals as goal
 

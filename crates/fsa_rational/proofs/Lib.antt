@@ -1,0 +1,12 @@
+pub mod Extended
+pub mod Walks
+pub mod UnionLanguage
+pub mod ConcatLanguage
+pub mod StarLanguage
+pub mod ReverseLanguage
+pub mod RowsAt
+pub mod Bypassing
+pub mod EmptyLanguage
+pub mod ImageLanguage
+pub mod PreimageLanguage
+pub mod TableRows

@@ -1,0 +1,90 @@
+ghost use Rattle.std.specs.Prelude.{◌≡◌, ◌+◌, ◌<◌, ◌≤◌, OnOk, length};
+ghost use Rattle.fsa_rational.specs.Shapes.{silent, shifted, turned, Extends, ComesFrom, LeavesFinal, EntersFinal, FitsBelow};
+
+use fsa::{Edge, Fsa};
+use std::alloc::AllocError;
+
+/// Adds edges with the numbers of their states raised.
+pub fn add_shifted<L: Copy>(m: &mut Fsa<L>, edges: &[Edge<L>], by: usize) -> Result<(), AllocError>
+    requires { FitsBelow edges.now by (length m.old.finals) }
+    ensures { OnOk result (Extends m.old m.new (ComesFrom (shifted by) edges.now)) }
+{
+    let _states = m.states();
+    for edge in edges {
+        m.add_edge(Edge {
+            from: edge.from + by,
+            letter: edge.letter,
+            to: edge.to + by,
+        })?;
+    }
+    Ok(())
+}
+
+/// Adds edges in the other direction, with the numbers of their states raised.
+pub fn add_turned<L: Copy>(m: &mut Fsa<L>, edges: &[Edge<L>], by: usize) -> Result<(), AllocError>
+    requires { FitsBelow edges.now by (length m.old.finals) }
+    ensures { OnOk result (Extends m.old m.new (ComesFrom (turned by) edges.now)) }
+{
+    let _states = m.states();
+    for edge in edges {
+        m.add_edge(Edge {
+            from: edge.to + by,
+            letter: edge.letter,
+            to: edge.from + by,
+        })?;
+    }
+    Ok(())
+}
+
+/// Adds a silent edge.
+pub fn add_silent<L: Copy>(m: &mut Fsa<L>, from: usize, to: usize) -> Result<(), AllocError>
+    requires from { from < length m.old.finals }
+    requires to { to < length m.old.finals }
+    ensures { OnOk result (Extends m.old m.new (λ e. e ≡ silent from to)) }
+{
+    m.add_edge(Edge {
+        from,
+        letter: None,
+        to,
+    })
+}
+
+/// Adds a silent edge from each final state, its number raised, to a state.
+pub fn leave_finals<L: Copy>(
+    m: &mut Fsa<L>,
+    finals: &[bool],
+    by: usize,
+    to: usize,
+) -> Result<(), AllocError>
+    requires room { length finals.now + by ≤ length m.old.finals }
+    requires to { to < length m.old.finals }
+    ensures { OnOk result (Extends m.old m.new (LeavesFinal finals.now by to)) }
+{
+    let _states = m.states();
+    for (state, is_final) in finals.iter().enumerate() {
+        if *is_final {
+            add_silent(m, state + by, to)?;
+        }
+    }
+    Ok(())
+}
+
+/// Adds a silent edge from a state to each final state, its number raised.
+pub fn enter_finals<L: Copy>(
+    m: &mut Fsa<L>,
+    from: usize,
+    finals: &[bool],
+    by: usize,
+) -> Result<(), AllocError>
+    requires room { length finals.now + by ≤ length m.old.finals }
+    requires from { from < length m.old.finals }
+    ensures { OnOk result (Extends m.old m.new (EntersFinal from finals.now by)) }
+{
+    let _states = m.states();
+    for (state, is_final) in finals.iter().enumerate() {
+        if *is_final {
+            add_silent(m, from, state + by)?;
+        }
+    }
+    Ok(())
+}

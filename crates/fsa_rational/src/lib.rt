@@ -1,0 +1,22 @@
+//! Rational operations on automata (Hopcroft, Motwani and Ullman, Introduction to Automata Theory, chapters 3
+//! and 4; Beesley and Karttunen, Finite State Morphology, 2003, section 2.3). Each call's contract says, for
+//! every word, whether the result accepts it.
+//!
+//! - [`union`], [`concat`], [`star`], [`reverse`]: the operations on sets of words.
+//! - [`without_empty`]: the same language with no silent edge.
+//! - [`image`], [`preimage`]: the words that a table of letters gives, and the words for which it gives one.
+#![tactic(auto)]
+
+mod extend;
+mod join;
+mod lettered;
+mod reversal;
+mod rows;
+#[cfg(test)]
+mod tests;
+mod translate;
+
+pub use join::{concat, star, union};
+pub use lettered::without_empty;
+pub use reversal::reverse;
+pub use translate::{image, preimage};
