@@ -58,6 +58,14 @@ module _ (IsState : List ℕ → Type 0) (Leads : ℕ → List ℕ → Type 0) w
         );
       }
 
+-- a row of lists that may do more
+pub AddsRow-weaker : (P P' : List ℕ → Type 0) (Q Q' : ℕ → List ℕ → Type 0) (letters : ℕ) (old new : Numbered) → ((list : List ℕ) → P list → P' list) → ((place : ℕ) (list : List ℕ) → Q place list → Q' place list) → AddsRow P Q letters old new → AddsRow P' Q' letters old new
+AddsRow-weaker P P' Q Q' letters old new f g row = record {
+  lists = row.lists;
+  states = λ list h. elim (row.states list h) [ inl there ↦ inl there | inr p ↦ inr (f list p) ];
+  next = (row.next.0, row.next.1, row.next.2, λ place number at. let r = row.next.3 place number at in (r.0, r.1, g place r.0 r.2));
+}
+
 -- what holds when so many states were looked at as there are final marks
 pub record IsExploring (IsState : List ℕ → Type 0) (Leads : List ℕ → ℕ → List ℕ → Type 0) (IsFinal : List ℕ → Type 0) (letters : ℕ) (start : List ℕ) (found : Numbered) (finals : List Bool) : Type 0 where
   pub start_first : slice_get found.lists 0 ≡ Some start

@@ -26,7 +26,12 @@ pub trait LazyAutomaton {
         ensures { IsTrue result ↔ is_final_state self.now state.now };
 
     /// Adds what a state leads to: a list for each letter, in the order of the places.
-    fn add_row(&mut self, state: &[usize], found: &mut Found) -> Result<(), AllocError>
+    fn add_row(
+        &mut self,
+        alloc: Global,
+        state: &[usize],
+        found: &mut Found,
+    ) -> Result<(), AllocError>
         requires { is_state self.old state.now }
         ensures same { OnOk result (self.new ≡ self.old) }
         ensures row { OnOk result (AddsRow (is_state self.old) (leads self.old state.now) (letters self.old) found.old found.new) };
@@ -129,7 +134,7 @@ pub fn explore<A: LazyAutomaton>(
     while finals.len() < found.len() {
         let state = found.list(alloc, finals.len())?;
         finals.push(automaton.is_final(&state))?;
-        automaton.add_row(&state, &mut found)?;
+        automaton.add_row(alloc, &state, &mut found)?;
     }
     Ok(Explored {
         next: found.next,
