@@ -30,14 +30,14 @@ impl Operation {
 
 /// Two automata over the same letters, whose pairs of states are states.
 #[derive(Drop)]
-struct Product<'a, L> {
+struct Pairs<'a, L> {
     operation: Operation,
     first: &'a Dfa<L>,
     second: &'a Dfa<L>,
     ghost same_letters: { first.now.letters ≡ second.now.letters },
 }
 
-impl<'a, L: Letter> LazyAutomaton for Product<'a, L> {
+impl<'a, L: Letter> LazyAutomaton for Pairs<'a, L> {
     ghost letters = { λ p. length p.first.now.letters };
 
     ghost is_state = { λ p. IsPair p.first.now p.second.now };
@@ -47,10 +47,7 @@ impl<'a, L: Letter> LazyAutomaton for Product<'a, L> {
     ghost is_final_state = { λ p. IsFinalPair p.operation p.first.now p.second.now };
 
     fn is_final(&self, pair: &[usize]) -> bool {
-        self.operation.combine(
-            self.first.is_final(pair[0]),
-            self.second.is_final(pair[1]),
-        )
+        self.operation.combine(self.first.is_final(pair[0]), self.second.is_final(pair[1]))
     }
 
     fn add_row(&mut self, _: Global, pair: &[usize], found: &mut Found) -> Result<(), AllocError> {
@@ -84,17 +81,24 @@ pub fn minus<L: Letter>(alloc: Global, a: &Dfa<L>, b: &Dfa<L>) -> Result<Dfa<L>,
     product(alloc, Operation::Difference, a, b)
 }
 
-fn product<L: Letter>(alloc: Global, operation: Operation, a: &Dfa<L>, b: &Dfa<L>) -> Result<Dfa<L>, AllocError>
+fn product<L: Letter>(
+    alloc: Global,
+    operation: Operation,
+    a: &Dfa<L>,
+    b: &Dfa<L>,
+) -> Result<Dfa<L>, AllocError>
     requires { a.now.letters ≡ b.now.letters }
     ensures letters { IfOk result (λ d. d.letters ≡ a.now.letters) }
     ensures language { IfOk result (λ d. (w : List L) → Accepts d w ↔ combined operation (Accepts a.now w) (Accepts b.now w)) }
 {
-    let mut product = Product {
+    // Both have a start.
+    let _ = (a.states(), b.states());
+    let mut pairs = Pairs {
         operation,
         first: a,
         second: b,
     };
-    let built = explore(alloc, &mut product, &[0, 0])?;
+    let built = explore(alloc, &mut pairs, &[0, 0])?;
     let letters = Vec::from_slice(alloc, a.letters())?;
     Ok(Dfa::of(letters, built.next, built.finals))
 }
