@@ -1,8 +1,8 @@
 -- The product of two automata accepts what the operation makes of their languages.
-use Rattle.std.proofs.Common.{◌≡◌, ℕ, ◌+◌, ◌*◌, ◌<◌, ◌≤◌, ◌↔◌, List, [], ◌∷◌, Bool, true, Some, length, slice_index, refl, subst, sym, ap, arith, ◌∙◌}
+use Rattle.std.proofs.Common.{◌≡◌, ℕ, ◌↔◌, List, [], ◌∷◌, Bool, Some, length, slice_index, subst, sym}
 use Rattle.std.specs.List.{slice_get, Contains}
 use Rattle.fsm_words.proofs.Places.{Contains-from_slice_get}
-use Rattle.fsa.specs.Complete.{Complete, IsComplete, AcceptsFrom, Accepts, stop, read, next_state}
+use Rattle.fsa.specs.Complete.{Complete, IsComplete, AcceptsFrom, Accepts, stop, read}
 use Rattle.fsa.proofs.Paths.{stop_back, read_back}
 use Rattle.fsa_walk.specs.Explored.{IsExplored}
 use Rattle.fsa_walk.proofs.Built.{IsLanguage, built_language}

@@ -1,6 +1,6 @@
 -- Breadth-first search: states that are found in the order of their distance from the start, and the words by
 -- which they were found.
-use Rattle.std.proofs.Common.{◌≡◌, ℕ, zero, suc, ◌+◌, ◌*◌, ◌<◌, ◌≤◌, ◌⊎◌, ◌↔◌, List, [], ◌∷◌, ◌++◌, Bool, true, false, Option, Some, None, length, get_or, refl, subst, sym, ap, inl, inr, arith, ◌∙◌, length-append, append_assoc}
+use Rattle.std.proofs.Common.{◌≡◌, ℕ, zero, suc, ◌+◌, ◌*◌, ◌<◌, ◌≤◌, ◌⊎◌, List, [], ◌∷◌, ◌++◌, true, Option, Some, None, length, get_or, refl, subst, sym, ap, inl, inr, arith, ◌∙◌, append_assoc}
 use Rattle.std.specs.List.{slice_get, Contains}
 use Rattle.std.proofs.lemmas.Option.{slice_get_within, same_Some, none-some, slice_get-get_or}
 use Rattle.std.proofs.lemmas.List.{append-nil, length_push}

@@ -1,6 +1,6 @@
 -- The sets of states that a word leads to accept what the automaton accepts from their states.
-use Rattle.std.proofs.Common.{◌≡◌, ℕ, ◌<◌, ◌↔◌, List, [], ◌∷◌, Bool, true, Some, None, length, refl, subst, sym, ap, ◌∙◌}
-use Rattle.std.specs.List.{slice_get, Contains}
+use Rattle.std.proofs.Common.{◌≡◌, ℕ, ◌↔◌, List, [], ◌∷◌, Bool, Some, length, refl, subst, sym}
+use Rattle.std.specs.List.{Contains}
 use Rattle.fsm_words.proofs.Places.{same_at}
 use Rattle.fsa.specs.Automaton.{Automaton, UsesLetter}
 use Rattle.fsa.specs.Complete as complete

@@ -1,14 +1,12 @@
 -- Edges whose letters are replaced by their places.
-use Rattle.std.proofs.Common.{◌≡◌, ℕ, ◌+◌, ◌<◌, ◌≤◌, ◌⊎◌, ◌↔◌, List, [], ◌∷◌, Bool, true, false, cond, Option, Some, None, Ordering, IsPermutation, length, map, take, refl, subst, sym, ap, inl, inr, arith, ◌∙◌}
+use Rattle.std.proofs.Common.{◌≡◌, ℕ, ◌<◌, ◌≤◌, List, Option, Some, None, IsPermutation, length, map, take, refl, subst, sym, ap, ◌∙◌}
 use Rattle.std.specs.List.{slice_get, Contains}
 use Rattle.std.specs.Option.{option_and_then}
 use Rattle.std.proofs.lemmas.Option.{slice_get_within, same_Some, none-some}
-use Rattle.std.proofs.lemmas.Bool.{cases_lt}
 use Rattle.std.proofs.lemmas.List.{take_all}
 use Rattle.std.proofs.lemmas.List.Sorted.{Contains-permutation, IsPermutation-sym}
-use Rattle.fsm_words.specs.Words.{IsDistinct}
 use Rattle.fsm_words.proofs.Members.{Contains-map, Contains-map_cases}
-use Rattle.fsm_words.proofs.Places.{same_at, slice_get_from_Contains}
+use Rattle.fsm_words.proofs.Places.{slice_get_from_Contains}
 use Rattle.fsa.specs.declared.automaton.Edge.{Edge}
 use Rattle.fsa_walk.specs.Targets.{AreWithin}
 use Rattle.fsa_subset.specs.Placed.{Goes, IsPlaced, FindsPlaces, at_place}

@@ -1,19 +1,19 @@
 -- Sets of states: what silent edges add, and where the letters lead.
-use Rattle.std.proofs.Common.{◌≡◌, ℕ, ◌+◌, ◌<◌, ◌≤◌, ◌⊎◌, ◌↔◌, List, [], ◌∷◌, ◌++◌, Bool, Option, Some, None, All, IsPermutation, length, get_or, take, refl, subst, sym, ap, inl, inr, arith, ◌∙◌}
+use Rattle.std.proofs.Common.{◌≡◌, ℕ, ◌+◌, ◌<◌, ◌≤◌, ◌↔◌, List, [], ◌∷◌, ◌++◌, Bool, Option, Some, None, IsPermutation, length, get_or, take, refl, subst, sym, ap, inl, inr, ◌∙◌}
 use Rattle.std.specs.List.{Contains, flat_map}
 use Rattle.std.proofs.lemmas.List.{take_more, take_all}
 use Rattle.std.proofs.lemmas.List.Elements.{Contains-push_cases, Contains-push, Contains-append_left, Contains-append_right, Contains-append_cases, Contains-get_or}
 use Rattle.std.proofs.lemmas.List.Sorted.{Contains-permutation, IsPermutation-sym}
 use Rattle.fsm_words.proofs.Members.{Contains-nil_cases, Contains-cons_cases, Contains-head, Contains-tail}
 use Rattle.fsa.specs.declared.automaton.Edge.{Edge}
-use Rattle.fsa_walk.specs.Marks.{Marks, IsBounded, Adds, Grows}
-use Rattle.fsa_walk.specs.Reaches.{Reaches, IsReached, here, along}
+use Rattle.fsa_walk.specs.Marks.{Marks, IsBounded, Adds}
+use Rattle.fsa_walk.specs.Reaches.{Reaches, IsReached, here}
 use Rattle.fsa_walk.specs.Targets.{IsTarget, AreWithin}
 use Rattle.fsa_walk.proofs.Closed.{Reaches-push}
 use Rattle.fsa_subset.specs.Placed.{Goes}
 use Rattle.fsa_walk.specs.Explored.{Numbered, AddsRow}
 use Rattle.fsa_walk.proofs.Exploring.{AddsRow-weaker}
-use Rattle.fsa_subset.specs.Sets.{Placed, IsStateSet, LeadsTo, IsSettled, IsMove, AreMoves, IsTargetSet, from_letter, from_place}
+use Rattle.fsa_subset.specs.Sets.{Placed, IsStateSet, LeadsTo, IsSettled, AreMoves, IsTargetSet, from_letter, from_place}
 use Rattle.fsa_subset.specs.declared.places.Place.{Place}
 
 -- an edge is what it is made of

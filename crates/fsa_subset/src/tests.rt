@@ -32,10 +32,20 @@ fn answers<L: Letter>(d: &Dfa<L>, letters: &[L], twice: &[L]) -> [bool; 4]
     requires over { IsOver letters.now twice.now }
 {
     let (none, once) = (&twice[..0], &twice[..1]);
-    [d.accepts(none), d.accepts(once), d.accepts(&letters[1..]), d.accepts(twice)]
+    [
+        d.accepts(none),
+        d.accepts(once),
+        d.accepts(&letters[1..]),
+        d.accepts(twice),
+    ]
 }
 
-fn determines<L: Letter>(rt: &impl Abort, alloc: Global, letters: &[L], twice: &[L]) -> Result<(), AllocError>
+fn determines<L: Letter>(
+    rt: &impl Abort,
+    alloc: Global,
+    letters: &[L],
+    twice: &[L],
+) -> Result<(), AllocError>
     requires two { length letters.now ≡ 2 }
     requires word { length twice.now ≡ 2 }
     requires distinct { IsDistinct letters.now }
@@ -45,7 +55,10 @@ fn determines<L: Letter>(rt: &impl Abort, alloc: Global, letters: &[L], twice: &
     let d = determine(alloc, &m, letters)?;
     assert_eq!(rt; answers(&d, letters, twice), [false, true, false, false]);
     let again = determine(alloc, &d.to_fsa()?, letters)?;
-    assert_eq!(rt; answers(&again, letters, twice), [false, true, false, false]);
+    assert_eq!(rt;
+        answers(&again, letters, twice),
+        [false, true, false, false]
+    );
     Ok(())
 }
 

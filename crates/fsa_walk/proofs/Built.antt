@@ -1,12 +1,11 @@
 -- The language of a complete automaton that was built from a test and a step on lists: for any set of words that
 -- the step takes apart, letter by letter, the automaton accepts just that set.
-use Rattle.std.proofs.Common.{◌≡◌, ℕ, zero, ◌+◌, ◌*◌, ◌<◌, ◌≤◌, ◌↔◌, List, [], ◌∷◌, Bool, true, Some, length, All, get_or, refl, subst, sym, ap, arith, ◌∙◌}
+use Rattle.std.proofs.Common.{◌≡◌, ℕ, ◌+◌, ◌*◌, ◌<◌, ◌↔◌, List, [], ◌∷◌, Bool, Some, length, get_or, arith}
 use Rattle.std.specs.List.{slice_get, Contains}
 use Rattle.std.proofs.lemmas.Option.{slice_get_within, slice_get-get_or}
 use Rattle.std.proofs.lemmas.Nat.{mul-add-lt}
-use Rattle.fsm_words.specs.Words.{IsDistinct}
-use Rattle.fsm_words.proofs.Places.{same_at, slice_get_from_Contains, Contains-from_slice_get}
-use Rattle.fsa.specs.Complete.{Complete, AcceptsFrom, Accepts, stop, read, next_state}
+use Rattle.fsm_words.proofs.Places.{slice_get_from_Contains, Contains-from_slice_get}
+use Rattle.fsa.specs.Complete.{Complete, AcceptsFrom, Accepts, stop, read}
 use Rattle.fsa_walk.specs.Explored.{IsExplored}
 
 -- the words of each list, by its step: the empty word of a final one, and those that begin with a letter

@@ -1,15 +1,15 @@
 -- Silent closure: what the edges of one state after another add, and that nothing is left to add when each state
 -- was looked at.
-use Rattle.std.proofs.Common.{◌≡◌, ℕ, suc, ◌+◌, ◌<◌, ◌≤◌, ◌⊎◌, ◌↔◌, List, [], ◌∷◌, ◌++◌, Option, None, Some, length, get_or, take, refl, subst, sym, ap, inl, inr, arith, ◌∙◌, length-append}
+use Rattle.std.proofs.Common.{◌≡◌, ℕ, ◌+◌, ◌<◌, ◌≤◌, ◌↔◌, List, [], ◌∷◌, ◌++◌, Option, None, length, get_or, take, refl, subst, sym, ap, inl, inr, arith, ◌∙◌, length-append}
 use Rattle.std.specs.List.{Contains}
-use Rattle.std.proofs.lemmas.List.{take_more, take_all, take-append-le, get_or_append_left}
-use Rattle.std.proofs.lemmas.List.Elements.{Contains-push_cases, Contains-push, Contains-append_left}
+use Rattle.std.proofs.lemmas.List.{take_more, take_all, take-append-le}
+use Rattle.std.proofs.lemmas.List.Elements.{Contains-push_cases}
 use Rattle.fsm_words.proofs.Members.{Contains-nil_cases}
 use Rattle.fsa.specs.declared.automaton.Edge.{Edge}
 use Rattle.fsa_walk.specs.Marks.{Marks, Adds, Grows}
 use Rattle.fsa_walk.specs.Reaches.{Reaches, IsReached, here, along}
 use Rattle.fsa_walk.specs.Targets.{IsTarget}
-use Rattle.fsa_walk.proofs.Added.{Grows-none, Grows-then, Grows-weaker, Grows-keeps}
+use Rattle.fsa_walk.proofs.Added.{Grows-none, Grows-then, Grows-keeps}
 
 module _ {L : Type 0} (edges : List (Edge L)) where
   -- one silent edge more

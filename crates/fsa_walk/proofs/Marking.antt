@@ -1,14 +1,14 @@
 -- What keeps marks and a list of numbers together.
-use Rattle.std.proofs.Common.{◌≡◌, ◌≢◌, ℕ, zero, suc, ◌+◌, ◌<◌, ◌≤◌, ◌⊎◌, List, [], ◌∷◌, ◌++◌, Bool, true, false, cond, Some, None, All, length, get_or, set, drop, take, count_by, sum_by, replicate, refl, subst, sym, ap, inl, inr, arith, ◌∙◌}
+use Rattle.std.proofs.Common.{◌≡◌, ℕ, zero, suc, ◌+◌, ◌<◌, ◌≤◌, List, [], ◌∷◌, ◌++◌, Bool, true, false, cond, Some, length, get_or, set, drop, count_by, sum_by, replicate, refl, subst, sym, ap, inl, inr, arith, ◌∙◌}
 use Rattle.std.specs.List.{slice_get, Contains}
 use Rattle.std.proofs.lemmas.Option.{slice_get_within, get_or_from_slice_get}
-use Rattle.std.proofs.lemmas.List.{length-set, length_push, drop_more, drop_all}
+use Rattle.std.proofs.lemmas.List.{length_push, drop_more, drop_all}
 use Rattle.std.proofs.lemmas.List.Elements.{Contains-push_cases, Contains-push, Contains-append_left, Contains-get_or}
 use Rattle.std.proofs.lemmas.List.Sums.{count_by-le-length, sum_by-set}
 use Rattle.std.proofs.lemmas.Bool.{cases_eq}
 use Rattle.fsm_words.proofs.Members.{Contains-nil_cases, Contains-cons_cases}
 use Rattle.fsm_words.proofs.Places.{slice_get-set_same, slice_get-set_other}
-use Rattle.fsa_walk.specs.Marks.{Marks, IsBounded, Adds, Grows}
+use Rattle.fsa_walk.specs.Marks.{IsBounded}
 use Rattle.fsa_walk.specs.Marking.{IsMarking}
 
 all_unmarked : (n k : ℕ) → slice_get (replicate n false) k ≡ Some true → ⊥

@@ -1,7 +1,7 @@
 -- A complete automaton whose states are lists of numbers, built as far as its start reaches (the subset
 -- construction and the product construction: Hopcroft, Motwani and Ullman, Introduction to Automata Theory,
 -- sections 2.3.5 and 4.2.1).
-use Rattle.std.specs.Prelude.{◌≡◌, ◌<◌, ◌≤◌, ◌+◌, ◌*◌, ◌++◌, ◌⊎◌, ◌↔◌, [], ◌∷◌, ℕ, List, Bool, true, Some, All, Contains, slice_get, length}
+use Rattle.std.specs.Prelude.{◌≡◌, ◌<◌, ◌+◌, ◌*◌, ◌++◌, ◌⊎◌, ◌↔◌, [], ◌∷◌, ℕ, List, Bool, true, Some, All, Contains, slice_get, length}
 
 -- the lists, by their numbers, and the numbers that letters lead to
 pub record Numbered : Type 0 where

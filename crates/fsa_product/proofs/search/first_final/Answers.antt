@@ -1,5 +1,4 @@
-use Rattle.std.proofs.Common.{◌≡◌, ◌<◌, ◌≤◌, Some, true, length, get_or, subst, sym, ◌∙◌}
-use Rattle.std.specs.List.{slice_get}
+use Rattle.std.proofs.Common.{◌<◌, ◌≤◌, length, get_or, subst, sym, ◌∙◌}
 use Rattle.std.proofs.lemmas.Bool.{false≢true}
 use Rattle.fsa_product.proofs.Searching.{state_at, search_start, search_more, search_none, search_hit}
 use Rattle.fsa_product.proofs.search.first_final.Goals as goal

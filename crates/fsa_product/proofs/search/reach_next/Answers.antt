@@ -1,4 +1,4 @@
-use Rattle.std.proofs.Common.{◌≡◌, ◌<◌, length, subst}
+use Rattle.std.proofs.Common.{◌<◌, length, subst}
 use Rattle.fsa_product.proofs.Searching.{at_of, search_adds, HasNext-more}
 use Rattle.fsa_product.proofs.search.reach_next.Goals as goal
 

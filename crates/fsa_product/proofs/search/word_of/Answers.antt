@@ -1,4 +1,4 @@
-use Rattle.std.proofs.Common.{◌≤◌, ap, Some, ◌∙◌, arith, sym}
+use Rattle.std.proofs.Common.{ap, Some, ◌∙◌, arith, sym}
 use Rattle.fsa_product.proofs.Words.{step_back, back_none, back_more, back_all}
 use Rattle.fsa_product.proofs.search.word_of.Goals as goal
 

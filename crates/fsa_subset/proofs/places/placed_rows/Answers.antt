@@ -1,4 +1,4 @@
-use Rattle.std.proofs.Common.{IsPermutation, sym, subst, ◌∙◌}
+use Rattle.std.proofs.Common.{IsPermutation, subst}
 use Rattle.std.specs.BTreeMap.{get}
 use Rattle.std.proofs.lemmas.Result.{IfOk-weaker}
 use Rattle.fsa_subset.specs.Placed.{IsPlaced}

@@ -1,4 +1,4 @@
-use Rattle.std.proofs.Common.{◌≡◌, ◌<◌, ℕ, subst, sym, ap, ◌∙◌}
+use Rattle.std.proofs.Common.{◌<◌, subst, sym, ◌∙◌}
 use Rattle.fsa_walk.specs.Explored.{AddsTarget}
 use Rattle.fsa_walk.proofs.Exploring.{AddsRow-push}
 use Rattle.fsa_subset.specs.Sets.{IsSettled, IsTargetSet}

@@ -1,4 +1,4 @@
-use Rattle.std.proofs.Common.{◌≡◌, ◌<◌, length, ap, sym, subst, ◌∙◌}
+use Rattle.std.proofs.Common.{◌<◌, length, sym, subst}
 use Rattle.std.specs.List.{Contains}
 use Rattle.fsm_words.specs.Words.{IsDistinct}
 use Rattle.fsa_subset.proofs.Placing.{placed_within}

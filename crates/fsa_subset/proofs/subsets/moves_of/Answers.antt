@@ -1,4 +1,4 @@
-use Rattle.std.proofs.Common.{◌≡◌, ◌<◌, length, get_or, refl, IsPermutation, subst, arith, rules, sym}
+use Rattle.std.proofs.Common.{get_or, IsPermutation, subst}
 use Rattle.std.proofs.lemmas.Result.{IfOk-weaker}
 use Rattle.std.proofs.lemmas.List.{get_or_default}
 use Rattle.fsa_subset.specs.Sets.{AreMoves}

@@ -1,4 +1,4 @@
-use Rattle.std.proofs.Common.{◌≡◌, ◌<◌, ℕ, None, subst, sym, ap, ◌∙◌, ◌↔◌}
+use Rattle.std.proofs.Common.{◌<◌, ℕ, None, subst, sym, ap, ◌∙◌, ◌↔◌}
 use Rattle.std.specs.List.{Contains}
 use Rattle.std.proofs.lemmas.Result.{IfOk-weaker}
 use Rattle.fsa_walk.specs.Reaches.{Reaches, IsReached}

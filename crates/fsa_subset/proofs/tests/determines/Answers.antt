@@ -1,4 +1,4 @@
-use Rattle.std.proofs.Common.{◌<◌, length, subst, sym, arith, ◌∙◌}
+use Rattle.std.proofs.Common.{◌<◌, length, subst, sym, arith}
 use Rattle.std.specs.List.{Contains}
 use Rattle.fsa_subset.proofs.tests.determines.Goals as goal
 

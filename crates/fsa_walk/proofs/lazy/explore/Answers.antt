@@ -1,4 +1,4 @@
-use Rattle.std.proofs.Common.{◌≡◌, ◌≤◌, Some, length, refl, sym, subst, rules, arith, ◌∙◌, ap}
+use Rattle.std.proofs.Common.{◌≡◌, ◌≤◌, Some, length, refl, sym, subst, rules, ◌∙◌, ap}
 use Rattle.std.specs.List.{slice_get}
 use Rattle.fsa_walk.specs.Explored.{IsExplored}
 use Rattle.fsa_walk.proofs.Exploring.{exploring_none, exploring_state, exploring_step, exploring_all}

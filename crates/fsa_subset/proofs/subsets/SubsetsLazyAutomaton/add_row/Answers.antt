@@ -1,4 +1,4 @@
-use Rattle.std.proofs.Common.{◌≡◌, ◌<◌, ℕ, subst, sym, ap, ◌∙◌}
+use Rattle.std.proofs.Common.{◌<◌, subst, sym}
 use Rattle.std.proofs.lemmas.Result.{on_ok_weaker}
 use Rattle.fsa_subset.proofs.Settling.{moves_within, row_of_sets}
 use Rattle.fsa_subset.proofs.subsets.SubsetsLazyAutomaton.add_row.Goals as goal

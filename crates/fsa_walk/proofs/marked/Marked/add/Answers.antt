@@ -1,4 +1,4 @@
-use Rattle.std.proofs.Common.{arith, refl, ap, Some, ◌∙◌}
+use Rattle.std.proofs.Common.{refl, ap, Some, ◌∙◌}
 use Rattle.std.proofs.lemmas.List.{length-set}
 use Rattle.std.proofs.lemmas.Option.{slice_get_read}
 use Rattle.fsa_walk.proofs.Marking.{IsMarking-add}
