@@ -1,7 +1,6 @@
 -- Alphabets: the text of a symbol, and the words that a cut gives.
-use Rattle.std.proofs.Common.{◌≡◌, ℕ, ◌+◌, ◌-◌, ◌<◌, ◌≤◌, zero, suc, Bool, true, false, cond, List, [], ◌∷◌, ◌++◌, length, map, take, drop, Option, Some, None, Result, Ok, Err, All, Contains, nat_eq, get_or, slice_get, unwrap_or, refl, sym, ap, subst, ◌∙◌, ◌⊎◌, inl, inr, arith, append-nil, true≢false}
+use Rattle.std.proofs.Common.{◌≡◌, ℕ, ◌+◌, ◌-◌, ◌<◌, ◌≤◌, zero, suc, Bool, true, false, cond, List, [], ◌∷◌, ◌++◌, length, map, take, drop, Some, None, Ok, Err, All, Contains, nat_eq, get_or, slice_get, unwrap_or, refl, sym, ap, subst, ◌∙◌, ◌⊎◌, inl, inr, arith, append-nil, true≢false}
 use Rattle.std.proofs.lemmas.Bool.Decides.{Decides-eqb}
-use Rattle.std.proofs.lemmas.Bool.{cases_lt}
 use Rattle.std.proofs.lemmas.List.{map-append, length-drop, length-take, length-append, drop_all}
 use Rattle.std.proofs.lemmas.List.Prefix.{front_rest}
 use Rattle.std.proofs.Math.Seq.{take-add, take-length, take-append_seam, drop-nil}
@@ -16,7 +15,7 @@ use Rattle.fsm_words.specs.Words.{IsDistinct, IsOver, joined}
 use Rattle.fsm_base.specs.Symbols.{IsSymbol, IsTable}
 use Rattle.fsm_base.specs.Alphabet.{IsAlphabet, listed, symbols_of, texts_of, text_of, spelled}
 use Rattle.fsm_base.specs.Cut.{cut, characters}
-use Rattle.fsm_base.specs.Longest.{IsLongest, BeginsWith, BeginsWithNone}
+use Rattle.fsm_base.specs.Longest.{IsLongest, BeginsWithNone}
 use Rattle.fsm_base.specs.Sorted.{IsByText, IsKept, entries_of, pair_of, texts_in, text_at}
 use Rattle.fsm_base.specs.declared.letters.Sym.{Sym}
 use Rattle.fsm_base.specs.declared.longest.Entry.{Entry}
@@ -130,20 +129,20 @@ cut_to_more alphabet bytes word from s t formed among to is =
     let splits : drop from bytes ≡ t ++ rest = is.begins.1 in
     let some : 0 < length t = All-contains IsSymbol texts t formed.symbols is.listed in
     let spelled_more : spelled alphabet (word ++ s ∷ []) ≡ spelled alphabet word ++ t ∷ [] =
-        map-append (λ v. text_of alphabet v) word (s ∷ []) ∙ ap (λ (v : List ℕ). spelled alphabet word ++ v ∷ []) own in
+    map-append (λ v. text_of alphabet v) word (s ∷ []) ∙ ap (λ (v : List ℕ). spelled alphabet word ++ v ∷ []) own in
     let behind : drop (from + length t) bytes ≡ rest = drop_drop from (length t) bytes ∙ front_rest (drop from bytes) t rest splits in
     let front : take (length t) (drop from bytes) ≡ t = ap (λ (v : List ℕ). take (length t) v) splits ∙ take-append_seam t rest in
     record {
       within = omega (arith, to.within, length-drop from bytes, ap length splits, length-append t rest);
       over = All-push (Contains (symbols_of alphabet)) word s to.over (Contains-symbols_of alphabet s t among);
       spells = take-add from (length t) bytes ∙ ap (λ (v : List ℕ). v ++ take (length t) (drop from bytes)) to.spells
-        ∙ ap (λ (v : List ℕ). joined (spelled alphabet word) ++ v) front
-        ∙ sym (joined-push (spelled alphabet word) t) ∙ ap (λ (v : List (List ℕ)). joined v) (sym spelled_more);
+          ∙ ap (λ (v : List ℕ). joined (spelled alphabet word) ++ v) front
+          ∙ sym (joined-push (spelled alphabet word) t) ∙ ap (λ (v : List (List ℕ)). joined v) (sym spelled_more);
       cuts = to.cuts
-        ∙ ap (λ r. preceded (spelled alphabet word) r) (cut-symbol texts (drop from bytes) t rest some splits (longest-from_is texts (drop from bytes) t is))
-        ∙ preceded-push (spelled alphabet word) t (cut texts rest)
-        ∙ ap (λ (v : List (List ℕ)). preceded v (cut texts rest)) (sym spelled_more)
-        ∙ ap (λ (v : List ℕ). preceded (spelled alphabet (word ++ s ∷ [])) (cut texts v)) (sym behind);
+          ∙ ap (λ r. preceded (spelled alphabet word) r) (cut-symbol texts (drop from bytes) t rest some splits (longest-from_is texts (drop from bytes) t is))
+          ∙ preceded-push (spelled alphabet word) t (cut texts rest)
+          ∙ ap (λ (v : List (List ℕ)). preceded v (cut texts rest)) (sym spelled_more)
+          ∙ ap (λ (v : List ℕ). preceded (spelled alphabet (word ++ s ∷ [])) (cut texts v)) (sym behind);
     }
   where
     drop_drop : (n m : ℕ) (xs : List ℕ) → drop (n + m) xs ≡ drop m (drop n xs)
@@ -155,15 +154,15 @@ cut_to_more alphabet bytes word from s t formed among to is =
 pub cut_to_end : (alphabet : List (Sym × List ℕ)) (bytes : List ℕ) (word : List Sym) (from : ℕ) → IsCutTo alphabet bytes word from → length bytes ≤ from → cut (texts_of alphabet) bytes ≡ Ok (spelled alphabet word)
 cut_to_end alphabet bytes word from to all =
     to.cuts ∙ ap (λ (v : List ℕ). preceded (spelled alphabet word) (cut (texts_of alphabet) v)) (drop_all from bytes all)
-      ∙ ap Ok (append-nil (spelled alphabet word))
+    ∙ ap Ok (append-nil (spelled alphabet word))
 
 -- no symbol begins at this place
 pub cut_to_stop : (alphabet : List (Sym × List ℕ)) (bytes : List ℕ) (word : List Sym) (from : ℕ) → IsCutTo alphabet bytes word from → from < length bytes → BeginsWithNone (texts_of alphabet) (drop from bytes)
     → cut (texts_of alphabet) bytes ≡ Err (characters (take from bytes) + 1)
 cut_to_stop alphabet bytes word from to more none =
     to.cuts
-      ∙ ap (λ r. preceded (spelled alphabet word) r) (cut-none (texts_of alphabet) (drop from bytes) (omega (arith, length-drop from bytes)) (longest-from_none (texts_of alphabet) (drop from bytes) none))
-      ∙ ap (λ (v : List ℕ). Err (characters v + 1)) (sym to.spells)
+    ∙ ap (λ r. preceded (spelled alphabet word) r) (cut-none (texts_of alphabet) (drop from bytes) (omega (arith, length-drop from bytes)) (longest-from_none (texts_of alphabet) (drop from bytes) none))
+    ∙ ap (λ (v : List ℕ). Err (characters v + 1)) (sym to.spells)
 
 -- the pairs of a list of symbols
 pub symbols_of-listed : (table : List (List ℕ)) (syms : List Sym) → symbols_of (listed table syms) ≡ syms
@@ -207,7 +206,7 @@ IsAlphabet-listed table syms formed apart held = record {
   distinct = subst (λ v. IsDistinct v) (sym (symbols_of-listed table syms)) apart;
   apart = λ i j x at_i at_j. same_place i j x (slice_get-text i x at_i) (slice_get-text j x at_j);
   symbols = All-map IsSymbol (λ (p : Sym × List ℕ). p.1) (listed table syms)
-    (All-map (λ (p : Sym × List ℕ). IsSymbol p.1) (λ (s : Sym). (s, slice_index_or table s.0 [])) syms
+      (All-map (λ (p : Sym × List ℕ). IsSymbol p.1) (λ (s : Sym). (s, slice_index_or table s.0 [])) syms
       (All-weaker (λ (s : Sym). s.0 < length table) (λ s. IsSymbol (slice_index_or table s.0 [])) (λ s l. All-get_or IsSymbol table s.0 [] l formed.symbols) syms held));
 }
   where
@@ -218,17 +217,17 @@ IsAlphabet-listed table syms formed apart held = record {
     -- the symbol at a place has this text in the table
     slice_get-text : (i : ℕ) (x : List ℕ) → slice_get (texts_of (listed table syms)) i ≡ Some x → (s : Sym) × (slice_get syms i ≡ Some s) × (slice_get table s.0 ≡ Some x)
     slice_get-text i x at = elim ((slice_get_cases syms i).1) as (λ _. (s : Sym) × (slice_get syms i ≡ Some s) × (slice_get table s.0 ≡ Some x)) [
-      inl p ↦
-        let e : Some (slice_index_or table p.0.0 []) ≡ Some x =
-            sym (ap (option_map (λ (s : Sym). slice_index_or table s.0 [])) p.2) ∙ sym (slice_get-map (λ (s : Sym). slice_index_or table s.0 []) syms i)
-              ∙ ap (λ v. slice_get v i) (sym (texts-listed syms)) ∙ at in
-        let within : p.0.0 < length table = subst (λ (v : Sym). v.0 < length table) p.3 (All-get_or (λ (s : Sym). s.0 < length table) syms i p.0 p.1 held) in
-        (p.0, p.2, slice_get-get_or table p.0.0 [] within ∙ e)
+      | inl p ↦
+          let e : Some (slice_index_or table p.0.0 []) ≡ Some x =
+          sym (ap (option_map (λ (s : Sym). slice_index_or table s.0 [])) p.2) ∙ sym (slice_get-map (λ (s : Sym). slice_index_or table s.0 []) syms i)
+          ∙ ap (λ v. slice_get v i) (sym (texts-listed syms)) ∙ at in
+          let within : p.0.0 < length table = subst (λ (v : Sym). v.0 < length table) p.3 (All-get_or (λ (s : Sym). s.0 < length table) syms i p.0 p.1 held) in
+          (p.0, p.2, slice_get-get_or table p.0.0 [] within ∙ e)
       | inr p ↦
-        let e : None ≡ Some x =
-            sym (ap (option_map (λ (s : Sym). slice_index_or table s.0 [])) p.1) ∙ sym (slice_get-map (λ (s : Sym). slice_index_or table s.0 []) syms i)
-              ∙ ap (λ v. slice_get v i) (sym (texts-listed syms)) ∙ at in
-        cc
+          let e : None ≡ Some x =
+          sym (ap (option_map (λ (s : Sym). slice_index_or table s.0 [])) p.1) ∙ sym (slice_get-map (λ (s : Sym). slice_index_or table s.0 []) syms i)
+          ∙ ap (λ v. slice_get v i) (sym (texts-listed syms)) ∙ at in
+          cc
     ]
 
     same_place : (i j : ℕ) (x : List ℕ) → (s : Sym) × (slice_get syms i ≡ Some s) × (slice_get table s.0 ≡ Some x) → (s : Sym) × (slice_get syms j ≡ Some s) × (slice_get table s.0 ≡ Some x) → i ≡ j
@@ -260,9 +259,10 @@ pub entry_taken : (symbols : List Sym) (alphabet : List (Sym × List ℕ)) (sort
     → IsCutTo alphabet bytes (word ++ entry.symbol ∷ []) (from + length entry.text) × (0 < length entry.text)
 entry_taken symbols alphabet sorted bytes word from place entry kept to within is at =
     let text : text_at sorted place ≡ entry.text = get_or-texts sorted place entry [] within ∙ ap (λ (e : Entry). e.text) (sym at) in
-    let longest = IsLongest-sorted alphabet sorted (drop from bytes) entry.text kept.same_entries (subst (λ (t : List ℕ). IsLongest (texts_in sorted) (drop from bytes) t) text is) in
-    (cut_to_more alphabet bytes word from entry.symbol entry.text kept.formed (Contains-entry alphabet sorted place entry kept.same_entries within at) to longest,
-      All-contains IsSymbol (texts_of alphabet) entry.text kept.formed.symbols longest.listed)
+    let longest = IsLongest-sorted alphabet sorted (drop from bytes) entry.text kept.same_entries (subst (λ (t : List ℕ). IsLongest (texts_in sorted) (drop from bytes) t) text is) in (
+      cut_to_more alphabet bytes word from entry.symbol entry.text kept.formed (Contains-entry alphabet sorted place entry kept.same_entries within at) to longest,
+      All-contains IsSymbol (texts_of alphabet) entry.text kept.formed.symbols longest.listed,
+    )
 
 -- what a range to the end of a slice holds
 pub rest_is : (n : ℕ) (xs : List ℕ) → take (length xs - n) (drop n xs) ≡ drop n xs

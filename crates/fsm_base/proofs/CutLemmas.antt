@@ -1,5 +1,5 @@
 -- The cut of a text takes the longest symbol at each place.
-use Rattle.std.proofs.Common.{◌≡◌, ℕ, ◌+◌, ◌-◌, ◌<◌, ◌≤◌, zero, suc, Bool, true, false, cond, List, [], ◌∷◌, ◌++◌, length, drop, Option, Some, None, Result, Ok, Err, All, Contains, MatchOption, MatchResult, nat_eq, nat_lt, refl, sym, ap, subst, ◌∙◌, ◌⊎◌, inl, inr, arith, append_assoc, append-nil, length-append, add_assoc, if◌then◌else◌}
+use Rattle.std.proofs.Common.{◌≡◌, ℕ, ◌+◌, ◌-◌, ◌<◌, ◌≤◌, zero, suc, Bool, true, false, cond, List, [], ◌∷◌, ◌++◌, length, drop, Option, Some, None, Result, Ok, Err, All, Contains, MatchOption, MatchResult, nat_eq, nat_lt, refl, sym, ap, subst, ◌∙◌, ◌⊎◌, inl, inr, arith, append_assoc, append-nil, length-append}
 use Rattle.std.proofs.lemmas.Bool.{cases_lt}
 use Rattle.std.proofs.lemmas.Bool.Decides.{Decides-eqb, nat_tests}
 use Rattle.std.proofs.lemmas.List.Elements.{All-contains}
@@ -51,14 +51,14 @@ longest_is (s ∷ symbols) text = by (starts_with nat_eq text s) refl (longest s
     by : (b : Bool) → starts_with nat_eq text s ≡ b → (o : Option (List ℕ)) → MatchOption o (BeginsWithNone symbols text) (IsLongest symbols text)
         → MatchOption (cond b (Some (longer s o)) o) (BeginsWithNone (s ∷ symbols) text) (IsLongest (s ∷ symbols) text)
     by false test None none = λ t among begins. elim (Contains-cons_cases s symbols t among) [
-      inl e ↦ let passes = test_from_begins text s (subst (λ v. BeginsWith text v) (sym e) begins) in cc
+      | inl e ↦ let passes = test_from_begins text s (subst (λ v. BeginsWith text v) (sym e) begins) in cc
       | inr later ↦ none t later begins
     ]
     by false test (Some u) is = record {
       listed = Contains-later s symbols u is.listed;
       begins = is.begins;
       longest = λ t among begins. elim (Contains-cons_cases s symbols t among) as (λ _. length t ≤ length u) [
-        inl e ↦ let passes = test_from_begins text s (subst (λ v. BeginsWith text v) (sym e) begins) in cc
+        | inl e ↦ let passes = test_from_begins text s (subst (λ v. BeginsWith text v) (sym e) begins) in cc
         | inr later ↦ is.longest t later begins
       ];
     }
@@ -66,33 +66,33 @@ longest_is (s ∷ symbols) text = by (starts_with nat_eq text s) refl (longest s
       listed = Contains-first s symbols;
       begins = begins_from_test text s test;
       longest = λ t among begins. elim (Contains-cons_cases s symbols t among) as (λ _. length t ≤ length s) [
-        inl e ↦ let same : length s ≡ length t = ap length e in omega arith
+        | inl e ↦ let same : length s ≡ length t = ap length e in omega arith
         | inr later ↦ absurd (none t later begins)
       ];
     }
     by true test (Some u) is = elim (cases_lt (length s) (length u)) as (λ _. IsLongest (s ∷ symbols) text (longer s (Some u))) [
-      inl below ↦
-        let shorter : nat_lt (length s) (length u) ≡ true = grind (arith, nat_tests) in
-        let e : longer s (Some u) ≡ u = ap (λ b. cond b u s) shorter in
-        subst (λ v. IsLongest (s ∷ symbols) text v) (sym e) (record {
-          listed = Contains-later s symbols u is.listed;
-          begins = is.begins;
-          longest = λ t among begins. elim (Contains-cons_cases s symbols t among) as (λ _. length t ≤ length u) [
-            inl same ↦ let l : length s ≡ length t = ap length same in omega arith
-            | inr later ↦ is.longest t later begins
-          ];
-        })
+      | inl below ↦
+          let shorter : nat_lt (length s) (length u) ≡ true = grind (arith, nat_tests) in
+          let e : longer s (Some u) ≡ u = ap (λ b. cond b u s) shorter in
+          subst (λ v. IsLongest (s ∷ symbols) text v) (sym e) (record {
+            listed = Contains-later s symbols u is.listed;
+            begins = is.begins;
+            longest = λ t among begins. elim (Contains-cons_cases s symbols t among) as (λ _. length t ≤ length u) [
+              | inl same ↦ let l : length s ≡ length t = ap length same in omega arith
+              | inr later ↦ is.longest t later begins
+            ];
+          })
       | inr above ↦
-        let no_shorter : nat_lt (length s) (length u) ≡ false = grind (arith, nat_tests) in
-        let e : longer s (Some u) ≡ s = ap (λ b. cond b u s) no_shorter in
-        subst (λ v. IsLongest (s ∷ symbols) text v) (sym e) (record {
-          listed = Contains-first s symbols;
-          begins = begins_from_test text s test;
-          longest = λ t among begins. elim (Contains-cons_cases s symbols t among) as (λ _. length t ≤ length s) [
-            inl same ↦ let l : length s ≡ length t = ap length same in omega arith
-            | inr later ↦ let l : length t ≤ length u = is.longest t later begins in omega arith
-          ];
-        })
+          let no_shorter : nat_lt (length s) (length u) ≡ false = grind (arith, nat_tests) in
+          let e : longer s (Some u) ≡ s = ap (λ b. cond b u s) no_shorter in
+          subst (λ v. IsLongest (s ∷ symbols) text v) (sym e) (record {
+            listed = Contains-first s symbols;
+            begins = begins_from_test text s test;
+            longest = λ t among begins. elim (Contains-cons_cases s symbols t among) as (λ _. length t ≤ length s) [
+              | inl same ↦ let l : length s ≡ length t = ap length same in omega arith
+              | inr later ↦ let l : length t ≤ length u = is.longest t later begins in omega arith
+            ];
+          })
     ]
 
 -- only one symbol is the longest
@@ -102,9 +102,9 @@ longest-from_is symbols text s is = by (longest symbols text) refl (longest_is s
     by : (o : Option (List ℕ)) → longest symbols text ≡ o → MatchOption o (BeginsWithNone symbols text) (IsLongest symbols text) → longest symbols text ≡ Some s
     by None e none = absurd (none s is.listed is.begins)
     by (Some t) e other = e ∙ ap Some (front_same t s other.begins.0 is.begins.0 (sym other.begins.1 ∙ is.begins.1)
-      (let up : length t ≤ length s = is.longest t other.listed other.begins in
-       let down : length s ≤ length t = other.longest s is.listed is.begins in
-       omega arith))
+        (let up : length t ≤ length s = is.longest t other.listed other.begins in
+        let down : length s ≤ length t = other.longest s is.listed is.begins in
+        omega arith))
 
 pub longest-from_none : (symbols : List (List ℕ)) (text : List ℕ) → BeginsWithNone symbols text → longest symbols text ≡ None
 longest-from_none symbols text none = by (longest symbols text) refl (longest_is symbols text)
@@ -126,8 +126,8 @@ cut-symbol symbols text (b ∷ s) rest some e is =
     let less : length s ≡ length (b ∷ s) - 1 = omega arith in
     let behind : cut_behind symbols (length (b ∷ s) - 1) (s ++ rest) ≡ cut symbols rest = subst (λ n. cut_behind symbols n (s ++ rest) ≡ cut symbols rest) less (cut_behind-append symbols s rest) in
     ap (λ t. cut symbols t) e
-      ∙ ap (λ o. cut_by o (λ n. cut_behind symbols (n - 1) (s ++ rest))) is'
-      ∙ ap (λ r. followed (b ∷ s) r) behind
+    ∙ ap (λ o. cut_by o (λ n. cut_behind symbols (n - 1) (s ++ rest))) is'
+    ∙ ap (λ r. followed (b ∷ s) r) behind
 
 -- the cut of a text that begins with none
 pub cut-none : (symbols : List (List ℕ)) (text : List ℕ) → 0 < length text → longest symbols text ≡ None → cut symbols text ≡ Err 1
@@ -164,8 +164,8 @@ module _ (symbols : List (List ℕ)) (are : All IsSymbol symbols) where
   cut-from_takes [] text rest e = ap (λ t. cut symbols t) e ∙ sym (preceded-nil (cut symbols rest))
   cut-from_takes (s ∷ word) text rest t =
       cut-symbol symbols text s t.0 (All-contains IsSymbol symbols s are t.1.listed) t.2 (longest-from_is symbols text s t.1)
-        ∙ ap (λ r. followed s r) (cut-from_takes word t.0 rest t.3)
-        ∙ preceded-cons s word (cut symbols rest)
+      ∙ ap (λ r. followed s r) (cut-from_takes word t.0 rest t.3)
+      ∙ preceded-cons s word (cut symbols rest)
 
   -- the word of a cut, and no other, takes the longest symbol at each place
   pub cut-from_whole : (text : List ℕ) (word : List (List ℕ)) → TakesLongest symbols text word [] → cut symbols text ≡ Ok word
@@ -175,8 +175,8 @@ module _ (symbols : List (List ℕ)) (are : All IsSymbol symbols) where
   pub cut-from_stop : (text : List ℕ) (place : ℕ) → StopsAt symbols text place → cut symbols text ≡ Err place
   cut-from_stop text place s =
       cut-from_takes s.word text s.rest s.takes
-        ∙ ap (λ r. preceded s.word r) (cut-none symbols s.rest s.more (longest-from_none symbols s.rest s.none))
-        ∙ ap Err (sym s.at)
+      ∙ ap (λ r. preceded s.word r) (cut-none symbols s.rest s.more (longest-from_none symbols s.rest s.none))
+      ∙ ap Err (sym s.at)
 
   -- one more symbol at the front
   stop_later : (text s rest : List ℕ) (place : ℕ) → IsLongest symbols text s → text ≡ s ++ rest → StopsAt symbols rest place → StopsAt symbols text (characters s + place)
@@ -203,14 +203,14 @@ module _ (symbols : List (List ℕ)) (are : All IsSymbol symbols) where
           → MatchResult (cut symbols (b ∷ text)) (λ word. TakesLongest symbols (b ∷ text) word []) (StopsAt symbols (b ∷ text))
       by takes None e none =
           subst (λ r. MatchResult r (λ word. TakesLongest symbols (b ∷ text) word []) (StopsAt symbols (b ∷ text))) (sym (cut-none symbols (b ∷ text) (omega arith) e))
-            (record { word = []; rest = b ∷ text; takes = refl; more = omega arith; none = none; at = refl })
+          (record { word = []; rest = b ∷ text; takes = refl; more = omega arith; none = none; at = refl })
       by takes (Some s) e is =
           let some : 0 < length s = All-contains IsSymbol symbols s are is.listed in
           let rest = is.begins.0 in
           let whole : (b ∷ text) ≡ s ++ rest = is.begins.1 in
           let shorter : length rest ≤ n = omega (arith, ap length whole, length-append s rest) in
           subst (λ r. MatchResult r (λ word. TakesLongest symbols (b ∷ text) word []) (StopsAt symbols (b ∷ text))) (sym (cut-symbol symbols (b ∷ text) s rest some whole e))
-            (later s rest is whole (cut symbols rest) (takes rest shorter))
+          (later s rest is whole (cut symbols rest) (takes rest shorter))
 
   -- the cut takes the longest symbol at each place
   pub cut_takes : (text : List ℕ) → MatchResult (cut symbols text) (λ word. TakesLongest symbols text word []) (StopsAt symbols text)

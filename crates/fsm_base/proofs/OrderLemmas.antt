@@ -1,9 +1,8 @@
 -- Texts in the order of bytes: where the longest symbol stands that a text begins with.
-use Rattle.std.proofs.Common.{◌≡◌, ℕ, ◌+◌, ◌-◌, ◌<◌, ◌≤◌, zero, suc, Bool, true, false, cond, List, [], ◌∷◌, ◌++◌, length, take, drop, Option, Some, None, All, Contains, MatchOption, Ordering, nat_eq, refl, sym, ap, subst, ◌∙◌, ◌⊎◌, inl, inr, arith, append_assoc, append-nil, length-append, true≢false}
+use Rattle.std.proofs.Common.{◌≡◌, ℕ, ◌+◌, ◌<◌, zero, suc, Bool, true, false, cond, List, [], ◌∷◌, ◌++◌, length, take, drop, Contains, Ordering, nat_eq, refl, sym, ap, subst, ◌∙◌, arith, append_assoc, append-nil, length-append, true≢false}
 use Rattle.std.specs.declared.cmp.Ordering.TheVariants.{Less, Equal, Greater}
-use Rattle.std.proofs.lemmas.Bool.Decides.{Decides-eqb, nat_tests}
+use Rattle.std.proofs.lemmas.Bool.Decides.{Decides-eqb}
 use Rattle.std.proofs.lemmas.Cmp.{ranked, upto, nat_cmp_total, nat_list_cmp_total, tied_itself}
-use Rattle.std.specs.Cmp.{IsTotalOrder}
 use Rattle.std.specs.Cmp.Lexicographic.{slice_cmp}
 use Rattle.std.proofs.lemmas.List.Folds.{length-prefix_len}
 use Rattle.std.specs.List.{common_prefix_len, prefix_len, take_while, zip}
@@ -134,7 +133,7 @@ narrowed_more texts bytes front last narrowed is = record {
       let here = narrowed.keeps text among begins in
       let there = begins_last texts front last text is among here in
       subst (λ v. BeginsWith (take (common_prefix_len nat_eq v front) front) text) (sym there.1)
-        (subst (λ v. BeginsWith (take (common_prefix_len nat_eq (text ++ there.0) v) v) text) (sym here.1) (begins_shared text there.0 here.0));
+      (subst (λ v. BeginsWith (take (common_prefix_len nat_eq (text ++ there.0) v) v) text) (sym here.1) (begins_shared text there.0 here.0));
 }
 
 -- where the last text is a front, it is the longest

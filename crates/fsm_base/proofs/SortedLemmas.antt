@@ -1,5 +1,5 @@
 -- Entries in the order of their texts, and the last of them up to given bytes.
-use Rattle.std.proofs.Common.{◌≡◌, ℕ, ◌+◌, ◌-◌, ◌<◌, ◌≤◌, zero, suc, Bool, true, false, List, [], ◌∷◌, length, map, Option, Some, None, Contains, MatchOption, SomeIff, get_or, refl, sym, ap, subst, ◌∙◌, ◌⊎◌, inl, inr, arith, true≢false}
+use Rattle.std.proofs.Common.{◌≡◌, ℕ, ◌-◌, ◌<◌, ◌≤◌, zero, suc, true, false, List, [], ◌∷◌, length, Option, Some, None, Contains, MatchOption, SomeIff, get_or, refl, sym, ap, subst, ◌∙◌, inl, inr, arith, true≢false}
 use Rattle.std.proofs.lemmas.Bool.{cases_lt}
 use Rattle.std.proofs.lemmas.Cmp.{nat_list_cmp_total}
 use Rattle.std.proofs.lemmas.List.Elements.{Contains-get_or}
@@ -25,7 +25,7 @@ length-texts (e ∷ entries) = let rest : length (texts_in entries) ≡ length e
 earlier_up_to : (entries : List Entry) → IsByText entries → (i j : ℕ) (d : Entry) → i ≤ j → j < length entries → IsUpTo (get_or entries i d).text (get_or entries j d).text
 earlier_up_to entries sorted i j d le within =
     IsUpTo-from_not_less (get_or entries j d).text (get_or entries i d).text
-      (sorted_far (λ a b. is_lt (slice_cmp nat_cmp a.text b.text)) (ranks_by nat_list_cmp_total (λ (e : Entry). e.text)) entries sorted i j d le within)
+    (sorted_far (λ a b. is_lt (slice_cmp nat_cmp a.text b.text)) (ranks_by nat_list_cmp_total (λ (e : Entry). e.text)) entries sorted i j d le within)
 
 -- so the entries up to these bytes stand before the others
 pub IsPartitionedBy-texts : (entries : List Entry) (bytes : List ℕ) → IsByText entries → IsPartitionedBy (λ e. is_le (slice_cmp nat_cmp e.text bytes)) entries
@@ -53,19 +53,21 @@ module _ (entries : List Entry) (bytes : List ℕ) (sorted : IsByText entries) (
       let one : 1 ≤ count = is.0 in
       let place_is : place ≡ count - 1 = is.1 in
       let inside : place < length entries = omega arith in
-      let inside' : place < length (texts_in entries) = omega (arith, length-texts entries) in
-      (inside, record {
-        listed = Contains-get_or (texts_in entries) place [] inside';
-        up_to = by_default entries inside refl;
-        last = λ text among up.
-            let at = found_at text among in
-            let before : at.0 < count = elim (cases_lt at.0 count) as (λ _. at.0 < count) [
-              inl l ↦ l
-              | inr past ↦ absurd (true≢false (sym up ∙ ap (λ t. is_le (slice_cmp nat_cmp t bytes)) (sym at.3) ∙ point.1 at.0 at.1 past at.2))
-            ] in
-            subst (λ t. IsUpTo t (text_at entries place)) at.3
+      let inside' : place < length (texts_in entries) = omega (arith, length-texts entries) in (
+        inside,
+        record {
+          listed = Contains-get_or (texts_in entries) place [] inside';
+          up_to = by_default entries inside refl;
+          last = λ text among up.
+              let at = found_at text among in
+              let before : at.0 < count = elim (cases_lt at.0 count) as (λ _. at.0 < count) [
+                | inl l ↦ l
+                | inr past ↦ absurd (true≢false (sym up ∙ ap (λ t. is_le (slice_cmp nat_cmp t bytes)) (sym at.3) ∙ point.1 at.0 at.1 past at.2))
+              ] in
+              subst (λ t. IsUpTo t (text_at entries place)) at.3
               (subst (λ t. IsUpTo (get_or entries at.0 at.1).text t) (sym (get_or-texts entries place at.1 [] inside)) (earlier_up_to entries sorted at.0 place at.1 (omega arith) inside));
-      })
+        },
+      )
     where
       by_default : (es : List Entry) → place < length es → es ≡ entries → IsUpTo (text_at entries place) bytes
       by_default [] l e = absurd (omega arith)

@@ -1,10 +1,10 @@
 -- Lists of distinct texts, and what `intern` does to the texts of a table.
-use Rattle.std.proofs.Common.{◌≡◌, ℕ, ◌+◌, ◌<◌, ◌≤◌, Bool, true, false, cond, not, ◌||◌, List, [], ◌∷◌, ◌++◌, map, length, take, String, Some, None, All, refl, sym, ap, subst, ◌∙◌, inl, inr, true≢false, slice_get, arith, length-append, if◌then◌else◌, zero, suc}
+use Rattle.std.proofs.Common.{◌≡◌, ℕ, ◌+◌, ◌<◌, ◌≤◌, Bool, true, false, cond, not, ◌||◌, List, [], ◌∷◌, ◌++◌, map, length, take, String, Some, None, All, refl, sym, ap, subst, ◌∙◌, inl, inr, true≢false, slice_get, arith, length-append, zero, suc}
 use Rattle.std.proofs.lemmas.Bool.{cases_lt}
 use Rattle.std.proofs.lemmas.List.{length-take}
 use Rattle.std.proofs.lemmas.List.Elements.{All-append, All-cons, All-nil, All-take}
 use Rattle.std.proofs.lemmas.Map.Keys.{apart_from_distinct}
-use Rattle.std.proofs.lemmas.Option.{slice_get-map, slice_get_cases, slice_get_within, get_or_from_slice_get, slice_get-get_or, same_Some}
+use Rattle.std.proofs.lemmas.Option.{slice_get-map, slice_get_cases, get_or_from_slice_get, same_Some}
 use Rattle.std.proofs.lemmas.Slice.Eq.{bytes_eq-Decides}
 use Rattle.std.specs.List.{IsDistinct as IsApart, list_any, position_or_len, slice_index_or}
 use Rattle.std.specs.Option.{option_map}
@@ -19,12 +19,12 @@ module _ {K X : Type 0} (eq : K → K → Bool) (f : K → X) (same : (a b : K) 
   apart_places : (ks : List K) → IsApart eq ks → (i j : ℕ) (x : X) → i < j → slice_get (map f ks) i ≡ Some x → slice_get (map f ks) j ≡ Some x → (i ≡ j)
   apart_places ks apart i j x below at_i at_j =
       elim ((slice_get_cases ks i).1) as (λ _. i ≡ j) [
-        inl p ↦ elim ((slice_get_cases ks j).1) as (λ _. i ≡ j) [
-          inl q ↦
-            let fa : f p.0 ≡ x = same_Some _ _ (sym (ap (option_map f) p.2) ∙ sym (slice_get-map f ks i) ∙ at_i) in
-            let fb : f q.0 ≡ x = same_Some _ _ (sym (ap (option_map f) q.2) ∙ sym (slice_get-map f ks j) ∙ at_j) in
-            let off : eq p.0 q.0 ≡ false = subst (λ v. eq p.0 v ≡ false) (get_or_from_slice_get ks j q.0 p.0 q.2) (subst (λ v. eq v (slice_index_or ks j p.0) ≡ false) p.3 (apart_from_distinct eq ks i j p.0 apart below q.1)) in
-            absurd (true≢false (sym (same p.0 q.0 (fa ∙ sym fb)) ∙ off))
+        | inl p ↦ elim ((slice_get_cases ks j).1) as (λ _. i ≡ j) [
+          | inl q ↦
+              let fa : f p.0 ≡ x = same_Some _ _ (sym (ap (option_map f) p.2) ∙ sym (slice_get-map f ks i) ∙ at_i) in
+              let fb : f q.0 ≡ x = same_Some _ _ (sym (ap (option_map f) q.2) ∙ sym (slice_get-map f ks j) ∙ at_j) in
+              let off : eq p.0 q.0 ≡ false = subst (λ v. eq p.0 v ≡ false) (get_or_from_slice_get ks j q.0 p.0 q.2) (subst (λ v. eq v (slice_index_or ks j p.0) ≡ false) p.3 (apart_from_distinct eq ks i j p.0 apart below q.1)) in
+              absurd (true≢false (sym (same p.0 q.0 (fa ∙ sym fb)) ∙ off))
           | inr q ↦ let e : None ≡ Some x = sym (slice_get-map f ks j ∙ ap (option_map f) q.1) ∙ at_j in cc
         ]
         | inr p ↦ let e : None ≡ Some x = sym (slice_get-map f ks i ∙ ap (option_map f) p.1) ∙ at_i in cc
@@ -34,9 +34,9 @@ module _ {K X : Type 0} (eq : K → K → Bool) (f : K → X) (same : (a b : K) 
   pub IsDistinct-map : (ks : List K) → IsApart eq ks → IsDistinct (map f ks)
   IsDistinct-map ks apart i j x at_i at_j =
       elim (cases_lt i j) as (λ _. i ≡ j) [
-        inl below ↦ apart_places ks apart i j x below at_i at_j
+        | inl below ↦ apart_places ks apart i j x below at_i at_j
         | inr above ↦ elim (cases_lt j i) as (λ _. i ≡ j) [
-          inl below ↦ sym (apart_places ks apart j i x below at_j at_i)
+          | inl below ↦ sym (apart_places ks apart j i x below at_j at_i)
           | inr same_place ↦ omega arith
         ]
       ]
@@ -83,7 +83,7 @@ module _ {Y : Type 0} (text : List ℕ) where
 pub with_text-strings : {Y : Type 0} (text : List ℕ) (ks : List (String Y)) (owned : String Y) → string_bytes owned ≡ text → map string_bytes (insert_key string_eq ks owned) ≡ with_text text (map string_bytes ks)
 with_text-strings {Y} text ks owned is =
     subst (λ t. map string_bytes (insert_key string_eq ks owned) ≡ with_text t (map string_bytes ks)) is
-      (by (list_any (string_eq owned) ks) (list_any (bytes_eq (string_bytes owned)) (map string_bytes ks)) (list_any-strings (string_bytes owned) ks))
+    (by (list_any (string_eq owned) ks) (list_any (bytes_eq (string_bytes owned)) (map string_bytes ks)) (list_any-strings (string_bytes owned) ks))
   where
     by : (b c : Bool) → b ≡ c → map string_bytes (cond b ks (ks ++ owned ∷ [])) ≡ cond c (map string_bytes ks) (map string_bytes ks ++ string_bytes owned ∷ [])
     by b c e = subst (λ c. map string_bytes (cond b ks (ks ++ owned ∷ [])) ≡ cond c (map string_bytes ks) (map string_bytes ks ++ string_bytes owned ∷ [])) e (split b)

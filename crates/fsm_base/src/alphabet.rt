@@ -8,13 +8,12 @@ ghost use Rattle.fsm_base.specs.Sorted.{IsByText, entries_of};
 ghost use Rattle.fsm_base.specs.Symbols.{IsTable};
 ghost use Rattle.fsm_base.specs.Tokens.{IsStopped};
 
+use crate::longest::{Entry, longest_place};
+use crate::{Sym, SymbolTable, Text};
 use indexmap::IndexMap;
 use std::alloc::{AllocError, AllocFailed, Global};
 use std::marker::Model;
 use thiserror::Error;
-
-use crate::longest::{longest_place, Entry};
-use crate::{Sym, SymbolTable, Text};
 
 /// Why a text is not cut into symbols.
 #[derive(Debug, Drop, Error)]
@@ -154,7 +153,10 @@ fn character_at(before: &[u8]) -> u32
     requires { length before.now < 2 ^ 32 - 1 }
     ensures { result ≡ characters before.now + 1 }
 {
-    let count = before.iter().filter(|byte| **byte < 128 || 192 <= **byte).count();
+    let count = before
+        .iter()
+        .filter(|byte| **byte < 128 || 192 <= **byte)
+        .count();
     count as u32 + 1
 }
 

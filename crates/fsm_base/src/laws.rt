@@ -11,5 +11,4 @@ pub fn cut_takes_longest()
     ensures only_word { OnlyCutTakesLongest }
     ensures only_place { OnlyCutStops }
     ensures joins { CutJoins }
-{
-}
+{}

@@ -39,8 +39,7 @@ fn last_up_to(entries: &[Entry], bytes: &[u8]) -> Option<usize>
     requires { IsByText entries.now }
     ensures { MatchOption result (NoneUpTo (texts_in entries.now) bytes.now) (λ place. (place < length entries.now) × IsLastUpTo (texts_in entries.now) bytes.now (text_at entries.now place)) }
 {
-    let count =
-        entries.partition_point(|entry| entry.text.as_str().as_bytes().cmp(bytes).is_le());
+    let count = entries.partition_point(|entry| entry.text.as_str().as_bytes().cmp(bytes).is_le());
     count.checked_sub(1)
 }
 

@@ -2,11 +2,10 @@ ghost use Rattle.std.specs.Prelude.{◌≡◌, ◌==◌, ◌<◌, [], length, ta
 ghost use Rattle.std.specs.Option.{option_map};
 ghost use Rattle.fsm_base.specs.Symbols.{IsTable, number_of, with_text};
 
+use crate::Sym;
 use indexmap::IndexSet;
 use std::alloc::{AllocError, Global};
 use std::marker::Model;
-
-use crate::Sym;
 
 /// The texts of the symbols, numbered from 0 in the order in which they came.
 ///

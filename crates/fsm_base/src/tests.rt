@@ -1,8 +1,13 @@
+ghost use Rattle.std.specs.Prelude.{◌≡◌, [], ◌∷◌, IfOk};
+ghost use Rattle.fsm_base.specs.Alphabet.{symbols_of};
+
+use crate::{
+    Alphabet, Bound, Letter, Pair, Sym, SymbolTable, Text, TokensError, cut_takes_longest,
+};
+use std::alloc::{AllocError, Global};
 use std::cmp::Ordering;
 use std::collections::HashMap;
 use std::test::Fail;
-
-use crate::{cut_takes_longest, Alphabet, Bound, Letter, Pair, Sym, SymbolTable, Text, TokensError};
 
 fn order<L: Letter>(a: L, b: L) -> Ordering {
     a.cmp(&b)
@@ -21,7 +26,10 @@ fn letters_have_an_order(rt: HostRuntime) {
     assert_eq!(rt; order(Sym(1), Sym(2)), Ordering::Less);
     assert_eq!(rt; order(copied, inserted), Ordering::Greater);
     assert_eq!(rt; order(Bound::Edge, Bound::Inner(Sym(0))), Ordering::Less);
-    assert_eq!(rt; order(Bound::Inner(Sym(3)), Bound::Inner(Sym(3))), Ordering::Equal);
+    assert_eq!(rt;
+        order(Bound::Inner(Sym(3)), Bound::Inner(Sym(3))),
+        Ordering::Equal
+    );
 }
 
 #[test]
@@ -48,21 +56,39 @@ fn texts_are_ordered_by_bytes(rt: HostRuntime) -> Result<(), Fail> {
 }
 
 #[test]
-fn the_longest_symbol_is_cut_first(rt: HostRuntime) -> Result<(), Fail> {
-    let alloc = rt.alloc();
-    let mut table = SymbolTable::new(alloc);
+fn a_table_numbers_its_symbols(rt: HostRuntime) -> Result<(), Fail> {
+    let mut table = SymbolTable::new(rt.alloc());
     assert!(rt; table.is_empty());
+    assert_eq!(rt; table.intern("a")?, Sym(0));
+    assert_eq!(rt; table.intern("ab")?, Sym(1));
+    assert_eq!(rt; table.intern("a")?, Sym(0));
+    assert_eq!(rt; table.len(), 2);
+    assert_eq!(rt; table.text_of(Sym(1)), Some("ab"));
+    table.keep(1);
+    assert_eq!(rt; table.text_of(Sym(1)), None);
+    Ok(())
+}
+
+// The alphabet of `a` and `ab`.
+fn short_alphabet(alloc: Global) -> Result<Alphabet, AllocError>
+    ensures { IfOk result (λ alphabet. symbols_of alphabet ≡ record { 0 = 0 } ∷ record { 0 = 1 } ∷ []) }
+{
+    let mut table = SymbolTable::new(alloc);
     let a = table.intern("a")?;
     let ab = table.intern("ab")?;
-    assert!(rt; table.len() < 16_777_216);
-    assert_eq!(rt; table.intern("a")?, a);
-    assert_eq!(rt; (a, ab, table.len()), (Sym(0), Sym(1), 2));
-    assert_eq!(rt; table.text_of(ab), Some("ab"));
+    Alphabet::of(alloc, &table, &[a, ab])
+}
 
-    let alphabet = Alphabet::of(alloc, &table, &[a, ab])?;
-    assert_eq!(rt; alphabet.symbols(), [a, ab].as_slice());
-    for (text, want) in [("aab", [a, ab]), ("aba", [ab, a])] {
-        assert_eq!(rt; alphabet.tokens(alloc, text)?.as_slice(), want.as_slice(), "at {text}");
+#[test]
+fn the_longest_symbol_is_cut_first(rt: HostRuntime) -> Result<(), Fail> {
+    let alloc = rt.alloc();
+    let alphabet = short_alphabet(alloc)?;
+    for (text, want) in [("aab", [Sym(0), Sym(1)]), ("aba", [Sym(1), Sym(0)])] {
+        assert_eq!(rt;
+            alphabet.tokens(alloc, text)?.as_slice(),
+            want.as_slice(),
+            "at {text}"
+        );
     }
     for (text, want) in [("ba", 1), ("aéa", 2), ("abb", 3)] {
         match alphabet.tokens(alloc, text) {
@@ -70,10 +96,17 @@ fn the_longest_symbol_is_cut_first(rt: HostRuntime) -> Result<(), Fail> {
             _ => assert!(rt; false, "{text} has a cut"),
         }
     }
-    assert_eq!(rt; alphabet.text(alloc, &[ab, a])?.as_str(), "aba");
+    Ok(())
+}
 
-    table.keep(1);
-    assert_eq!(rt; table.text_of(ab), None);
+#[test]
+fn a_word_is_joined(rt: HostRuntime) -> Result<(), Fail> {
+    let alphabet = short_alphabet(rt.alloc())?;
+    assert_eq!(rt; alphabet.symbols(), [Sym(0), Sym(1)].as_slice());
+    assert_eq!(rt;
+        alphabet.text(rt.alloc(), &[Sym(1), Sym(0)])?.as_str(),
+        "aba"
+    );
     cut_takes_longest();
     Ok(())
 }

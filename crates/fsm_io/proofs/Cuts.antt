@@ -1,10 +1,10 @@
 -- Laws on the lines of bytes and on lines as they are told.
-use Rattle.std.proofs.Common.{◌≡◌, ◌≢◌, ℕ, zero, suc, ◌+◌, ◌-◌, ◌<◌, ◌≤◌, min, Bool, true, false, List, [], ◌∷◌, ◌++◌, length, map, take, nat_le, ◌==◌, Option, None, Some, Contains, All, cond, ◌⊎◌, inl, inr, refl, sym, ap, subst, ◌∙◌, append_assoc, append-nil, arith, length-append, length-take}
+use Rattle.std.proofs.Common.{◌≡◌, ◌≢◌, ℕ, suc, ◌<◌, ◌≤◌, Bool, true, false, List, [], ◌∷◌, ◌++◌, length, take, nat_le, ◌==◌, None, Some, Contains, cond, ◌⊎◌, inl, inr, refl, sym, ap, ◌∙◌, arith, length-append, length-take}
 use Rattle.std.proofs.lemmas.List.{take_all}
 use Rattle.std.proofs.lemmas.Bool.Decides.{nat_tests}
 use Rattle.std.proofs.lemmas.List.Elements.{All-append}
 use Rattle.std.proofs.Math.Seq.{get_or-append_seam}
-use Rattle.fsm_io.specs.Lines.{onto, raw_lines, told, lines_of, IsWithinLine}
+use Rattle.fsm_io.specs.Lines.{onto, raw_lines, told, IsWithinLine}
 use Rattle.fsm_io.specs.Gather.{most_kept}
 
 -- ---- no newline

@@ -1,12 +1,12 @@
 -- How `gather` keeps its record from read to read, and what the next event is of it.
-use Rattle.std.proofs.Common.{◌≡◌, ℕ, ◌+◌, ◌-◌, ◌<◌, ◌≤◌, min, Bool, true, false, List, [], ◌∷◌, ◌++◌, length, take, drop, nat_le, ◌==◌, Option, None, Some, cond, refl, sym, ap, subst, ◌∙◌, append_assoc, append-nil, arith, length-append}
+use Rattle.std.proofs.Common.{◌≡◌, ℕ, ◌+◌, ◌-◌, ◌<◌, ◌≤◌, min, Bool, true, false, List, [], ◌∷◌, ◌++◌, length, take, drop, nat_le, ◌==◌, Option, cond, refl, sym, ap, subst, ◌∙◌, append_assoc, append-nil, arith, length-append}
 use Rattle.std.proofs.lemmas.Bool.Decides.{nat_tests}
 use Rattle.std.proofs.lemmas.List.{take_all}
-use Rattle.std.specs.Io.KnownBytes.{Consumes, Keeps, IsAtEnd}
+use Rattle.std.specs.Io.KnownBytes.{Consumes, IsAtEnd}
 use Rattle.fsm_io.specs.Buffers.{BufferView}
 use Rattle.fsm_io.specs.Gather.{Moves, Gathered, IsNewline, IsStep, is_settled, is_ended, is_told, event_of, most_kept}
 use Rattle.fsm_io.specs.Lines.{told, IsWithinLine}
-use Rattle.fsm_io.specs.Reading.{LinesView, NextEvent, IsLineEvent, Tells, IsDivided, HasStopped, size_of}
+use Rattle.fsm_io.specs.Reading.{LinesView, NextEvent, IsLineEvent, Tells, IsDivided, HasStopped}
 use Rattle.fsm_io.specs.declared.lines.LineEvent.{LineEvent}
 use Rattle.fsm_io.specs.declared.lines.LineEvent.TheVariants.{Line, Long, End, Failed, Over}
 use Rattle.fsm_io.specs.declared.lines.Step.{Step}

@@ -1,6 +1,7 @@
--- Small laws on known bytes that grow or are consumed, and on counts of faults.
-use Rattle.std.proofs.Common.{◌≡◌, ℕ, ◌≤◌, List, [], ◌∷◌, ◌++◌, Option, None, Some, take, refl, sym, ap, ◌∙◌, append_assoc, append-nil}
+-- Small laws on known bytes that grow or are consumed, and on what is written through an outbox.
+use Rattle.std.proofs.Common.{ℕ, List, [], ◌++◌, Option, None, Some, Result, Ok, refl, sym, ap, ◌∙◌, append_assoc, append-nil}
 use Rattle.std.specs.Io.KnownBytes.{Appends, Consumes, Keeps}
+use Rattle.fsm_io.specs.Sinks.{Written, Gathers}
 
 pub appends_none : (known : Option (List ℕ)) → Appends known known []
 appends_none None = tt
@@ -31,3 +32,30 @@ consumes_more None b c first second p q = tt
 consumes_more (Some xs) None c first second p q = absurd p
 consumes_more (Some xs) (Some ys) None first second p q = absurd q
 consumes_more (Some xs) (Some ys) (Some zs) first second p q = p ∙ ap (λ (l : List ℕ). first ++ l) q ∙ sym (append_assoc first second zs)
+
+-- ---- what is written through an outbox: all that was put, but for what is gathered
+
+pub written_start : (known : Option (List ℕ)) (bytes : List ℕ) → Written known known bytes bytes
+written_start known bytes = record { front = []; whole = refl; appended = appends_none known }
+
+-- bytes were put, or with none the outbox was flushed
+pub written_put : {T E : Type 0} (old mid new : Option (List ℕ)) (all gathered bytes after : List ℕ) (value : T)
+    → Written old mid all gathered → Gathers {T = T} {E = E} mid new gathered bytes after (Ok value) → Written old new (all ++ bytes) after
+written_put old mid new all gathered bytes after value before put =
+    let whole = append_assoc before.front gathered bytes ∙ ap (λ (l : List ℕ). before.front ++ l) (put.whole ∙ ap (λ (l : List ℕ). put.front ++ l) (sym put.kept)) ∙ sym (append_assoc before.front put.front after) in
+    record {
+      front = before.front ++ put.front;
+      whole = ap (λ (l : List ℕ). l ++ bytes) before.whole ∙ whole;
+      appended = appends_more old mid new before.front put.front before.appended put.appended;
+    }
+
+-- a put failed: a front of all bytes was written
+pub written_failed : {T E : Type 0} (old mid new : Option (List ℕ)) (all gathered bytes after : List ℕ) (result : Result T E)
+    → Written old mid all gathered → (put : Gathers {T = T} {E = E} mid new gathered bytes after result) → Written old new (all ++ bytes) put.rest
+written_failed old mid new all gathered bytes after result before put =
+    let whole = append_assoc before.front gathered bytes ∙ ap (λ (l : List ℕ). before.front ++ l) put.whole ∙ sym (append_assoc before.front put.front put.rest) in
+    record {
+      front = before.front ++ put.front;
+      whole = ap (λ (l : List ℕ). l ++ bytes) before.whole ∙ whole;
+      appended = appends_more old mid new before.front put.front before.appended put.appended;
+    }

@@ -1,22 +1,14 @@
--- What a write of all bytes in pieces keeps from call to call, and laws on fronts of lists.
-use Rattle.std.proofs.Common.{◌≡◌, ℕ, zero, suc, ◌+◌, ◌-◌, ◌<◌, ◌≤◌, min, List, [], ◌∷◌, ◌++◌, length, take, drop, Option, None, Some, Result, Ok, Err, Bool, true, false, cond, get_or, subst, refl, sym, ap, ◌∙◌, append_assoc, append-nil, arith, take-append-drop, length-append, drop-drop}
+-- What a write of all bytes keeps from piece to piece, what the objects in memory give, and laws on
+-- fronts of lists.
+use Rattle.std.proofs.Common.{◌≡◌, ℕ, zero, suc, ◌+◌, ◌-◌, ◌<◌, ◌≤◌, min, List, [], ◌∷◌, ◌++◌, length, take, drop, Option, Some, Result, Ok, Err, Bool, true, cond, get_or, subst, refl, sym, ap, ◌∙◌, append_assoc, append-nil, arith, take-append-drop, drop-drop}
 use Rattle.std.proofs.lemmas.List.{drop-take, take_rest, drop_all, at_drop_more}
 use Rattle.std.specs.Str.{bytes_eq}
 use Rattle.std.specs.Global.{Vec}
 use Rattle.std.specs.Io.KnownBytes.{Appends, Keeps}
 use Rattle.fsm_io.specs.Folders.{file_of}
 use Rattle.fsm_io.specs.Objects.{contents}
-use Rattle.fsm_io.specs.Sinks.{WritesAll, Gathers}
-use Rattle.fsm_io.proofs.Known.{appends_none, appends_kept, appends_more}
-
--- a front was written, and the rest is still to be
-pub record Written (old new : Option (List ℕ)) (bytes rest : List ℕ) : Type 0 where
-  pub front : List ℕ
-  pub whole : bytes ≡ front ++ rest
-  pub appended : Appends old new front
-
-pub written_start : (known : Option (List ℕ)) (bytes : List ℕ) → Written known known bytes bytes
-written_start known bytes = record { front = []; whole = refl; appended = appends_none known }
+use Rattle.fsm_io.specs.Sinks.{Written, WritesAll, Gathers}
+use Rattle.fsm_io.proofs.Known.{appends_kept, appends_more}
 
 pub written_more : (old mid new : Option (List ℕ)) (bytes rest : List ℕ) (n : ℕ) → Written old mid bytes rest → Appends mid new (take n rest) → Written old new bytes (drop n rest)
 written_more old mid new bytes rest n before now = record {
@@ -34,8 +26,8 @@ written_all old new bytes rest value before none = record {
   all = none;
 }
 
-pub written_failed : {T E : Type 0} (old mid new : Option (List ℕ)) (bytes rest : List ℕ) (error : E) → Written old mid bytes rest → Keeps mid new → WritesAll {T = T} {E = E} old new bytes (Err error)
-written_failed old mid new bytes rest error before kept = record {
+pub written_stopped : {T E : Type 0} (old mid new : Option (List ℕ)) (bytes rest : List ℕ) (error : E) → Written old mid bytes rest → Keeps mid new → WritesAll {T = T} {E = E} old new bytes (Err error)
+written_stopped old mid new bytes rest error before kept = record {
   front = before.front ++ [];
   rest = rest;
   whole = before.whole ∙ ap (λ (l : List ℕ). l ++ rest) (sym (append-nil before.front));

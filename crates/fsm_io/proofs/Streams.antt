@@ -1,9 +1,9 @@
 -- Laws for loops over a source: what was told so far, and one event more.
-use Rattle.std.proofs.Common.{◌≡◌, ℕ, ◌+◌, ◌<◌, Bool, true, false, List, [], ◌∷◌, ◌++◌, length, map, Option, None, Some, cond, refl, sym, ap, subst, ◌∙◌, append_assoc, append-nil, arith, length-append}
+use Rattle.std.proofs.Common.{◌≡◌, ℕ, ◌<◌, Bool, true, false, List, [], ◌∷◌, ◌++◌, length, map, Option, cond, refl, sym, ap, subst, ◌∙◌, append_assoc, append-nil, arith, length-append}
 use Rattle.std.proofs.lemmas.List.{map-append}
-use Rattle.std.specs.Io.KnownBytes.{Consumes, IsAtEnd}
-use Rattle.fsm_io.specs.Lines.{raw_lines, told, lines_of, IsWithinLine}
-use Rattle.fsm_io.specs.Reading.{LinesView, NextEvent, HasRead, HasTold, Tells, IsDivided, HasStopped, IsLineEvent, told_by, at_start}
+use Rattle.std.specs.Io.KnownBytes.{IsAtEnd}
+use Rattle.fsm_io.specs.Lines.{raw_lines, told, lines_of}
+use Rattle.fsm_io.specs.Reading.{LinesView, NextEvent, HasRead, HasTold, IsDivided, told_by, at_start}
 use Rattle.fsm_io.specs.declared.lines.LineEvent.{LineEvent}
 use Rattle.fsm_io.specs.declared.lines.LineEvent.TheVariants.{Line, Long, End, Failed, Over}
 use Rattle.fsm_io.proofs.Known.{consumes_none, consumes_more}

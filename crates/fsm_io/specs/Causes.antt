@@ -1,4 +1,5 @@
--- When a call may answer a failure: only where the object's count of faults rose in that call.
+-- When a call may answer a failure: only where its object's count of faults rose in that call. As the
+-- calls `read` and `write` of POSIX.1-2017, a failed call moves no byte.
 use Rattle.std.specs.Prelude.{ℕ, ◌+◌, ◌-◌, ◌^◌, ◌≤◌, min, Result, OnErr, IsErrOf}
 use Rattle.fsm_io.specs.declared.folder.FolderError.{FolderError}
 use Rattle.fsm_io.specs.declared.folder.FolderError.TheVariants.{Failed}

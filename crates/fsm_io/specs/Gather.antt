@@ -1,5 +1,5 @@
 -- How a line is put together from the bytes held and those read.
-use Rattle.std.specs.Prelude.{◌≡◌, ℕ, ◌+◌, ◌<◌, Bool, true, false, List, [], ◌∷◌, ◌++◌, length, take, drop, Option, nat_le, ◌==◌, if◌then◌else◌, Contains, ⊤}
+use Rattle.std.specs.Prelude.{◌≡◌, ℕ, ◌+◌, ◌<◌, Bool, true, false, List, [], ◌∷◌, ◌++◌, length, take, drop, Option, nat_le, ◌==◌, if◌then◌else◌, ⊤}
 use Rattle.std.specs.Io.KnownBytes.{Consumes, IsAtEnd}
 use Rattle.fsm_io.specs.Buffers.{BufferView}
 use Rattle.fsm_io.specs.Lines.{IsWithinLine}

@@ -1,3 +1,4 @@
+pub mod Adapters
 pub mod Buffers
 pub mod Causes
 pub mod Sinks

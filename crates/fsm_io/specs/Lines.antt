@@ -1,4 +1,5 @@
--- The lines of bytes, and lines as they are told: one of more than 4,096 bytes only as being long.
+-- The lines of bytes (POSIX.1-2017, Base Definitions, 3.195 incomplete line and 3.206 line), and lines
+-- as they are told: one of more than 4,096 bytes only as being long.
 use Rattle.std.specs.Prelude.{◌≢◌, ℕ, Bool, true, false, List, [], ◌∷◌, map, length, Option, None, Some, nat_le, ◌==◌, if◌then◌else◌, All}
 
 -- b at the front of the first of the lines; where there is none, a line that the end alone settles

@@ -1,5 +1,6 @@
--- What a reader of lines has read of its source, and what its next event is.
-use Rattle.std.specs.Prelude.{◌≡◌, ℕ, ◌+◌, ◌<◌, ◌≤◌, Bool, true, false, List, [], ◌∷◌, ◌++◌, map, length, Option, None, Some, Contains, if◌then◌else◌, ⊤}
+-- What a reader of lines has read of its source, and what its next event is. A source's last line may
+-- be an incomplete line (POSIX.1-2017, Base Definitions, 3.195), which its end settles.
+use Rattle.std.specs.Prelude.{◌≡◌, ℕ, ◌+◌, ◌<◌, ◌≤◌, Bool, true, false, List, [], ◌∷◌, ◌++◌, map, length, Option, None, Some, if◌then◌else◌, ⊤}
 use Rattle.std.specs.Io.KnownBytes.{Consumes, IsAtEnd}
 use Rattle.fsm_io.specs.Lines.{raw_lines, told, IsWithinLine}
 use Rattle.fsm_io.specs.declared.lines.LineEvent.{LineEvent}
@@ -82,7 +83,7 @@ pub record NextEvent (left0 left : Option (List ℕ)) (old new : LinesView) (eve
   pub short : event ≡ Line → length new.text ≤ 4096
   pub progress : IsLineEvent event → size_of new < size_of old
 
--- the bytes taken so far and their lines; `rest` is what was taken behind these
+-- the bytes taken so far and their lines, where `begun` is the front of a further line that was read
 pub record HasRead (left0 left : Option (List ℕ)) (budget0 : ℕ) (reader : LinesView) (lines : List (List ℕ)) : Type 0 where
   pub taken : List ℕ
   pub begun : List ℕ

@@ -1,4 +1,4 @@
-ghost use Rattle.std.specs.Prelude.{◌≡◌, ℕ, ◌≤◌, None, IfOk, IfSome, length, take};
+ghost use Rattle.std.specs.Prelude.{◌≡◌, ℕ, ◌≤◌, ⊤, None, IfOk, IfSome, length, take};
 ghost use Rattle.fsm_io.specs.Folders.{HasAtMost};
 
 use crate::folder::{Folder, FolderError, Found};
@@ -48,6 +48,8 @@ impl<'a, R: Files> Folder for DirFolder<'a, R> {
     ghost files = { λ _. None };
 
     ghost faults = { λ s. s.faults };
+
+    ghost reads = { λ _ _ _ _. ⊤ };
 
     /// A file that isn't there is missing, and any other error is a fault. No more than `most` bytes
     /// are kept, however long the file is.

@@ -1,4 +1,4 @@
-ghost use Rattle.std.specs.Prelude.{◌≡◌, ℕ, ◌<◌, Option, IfOk};
+ghost use Rattle.std.specs.Prelude.{◌≡◌, ℕ, ◌<◌, List, Option, IfOk};
 
 use std::alloc::{AllocError, Global};
 
@@ -43,10 +43,15 @@ pub trait Folder {
     /// The failed calls so far, which [`Folder::faults`] answers.
     ghost faults: { Self → ℕ };
 
+    /// What a read of a file of this name, of so many bytes at most, may make of the folder. A clause
+    /// over any folder says by it which files were asked for, and no others.
+    ghost reads: { Self → List ℕ → ℕ → Self → Type 0 };
+
     /// The first `most` bytes of the file of this name. A read changes no file.
     fn read(&mut self, alloc: Global, name: &str, most: usize) -> Result<Found, FolderError>
         ensures found { IfOk result (λ found. Told (files self.old) (Finds name.now most found)) }
         ensures files { files self.new ≡ files self.old }
+        ensures asked { reads self.old name.now most self.new }
         ensures cause { FolderCause (faults self.old) (faults self.new) result };
 
     /// How many calls failed so far, as far as 64 bits count.

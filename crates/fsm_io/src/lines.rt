@@ -1,4 +1,4 @@
-ghost use Rattle.std.specs.Prelude.{◌≡◌, ◌↔◌, ℕ, ◌≤◌, List, [], ◌++◌, Option, IfOk, IsTrue, Contains, MatchOption, length, take, drop, ◌∷◌, ◌+◌, ◌<◌, if◌then◌else◌};
+ghost use Rattle.std.specs.Prelude.{◌≡◌, ◌↔◌, ℕ, ◌≤◌, List, [], ◌++◌, Option, IfOk, IsTrue, Contains, MatchOption, length, take, drop, ◌∷◌, ◌+◌, ◌<◌, if◌then◌else◌, true};
 ghost use Rattle.fsm_io.specs.Causes.{Rose};
 ghost use Rattle.fsm_io.specs.Gather.{Moves, Gathered, IsNewline, event_of};
 ghost use Rattle.fsm_io.specs.Lines.{IsWithinLine};
@@ -116,6 +116,11 @@ impl Lines {
 
         // Where a whole line is ahead, the source isn't read.
         ensures ready { Contains self.old.ahead 10 → IsLineEvent result × (source.new ≡ source.old) }
+
+        // Nor is it once the budget was taken or the source has ended.
+        ensures spent { self.old.budget ≡ 0 → source.new ≡ source.old }
+        ensures ended { self.old.ended ≡ true → source.new ≡ source.old }
+
         ensures failed { result ≡ LineEvent.Failed → Rose (S.faults source.old) (S.faults source.new) }
         ensures later { S.faults source.old ≤ S.faults source.new }
     {
@@ -139,6 +144,8 @@ impl Lines {
     fn advance<S: Source>(&mut self, source: &mut S) -> LineEvent
         ensures next { NextEvent (S.left source.old) (S.left source.new) self.old self.new result }
         ensures ready { Contains self.old.ahead 10 → IsLineEvent result × (source.new ≡ source.old) }
+        ensures spent { self.old.budget ≡ 0 → source.new ≡ source.old }
+        ensures ended { self.old.ended ≡ true → source.new ≡ source.old }
         ensures failed { result ≡ LineEvent.Failed → Rose (S.faults source.old) (S.faults source.new) }
         ensures later { S.faults source.old ≤ S.faults source.new }
     {
@@ -179,6 +186,7 @@ fn gather<S: Source>(held: &mut Held, line: &mut Buffer, budget: &mut u64, sourc
     requires { length line.old.held ≤ line.old.room }
     ensures gathered { Gathered (S.left source.old) (S.left source.new) budget.old budget.new line.old line.new held.old held.new result }
     ensures ready { Contains held.old 10 → (result ≡ Step.Settled) × (source.new ≡ source.old) }
+    ensures spent { budget.old ≡ 0 → source.new ≡ source.old }
     ensures failed { result ≡ Step.Failed → Rose (S.faults source.old) (S.faults source.new) }
     ensures later { S.faults source.old ≤ S.faults source.new }
 {

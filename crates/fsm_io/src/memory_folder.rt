@@ -50,6 +50,8 @@ impl Folder for MemoryFolder {
 
     ghost faults = { λ s. s.faults };
 
+    ghost reads = { λ old _ _ new. new.files ≡ old.files };
+
     fn read(&mut self, alloc: Global, name: &str, most: usize) -> Result<Found, FolderError>
         ensures found { IfOk result (λ found. Finds name.now most found self.old.files) }
         ensures files { self.new.files ≡ self.old.files }

@@ -44,6 +44,10 @@ with_texts table (text ∷ texts) = with_texts (with_text text table) texts
 abbrev pub alphabet_of : Term Raw → List (List ℕ)
 alphabet_of e = with_texts [] (symbols_in e)
 
+-- the project of one definition
+abbrev pub project_of : Definition → Project
+project_of d = record { alphabet = alphabet_of d.term; definitions = d ∷ [] }
+
 -- the project defines the name
 abbrev pub Defines : Project → List ℕ → Type 0
 Defines project name = (d : Definition) × Contains project.definitions d × (d.name ≡ name)

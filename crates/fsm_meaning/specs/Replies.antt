@@ -27,11 +27,15 @@ IsPrintable b = (32 ≤ b) × (b ≤ 126)
 abbrev pub IsWord : List ℕ → Type 0
 IsWord line = All IsPrintable line
 
+-- the bytes without this byte at their end
+abbrev pub without_last : ℕ → List ℕ → List ℕ
+without_last last [] = []
+without_last last (b ∷ []) = if b == last then [] else b ∷ []
+without_last last (b ∷ c ∷ bytes) = b ∷ without_last last (c ∷ bytes)
+
 -- the line without a carriage return at its end
 abbrev pub without_return : List ℕ → List ℕ
-without_return [] = []
-without_return (b ∷ []) = if b == 13 then [] else b ∷ []
-without_return (b ∷ c ∷ line) = b ∷ without_return (c ∷ line)
+without_return line = without_last 13 line
 
 -- which texts a look-up of the cut word finds
 pub data Direction : Type 0 where

@@ -1,2 +1,11 @@
+pub mod Endings
+pub mod Lawful
+pub mod Loading
+pub mod Manifests
+pub mod NetworkLemmas
+pub mod ReplyBytes
+pub mod Runs
 pub mod PairLemmas
+pub mod Reading
+pub mod Sending
 pub mod SideLemmas

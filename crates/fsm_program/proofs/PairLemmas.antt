@@ -11,7 +11,8 @@ use Rattle.std.specs.declared.vec.Vec.{Vec}
 use Rattle.std.specs.declared.alloc.Global.{Global}
 use Rattle.fsm_meaning.specs.OnePair.{IsLeaf, IsPart, AreParts, IsPlain, leaf_word, part_upper, part_lower, parts_upper, parts_lower, upper_word, lower_word}
 use Rattle.fsm_meaning.specs.Projects.{symbol_of, symbols_in, symbols_in_each, with_texts}
-use Rattle.fsm_program.specs.Sides.{Spells, AddsWord, AddsPair, terms_of}
+use Rattle.fsm_program.specs.Sides.{Spells, AddsWord, AddsPair}
+use Rattle.regex_reader.specs.Form.{terms_of}
 use Rattle.fsm_program.proofs.SideLemmas.{with_texts_grows, with_texts-append, Spells-grows, Spells-append}
 
 -- the symbols of a leaf are those of its word

@@ -31,7 +31,7 @@ module _ (text t : List ℕ) (table : List (List ℕ)) where
   not_here : bytes_eq text t ≡ true → list_any (bytes_eq text) (t ∷ table) ≡ false → ⊥
   not_here e any = let same : true ≡ false = subst (λ b. (b || list_any (bytes_eq text) table) ≡ false) e any in cc
 
-cases_bool : (b : Bool) → (b ≡ true) ⊎ (b ≡ false)
+pub cases_bool : (b : Bool) → (b ≡ true) ⊎ (b ≡ false)
 cases_bool true = inl refl
 cases_bool false = inr refl
 

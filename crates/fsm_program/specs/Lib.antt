@@ -1,1 +1,6 @@
 pub mod Sides
+pub mod Networks
+pub mod Sending
+pub mod Running
+pub mod Files
+pub mod Ends

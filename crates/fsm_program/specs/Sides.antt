@@ -2,8 +2,6 @@
 use Rattle.std.specs.Prelude.{◌≡◌, ℕ, List, [], ◌∷◌, ◌++◌, slice_get, Some}
 use Rattle.fsm_base.specs.declared.letters.Sym.{Sym}
 use Rattle.fsm_meaning.specs.Projects.{with_texts}
-use Rattle.regex_ast.specs.Terms.{Term, Terms, no_term, then_term}
-use Rattle.regex_ast.specs.declared.expr.Raw.{Raw}
 
 -- the texts of these symbols are the word
 abbrev pub Spells : List (List ℕ) → List Sym → List (List ℕ) → Type 0
@@ -28,8 +26,3 @@ pub record AddsPair (old new : List (List ℕ)) (before_up after_up before_low a
   pub low : after_low ≡ before_low ++ added_low
   pub spells_up : Spells new added_up upper
   pub spells_low : Spells new added_low lower
-
--- terms side by side
-abbrev pub terms_of : List (Term Raw) → Terms Raw
-terms_of [] = no_term
-terms_of (t ∷ ts) = then_term t (terms_of ts)

@@ -3,7 +3,8 @@ ghost use Rattle.fsm_base.specs.Symbols.{IsSymbol};
 ghost use Rattle.regex_ast.specs.Terms.{term};
 ghost use Rattle.fsm_meaning.specs.OnePair.{IsLeaf, IsPart, IsPlain, leaf_word, part_upper, part_lower, parts_upper, parts_lower, upper_word, lower_word};
 ghost use Rattle.fsm_meaning.specs.Projects.{symbol_of, symbols_in, symbols_in_each};
-ghost use Rattle.fsm_program.specs.Sides.{AddsWord, AddsPair, terms_of};
+ghost use Rattle.fsm_program.specs.Sides.{AddsWord, AddsPair};
+ghost use Rattle.regex_reader.specs.Form.{terms_of};
 
 use fsm_base::{Sym, SymbolTable};
 use regex_ast::{Expr, Raw};

@@ -1,4 +1,4 @@
-use Rattle.std.proofs.Common.{◌≡◌, ℕ, List, [], Ok, All, MatchResult, sym, subst, ◌∙◌, append-nil}
+use Rattle.std.proofs.Common.{[], MatchResult, sym, subst, ◌∙◌, append-nil}
 use Rattle.fsm_words.specs.Words.{joined}
 use Rattle.fsm_base.specs.Longest.{TakesLongest, StopsAt}
 use Rattle.fsm_base.proofs.CutLemmas.{cut_takes, cut-from_whole, cut-from_stop, joined-takes}

@@ -10,7 +10,7 @@ returns c =
     let entries = c.args.entries.now in
     let bytes = c.args.bytes.now in
     last_from_point entries bytes c.requires c.partition_point-count.result c.partition_point-count.ensures.bound
-      (IsPartitionPoint-from_clause (λ e. is_le (slice_cmp nat_cmp e.text bytes)) entries _ c.partition_point-count.ensures.partitioned
-        (IsPartitionedBy-texts entries bytes c.requires)
-        (λ a r f' called. search rules))
-      _ c.checked_sub.ensures
+    (IsPartitionPoint-from_clause (λ e. is_le (slice_cmp nat_cmp e.text bytes)) entries _ c.partition_point-count.ensures.partitioned
+    (IsPartitionedBy-texts entries bytes c.requires)
+    (λ a r f' called. search rules))
+    _ c.checked_sub.ensures

@@ -1,4 +1,4 @@
-use Rattle.std.proofs.Common.{◌≡◌, ℕ, ◌≤◌, Contains}
+use Rattle.std.proofs.Common.{◌≡◌, ◌≤◌, Contains}
 use Rattle.fsm_io.proofs.Gathering.{Gathering}
 use Rattle.fsm_io.proofs.lines.gather.Given as goal
 
@@ -6,6 +6,7 @@ abbrev pub invariant-reads : goal.invariant-reads
 invariant-reads g l = record {
   gathering : Gathering (g.S.Source.left l.fn.source) (g.S.Source.left l.source) l.fn.budget l.budget l.fn.line l.line l.fn.held l.held;
   ready : Contains l.fn.held 10 → Contains l.held 10 × (l.source ≡ l.fn.source);
+  spent : l.fn.budget ≡ 0 → (l.budget ≡ 0) × (l.source ≡ l.fn.source);
   later : g.S.Source.faults l.fn.source ≤ g.S.Source.faults l.source;
 }
 

@@ -1,4 +1,4 @@
-use Rattle.std.proofs.Common.{ℕ, List, ap, sym, arith, length, take, ◌∙◌}
+use Rattle.std.proofs.Common.{ℕ, List, ap, sym, arith, take, ◌∙◌}
 use Rattle.std.specs.Str.{bytes_eq}
 use Rattle.fsm_io.proofs.Pieces.{file_found, take-fit}
 use Rattle.fsm_io.proofs.memory_folder.found_in.Goals as goal

@@ -1,5 +1,5 @@
-use Rattle.std.proofs.Common.{ℕ, ◌≤◌, length}
-use Rattle.fsm_io.proofs.Pieces.{Written}
+use Rattle.std.proofs.Common.{◌≤◌, length}
+use Rattle.fsm_io.specs.Sinks.{Written}
 use Rattle.fsm_io.proofs.sink.write_all.Given as goal
 
 abbrev pub invariant-pieces : goal.invariant-pieces

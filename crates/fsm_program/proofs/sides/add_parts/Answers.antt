@@ -4,7 +4,8 @@ use Rattle.regex_ast.specs.Terms.{Term, term}
 use Rattle.regex_ast.specs.declared.expr.Raw.{Raw}
 use Rattle.fsm_meaning.specs.OnePair.{parts_upper, parts_lower}
 use Rattle.fsm_meaning.specs.Projects.{symbol_of, symbols_in, symbols_in_each}
-use Rattle.fsm_program.specs.Sides.{AddsPair, terms_of}
+use Rattle.fsm_program.specs.Sides.{AddsPair}
+use Rattle.regex_reader.specs.Form.{terms_of}
 use Rattle.fsm_program.proofs.SideLemmas.{room_left, map-take_more}
 use Rattle.fsm_program.proofs.PairLemmas.{pairs_none, pairs_more, symbols-more, symbols-front}
 use Rattle.fsm_program.proofs.sides.add_parts.Goals as goal

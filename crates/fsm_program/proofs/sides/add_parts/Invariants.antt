@@ -2,7 +2,8 @@ use Rattle.std.proofs.Common.{map, take}
 use Rattle.regex_ast.specs.Terms.{term}
 use Rattle.fsm_meaning.specs.OnePair.{parts_upper, parts_lower}
 use Rattle.fsm_meaning.specs.Projects.{symbol_of, symbols_in_each}
-use Rattle.fsm_program.specs.Sides.{AddsPair, terms_of}
+use Rattle.fsm_program.specs.Sides.{AddsPair}
+use Rattle.regex_reader.specs.Form.{terms_of}
 use Rattle.fsm_program.proofs.sides.add_parts.Given as goal
 
 -- the parts so far went in

@@ -4,7 +4,8 @@ use Rattle.regex_ast.specs.Terms.{Term, term, concat}
 use Rattle.regex_ast.specs.declared.expr.Raw.{Raw}
 use Rattle.fsm_meaning.specs.OnePair.{IsPlain, AreParts, upper_word, lower_word}
 use Rattle.fsm_meaning.specs.Projects.{symbol_of, symbols_in}
-use Rattle.fsm_program.specs.Sides.{AddsPair, terms_of}
+use Rattle.fsm_program.specs.Sides.{AddsPair}
+use Rattle.regex_reader.specs.Form.{terms_of}
 use Rattle.fsm_program.proofs.PairLemmas.{term-Concat, parts_each, symbols_each}
 use Rattle.fsm_program.proofs.sides.sides_of.Goals as goal
 

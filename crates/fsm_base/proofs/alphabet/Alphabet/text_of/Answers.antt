@@ -1,5 +1,4 @@
-use Rattle.std.proofs.Common.{◌≡◌, List, ℕ, [], Option, unwrap_or, sym, ap, ◌∙◌}
-use Rattle.fsm_base.specs.Alphabet.{text_of}
+use Rattle.std.proofs.Common.{List, ℕ, [], Option, unwrap_or, ap, ◌∙◌}
 use Rattle.fsm_base.proofs.AlphabetLemmas.{text_of-lookup}
 use Rattle.fsm_base.proofs.alphabet.Alphabet.text_of.Goals as goal
 

@@ -1,4 +1,4 @@
-use Rattle.std.proofs.Common.{◌≡◌, ℕ, ◌+◌, ◌-◌, ◌<◌, List, [], ◌∷◌, ◌++◌, Err, length, drop, take, get_or, sym, ap, subst, ◌∙◌, arith}
+use Rattle.std.proofs.Common.{ℕ, ◌+◌, ◌<◌, List, [], ◌∷◌, ◌++◌, Err, length, drop, sym, ap, subst, ◌∙◌, arith}
 use Rattle.fsm_base.specs.Alphabet.{texts_of}
 use Rattle.fsm_base.specs.Cut.{cut}
 use Rattle.fsm_base.specs.Longest.{IsLongest, BeginsWithNone}
@@ -14,17 +14,17 @@ returns-in_default-clause-stopped c =
     let bytes = c.as_bytes-bytes.result.now in
     let kept = subst (λ (v : List (Sym × List ℕ)). IsKept c.self.inside.symbols.items v c.self.inside.sorted.items) c.self.view_is c.self.invariant in
     let none = subst (λ (es : List Entry). BeginsWithNone (texts_in es) (drop c.symbols.from bytes)) c.deref.ensures.value
-        (subst (λ (v : List ℕ). BeginsWithNone (texts_in c.deref.result.now) v) (rest_is c.symbols.from bytes) c.in_default.ensures) in
+    (subst (λ (v : List ℕ). BeginsWithNone (texts_in c.deref.result.now) v) (rest_is c.symbols.from bytes) c.in_default.ensures) in
     ap (λ (t : List ℕ). cut (texts_of alphabet) t) (sym c.as_bytes-bytes.ensures.value)
-      ∙ cut_to_stop alphabet bytes c.symbols.word.items c.symbols.from c.symbols.invariant c.symbols-test.true (BeginsWithNone-sorted alphabet _ _ kept.same_entries none)
-      ∙ ap Err (sym c.character_at.ensures)
+    ∙ cut_to_stop alphabet bytes c.symbols.word.items c.symbols.from c.symbols.invariant c.symbols-test.true (BeginsWithNone-sorted alphabet _ _ kept.same_entries none)
+    ∙ ap Err (sym c.character_at.ensures)
 
 pub symbols-smaller : goal.symbols-smaller
 symbols-smaller c =
     let bytes = c.as_bytes-bytes.result.now in
     let kept = subst (λ (v : List (Sym × List ℕ)). IsKept c.self.inside.symbols.items v c.self.inside.sorted.items) c.self.view_is c.self.invariant in
     let longest = subst (λ (es : List Entry). IsLongest (texts_in es) (drop c.symbols.from bytes) (text_at es c.in-Some.place)) c.deref.ensures.value
-        (subst (λ (v : List ℕ). IsLongest (texts_in c.deref.result.now) v (text_at c.deref.result.now c.in-Some.place)) (rest_is c.symbols.from bytes) c.in-Some.ensures.1) in
+    (subst (λ (v : List ℕ). IsLongest (texts_in c.deref.result.now) v (text_at c.deref.result.now c.in-Some.place)) (rest_is c.symbols.from bytes) c.in-Some.ensures.1) in
     let within = subst (λ (es : List Entry). c.in-Some.place < length es) c.deref.ensures.value c.in-Some.ensures.0 in
     let taken = entry_taken _ c.args.self.now _ bytes c.symbols.word.items c.symbols.from c.in-Some.place c.index-entry.result.now kept c.symbols.invariant within longest c.index-entry.ensures in
     omega (arith, taken.1, ap (λ (t : List ℕ). length t) c.as_str.ensures, c.symbols-test.true)
@@ -34,7 +34,7 @@ symbols-preserved c =
     let bytes = c.as_bytes-bytes.result.now in
     let kept = subst (λ (v : List (Sym × List ℕ)). IsKept c.self.inside.symbols.items v c.self.inside.sorted.items) c.self.view_is c.self.invariant in
     let longest = subst (λ (es : List Entry). IsLongest (texts_in es) (drop c.symbols.from bytes) (text_at es c.in-Some.place)) c.deref.ensures.value
-        (subst (λ (v : List ℕ). IsLongest (texts_in c.deref.result.now) v (text_at c.deref.result.now c.in-Some.place)) (rest_is c.symbols.from bytes) c.in-Some.ensures.1) in
+    (subst (λ (v : List ℕ). IsLongest (texts_in c.deref.result.now) v (text_at c.deref.result.now c.in-Some.place)) (rest_is c.symbols.from bytes) c.in-Some.ensures.1) in
     let within = subst (λ (es : List Entry). c.in-Some.place < length es) c.deref.ensures.value c.in-Some.ensures.0 in
     let taken = entry_taken _ c.args.self.now _ bytes c.symbols.word.items c.symbols.from c.in-Some.place c.index-entry.result.now kept c.symbols.invariant within longest c.index-entry.ensures in
     rw (c.in_ok-push.ensures.items) (subst (λ (t : List ℕ). IsCutTo c.args.self.now bytes (c.symbols.word.items ++ c.index-entry.result.now.symbol ∷ []) (c.symbols.from + length t)) (sym c.as_str.ensures) taken.0)

@@ -1,4 +1,4 @@
-use Rattle.std.proofs.Common.{◌≡◌, ℕ, List, map, sym, ap, subst, ◌∙◌, take}
+use Rattle.std.proofs.Common.{map, sym, ap, subst, ◌∙◌}
 use Rattle.std.proofs.lemmas.List.{take-map}
 use Rattle.std.specs.String.{string_bytes}
 use Rattle.fsm_base.specs.Symbols.{IsTable}
@@ -8,7 +8,7 @@ use Rattle.fsm_base.proofs.symbols.SymbolTable.keep.Goals as goal
 pub invariant_of-self : goal.invariant_of-self
 invariant_of-self c =
     subst (λ t. IsTable t) (sym (ap (λ ks. map string_bytes ks) c.truncate.ensures.keys ∙ sym (take-map string_bytes c.args.len c.self.inside.texts.keys)))
-      (IsTable-take c.args.len (map string_bytes c.self.inside.texts.keys) c.self.invariant)
+    (IsTable-take c.args.len (map string_bytes c.self.inside.texts.keys) c.self.invariant)
 
 pub returns : goal.returns
 returns c =

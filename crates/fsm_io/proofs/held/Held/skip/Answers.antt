@@ -1,4 +1,4 @@
-use Rattle.std.proofs.Common.{◌+◌, ◌-◌, ◌≤◌, length, take, drop, ap, ◌∙◌, sym, arith, length-take, length-drop}
+use Rattle.std.proofs.Common.{◌+◌, ◌-◌, ◌≤◌, length, drop, ap, ◌∙◌, arith, length-take}
 use Rattle.fsm_io.proofs.Pieces.{drop-range}
 use Rattle.fsm_io.proofs.held.Held.skip.Goals as goal
 

@@ -1,4 +1,4 @@
-use Rattle.std.proofs.Common.{ap, ◌∙◌, refl}
+use Rattle.std.proofs.Common.{ap, ◌∙◌}
 use Rattle.fsm_io.specs.Gather.{event_of}
 use Rattle.fsm_io.proofs.Gathering.{advance_event, ended_again}
 use Rattle.fsm_io.proofs.lines.Lines.advance.Goals as goal

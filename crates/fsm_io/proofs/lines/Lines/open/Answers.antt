@@ -1,4 +1,4 @@
-use Rattle.std.proofs.Common.{◌≤◌, length, refl, arith, ap, rules}
+use Rattle.std.proofs.Common.{arith, ap, rules}
 use Rattle.fsm_io.specs.Buffers.{BufferView}
 use Rattle.fsm_io.specs.Gather.{most_kept}
 use Rattle.fsm_io.proofs.Streams.{told_start}

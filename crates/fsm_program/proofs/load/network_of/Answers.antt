@@ -1,0 +1,28 @@
+use Rattle.std.proofs.Common.{◌≡◌, List, ℕ, ap, sym, subst, ◌∙◌, arith, length, All, ◌≤◌, Some, None}
+use Rattle.regex_reader.specs.Form.{ReadsAs, statement_of}
+use Rattle.fsm_program.proofs.Reading.{statement_plain, statement_few, statement_text, first_read, no_first}
+use Rattle.fsm_program.proofs.load.network_of.Goals as goal
+
+pub returns-in_default : goal.returns-in_default
+returns-in_default c = λ s r. c.in_default.ensures.cases.0 (statement_text c.args.bytes.now s r)
+
+pub of-requires-clause-plain : goal.of-requires-clause-plain
+of-requires-clause-plain c =
+    let at = rw c.deref.ensures.value at c.in-Some.ensures.value in
+    statement_plain _ (statement_of c.in-Some.define.now) (first_read _ c.in-Ok-read_xfst.defines.items c.in-Some.define.now at c.in-Ok-read_xfst.ensures.read)
+
+pub of-requires-clause-some : goal.of-requires-clause-some
+of-requires-clause-some c =
+    let at = rw c.deref.ensures.value at c.in-Some.ensures.value in
+    (statement_few _ (statement_of c.in-Some.define.now) (first_read _ c.in-Ok-read_xfst.defines.items c.in-Some.define.now at c.in-Ok-read_xfst.ensures.read)).0
+
+pub of-requires-clause-room : goal.of-requires-clause-room
+of-requires-clause-room c =
+    let at = rw c.deref.ensures.value at c.in-Some.ensures.value in
+    let few = statement_few _ (statement_of c.in-Some.define.now) (first_read _ c.in-Ok-read_xfst.defines.items c.in-Some.define.now at c.in-Ok-read_xfst.ensures.read) in
+    omega (arith, few.1)
+
+pub returns : goal.returns
+returns c = λ s r.
+    let fault = rw c.in-Err-Fault.field-0-is at c.in-Err-Fault.ensures.fault in
+    fault.2 s (subst (λ (t : List ℕ). ReadsAs t s) (sym c.in-Ok.ensures.cases.0) r)
