@@ -25,7 +25,8 @@ pub trait LazyAutomaton {
         requires { is_state self.now state.now }
         ensures { IsTrue result ↔ is_final_state self.now state.now };
 
-    /// Adds what a state leads to: a list for each letter, in the order of the places.
+    /// Adds what a state leads to: a list for each letter, in the order of the places. What is left after an Err is
+    /// not said.
     fn add_row(
         &mut self,
         alloc: Global,
@@ -83,7 +84,8 @@ impl Found {
         Vec::from_slice(alloc, self.lists.get(number))
     }
 
-    /// Adds the list that the next letter leads to.
+    /// Adds the list that the next letter leads to. After an Err the list may have been found, and no letter leads to
+    /// it.
     pub fn push(&mut self, list: &[usize]) -> Result<(), AllocError>
         ensures { OnOk result (AddsTarget self.old self.new list.now) }
     {
@@ -120,14 +122,15 @@ pub struct Explored {
 }
 
 /// Builds as much of the automaton as the start reaches. The states are numbered in the order in which they are
-/// found, and the start has the number 0.
+/// found, and the start has the number 0. What is left of the automaton after an Err is not said.
 pub fn explore<A: LazyAutomaton>(
     alloc: Global,
     automaton: &mut A,
     start: &[usize],
 ) -> Result<Explored, AllocError>
     requires { A.is_state automaton.old start.now }
-    ensures { IfOk result (λ built. IsExplored (A.is_state automaton.old) (A.leads automaton.old) (A.is_final_state automaton.old) (A.letters automaton.old) start.now built.next.items built.finals.items) }
+    ensures same { OnOk result (automaton.new ≡ automaton.old) }
+    ensures built { IfOk result (λ built. IsExplored (A.is_state automaton.old) (A.leads automaton.old) (A.is_final_state automaton.old) (A.letters automaton.old) start.now built.next.items built.finals.items) }
 {
     let mut found = Found::start(alloc, start)?;
     let mut finals = Vec::new(alloc);

@@ -8,4 +8,4 @@ explore-requires g c = record { two = refl; first = c.states.ensures.complete.st
 pub returns-clause-language : goal.returns-clause-language
 returns-clause-language g c =
     product_language c.args.operation c.args.a.now c.args.b.now c.states.ensures.complete c.states-2.ensures.complete c.requires
-    _ c.in_ok-built.built.next.items c.in_ok-built.built.finals.items refl c.in_ok-built.ensures c.of.result c.in_ok-letters.letters.items (c.in_ok-letters.ensures.items ∙ c.letters.ensures.letters) c.of.ensures
+    _ c.in_ok-built.built.next.items c.in_ok-built.built.finals.items refl c.in_ok-built.ensures.built c.of.result c.in_ok-letters.letters.items (c.in_ok-letters.ensures.items ∙ c.letters.ensures.letters) c.of.ensures

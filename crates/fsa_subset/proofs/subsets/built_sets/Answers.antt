@@ -15,4 +15,4 @@ returns c =
     let is = start_is c.args.rows c.in_ok-states.states c.add.new.self (ap (λ k. k.found) c.in_ok-states.ensures) c.in_ok-add.ensures.ok start c.in_ok-start.ensures.set in
     IfOk-weaker c.explore.result (λ built. IsExplored (IsStateSet m) (LeadsTo m) (IsFinalSet m) m.letters c.deref.result.now built.next.items built.finals.items)
     (λ built. IsSubsetBuilt m built.next.items built.finals.items)
-    (λ built e. (start, is, subst (λ s. IsExplored (IsStateSet m) (LeadsTo m) (IsFinalSet m) m.letters s built.next.items built.finals.items) c.deref.ensures.value e)) c.explore.ensures
+    (λ built e. (start, is, subst (λ s. IsExplored (IsStateSet m) (LeadsTo m) (IsFinalSet m) m.letters s built.next.items built.finals.items) c.deref.ensures.value e)) c.explore.ensures.built

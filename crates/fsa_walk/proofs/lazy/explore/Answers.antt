@@ -40,8 +40,8 @@ loop-alloc-preserved g c =
           c.is_final.ensures c.in_ok-add_row.ensures.row c.in_ok-push.ensures.items c.loop-alloc.invariant.1,
     )
 
-pub returns : goal.returns
-returns g c =
+pub returns-clause-built : goal.returns-clause-built
+returns-clause-built g c =
     let a = c.args.automaton.now in
     let A = g.A.LazyAutomaton in
     let past : length c.loop-alloc.found.lists ≤ length c.loop-alloc.finals.items = search (rules, c.loop-alloc-test.false) in
