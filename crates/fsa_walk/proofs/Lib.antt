@@ -4,3 +4,5 @@ pub mod OutEdges
 pub mod Closed
 pub mod TargetsLemmas
 pub mod Numbered
+pub mod Exploring
+pub mod Built

@@ -2,3 +2,4 @@ pub mod Marks
 pub mod Reaches
 pub mod Marking
 pub mod Targets
+pub mod Explored

@@ -1,4 +1,4 @@
-ghost use Rattle.std.specs.Prelude.{◌≡◌, ◌<◌, ◌↔◌, [], Contains, IfOk, OnErr, OnOk, IsTrue, length};
+ghost use Rattle.std.specs.Prelude.{◌≡◌, ◌<◌, ◌↔◌, ◌++◌, [], ◌∷◌, Contains, IfOk, OnErr, OnOk, IsTrue, length};
 ghost use Rattle.fsa_walk.specs.Marks.{IsBounded, Adds};
 ghost use Rattle.fsa_walk.specs.Marking.{IsMarking};
 
@@ -59,6 +59,7 @@ impl Marked {
     pub fn add(&mut self, number: usize) -> Result<(), AllocError>
         requires { number < self.old.bound }
         ensures ok { OnOk result (Adds self.old self.new (λ k. k ≡ number)) }
+        ensures last { OnOk result (¬ Contains self.old.found number → self.new ≡ record self.old { found = self.old.found ++ number ∷ [] }) }
         ensures err { OnErr result (self.new ≡ self.old) }
     {
         if self.marks[number] {

@@ -8,5 +8,4 @@ ghost use Rattle.fsm_meaning.specs.Projects.{symbol_of};
 /// every alphabet.
 pub fn one_pair()
     ensures { (alphabet : List (List ℕ)) (expr : Term Raw) → IsPlain expr → RelatesOne symbol_of alphabet expr }
-{
-}
+{}

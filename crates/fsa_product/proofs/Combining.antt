@@ -1,0 +1,46 @@
+-- The product of two automata accepts what the operation makes of their languages.
+use Rattle.std.proofs.Common.{◌≡◌, ℕ, ◌↔◌, List, [], ◌∷◌, Bool, Some, length, slice_index, subst, sym}
+use Rattle.std.specs.List.{slice_get, Contains}
+use Rattle.fsm_words.proofs.Places.{Contains-from_slice_get}
+use Rattle.fsa.specs.Complete.{Complete, IsComplete, AcceptsFrom, Accepts, stop, read}
+use Rattle.fsa.proofs.Paths.{stop_back, read_back}
+use Rattle.fsa_walk.specs.Explored.{IsExplored}
+use Rattle.fsa_walk.proofs.Built.{IsLanguage, built_language}
+use Rattle.fsa_product.specs.Pairs.{combined, IsPair, LeadsPair, IsFinalPair}
+use Rattle.fsa_product.specs.declared.products.Operation.{Operation}
+use Rattle.fsa_product.specs.declared.products.Operation.TheVariants.{Intersection, Difference}
+
+-- the operation goes by whether the parts hold
+combined_same : (o : Operation) {P P' Q Q' : Type 0} → P ↔ P' → Q ↔ Q' → combined o P Q ↔ combined o P' Q'
+combined_same Intersection p q = (λ h. (p.0 h.0, q.0 h.1), λ h. (p.1 h.0, q.1 h.1))
+combined_same Difference p q = (λ h. (p.0 h.0, λ k. h.1 (q.1 k)), λ h. (p.1 h.0, λ k. h.1 (q.0 k)))
+
+combined_first : (o : Operation) (P Q : Type 0) → combined o P Q → P
+combined_first Intersection P Q h = h.0
+combined_first Difference P Q h = h.0
+
+first_letter : {L : Type 0} (d : Complete L) (s : ℕ) (x : L) (w : List L) → AcceptsFrom d s (x ∷ w) → Contains d.letters x
+first_letter d s x w (read k letter goes rest) = Contains-from_slice_get d.letters k x letter
+
+module _ {L : Type 0} (o : Operation) (a b : Complete L) (a_ok : IsComplete a) (b_ok : IsComplete b) (same : a.letters ≡ b.letters) where
+  abbrev PairWords : List ℕ → List L → Type 0
+  PairWords pair w = combined o (AcceptsFrom a (slice_index pair 0) w) (AcceptsFrom b (slice_index pair 1) w)
+
+  pairs_language : IsLanguage a.letters (IsPair a b) (LeadsPair a b) (IsFinalPair o a b) PairWords
+  pairs_language = record {
+    empty = λ pair is. combined_same o (stop_back a (slice_index pair 0), stop) (stop_back b (slice_index pair 1), stop);
+    longer = λ pair to place x w is leads letter.
+        let other : slice_get b.letters place ≡ Some x = subst (λ ls. slice_get ls place ≡ Some x) same letter in
+        combined_same o
+        (read_back a a_ok.distinct (slice_index pair 0) (slice_index to 0) place x w letter leads.0, read place letter leads.0)
+        (read_back b b_ok.distinct (slice_index pair 1) (slice_index to 1) place x w other leads.1, read place other leads.1);
+    over = λ pair x w is h. first_letter a (slice_index pair 0) x w (combined_first o (AcceptsFrom a (slice_index pair 0) (x ∷ w)) (AcceptsFrom b (slice_index pair 1) (x ∷ w)) h);
+  }
+
+  -- what was built from the pair of the starts
+  pub product_language : (start next : List ℕ) (finals : List Bool) → start ≡ 0 ∷ 0 ∷ [] → IsExplored (IsPair a b) (LeadsPair a b) (IsFinalPair o a b) (length a.letters) start next finals → (d : Complete L) (letters : List L) → letters ≡ a.letters → d ≡ record { letters = letters; next = next; finals = finals } → (w : List L) → Accepts d w ↔ combined o (Accepts a w) (Accepts b w)
+  product_language start next finals is_start built d letters is_letters is w =
+      let here : (Accepts (record { letters = a.letters; next = next; finals = finals }) w) ↔ PairWords start w = built_language a.letters (IsPair a b) (LeadsPair a b) (IsFinalPair o a b) PairWords pairs_language start next finals built w in
+      let there : (Accepts (record { letters = a.letters; next = next; finals = finals }) w) ↔ PairWords (0 ∷ 0 ∷ []) w = subst (λ p. (Accepts (record { letters = a.letters; next = next; finals = finals }) w) ↔ PairWords p w) is_start here in
+      let with_letters : (Accepts (record { letters = letters; next = next; finals = finals }) w) ↔ PairWords (0 ∷ 0 ∷ []) w = subst (λ ls. (Accepts (record { letters = ls; next = next; finals = finals }) w) ↔ PairWords (0 ∷ 0 ∷ []) w) (sym is_letters) there in
+      subst (λ y. Accepts y w ↔ combined o (Accepts a w) (Accepts b w)) (sym is) with_letters

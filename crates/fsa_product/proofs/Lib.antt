@@ -1,0 +1,4 @@
+pub mod Turned
+pub mod Combining
+pub mod Searching
+pub mod Words

@@ -1,0 +1,66 @@
+ghost use Rattle.std.specs.Prelude.{◌≡◌, Some, IfOk, Contains, length};
+ghost use Rattle.std.specs.BTreeMap.{get};
+ghost use Rattle.fsm_words.specs.Words.{IsDistinct};
+ghost use Rattle.fsa.specs.declared.automaton.Edge.{Edge};
+ghost use Rattle.fsa_subset.specs.Placed.{IsPlaced, FindsPlaces, at_place};
+
+use fsa::Edge;
+use fsa_walk::Rows;
+use fsm_base::Letter;
+use std::alloc::{AllocError, Global};
+use std::collections::BTreeMap;
+
+/// The place of a letter in a list of letters, counted from 0.
+#[derive(Clone, Copy, Debug, PartialEq, Eq, PartialOrd, Ord)]
+pub struct Place(pub usize);
+
+impl Letter for Place {
+    ghost use Rattle.std.proofs.Common.{rules};
+
+    ghost equal_is_same = { Prim.search rules };
+}
+
+/// The edges with the places of their letters, found again by the state that they leave.
+pub fn placed_rows<L: Letter>(
+    alloc: Global,
+    edges: &[Edge<L>],
+    letters: &[L],
+) -> Result<Rows<Place>, AllocError>
+    requires distinct { IsDistinct letters.now }
+    requires all { (e : Edge L) (x : L) → Contains edges.now e → e.letter ≡ Some x → Contains letters.now x }
+    ensures { IfOk result (λ rows. IsPlaced letters.now edges.now rows) }
+{
+    let places = places_of(alloc, letters)?;
+    let mut placed = Vec::new(alloc);
+    for edge in edges {
+        placed.push(at_place(&places, *edge))?;
+    }
+    Rows::of(alloc, &placed)
+}
+
+/// The place of each letter.
+fn places_of<L: Letter>(alloc: Global, letters: &[L]) -> Result<BTreeMap<L, Place>, AllocError>
+    requires { IsDistinct letters.now }
+    ensures { IfOk result (λ places. FindsPlaces letters.now (length letters.now) (get L.cmp places)) }
+{
+    let mut places = BTreeMap::new(alloc);
+    for (place, letter) in letters.iter().enumerate() {
+        places.insert(*letter, Place(place))?;
+    }
+    Ok(places)
+}
+
+/// The edge with the place of its letter.
+fn at_place<L: Letter>(places: &BTreeMap<L, Place>, edge: Edge<L>) -> Edge<Place>
+    ensures { result ≡ at_place (get L.cmp places.now) edge }
+{
+    let letter = match edge.letter {
+        Some(letter) => places.get(&letter).copied(),
+        None => None,
+    };
+    Edge {
+        from: edge.from,
+        letter,
+        to: edge.to,
+    }
+}
