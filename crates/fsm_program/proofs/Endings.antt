@@ -1,6 +1,5 @@
 -- How a run ends, by what it did, and what follows of its status.
-use Rattle.std.proofs.Common.{◌≡◌, ◌≢◌, ◌⊎◌, ℕ, ◌^◌, List, [], ◌∷◌, Option, Some, None, Ok, Err, Result, refl, sym, ap, subst, ◌∙◌, inl, inr, length, arith}
-use Rattle.std.specs.Io.KnownBytes.{Consumes, Appends, IsAtEnd}
+use Rattle.std.proofs.Common.{◌≡◌, ◌≢◌, ◌⊎◌, ℕ, List, [], Option, Some, None, Ok, Err, Result, refl, sym, subst, ◌∙◌, inl, inr}
 use Rattle.fsm_io.specs.Causes.{Rose}
 use Rattle.fsm_io.specs.Folders.{Files, Told, IsTold}
 use Rattle.fsm_io.specs.Reading.{LinesView, HasTold}
@@ -9,7 +8,6 @@ use Rattle.fsm_meaning.specs.declared.ending.Ending.{Ending}
 use Rattle.fsm_meaning.specs.declared.ending.Ending.TheVariants.{Finished, WriteFailed, ReadFailed, Spent}
 use Rattle.fsm_meaning.specs.Projects.{Project}
 use Rattle.fsm_meaning.specs.Replies.{Replies, up}
-use Rattle.fsm_meaning.specs.Transcripts.{HasAnswered}
 use Rattle.fsm_program.specs.Ends.{Ends, no_words, refused, folder_failed, no_memory, answered, IsAnswered, IsNotLoaded, IsSaid, usage_text, refusal_text, status_of}
 use Rattle.fsm_program.specs.Files.{Reads, IsLoaded, IsLoadError, most_read}
 use Rattle.fsm_program.specs.Networks.{NetworkView, Shows}

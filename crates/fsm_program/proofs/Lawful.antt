@@ -1,15 +1,15 @@
 -- What a network finds is a lawful reply over the project that it shows.
-use Rattle.std.proofs.Common.{◌≡◌, ◌≢◌, ◌↔◌, ℕ, ◌+◌, ◌<◌, ◌≤◌, ◌==◌, Bool, true, false, cond, List, [], ◌∷◌, ◌++◌, length, map, Some, None, Ok, Err, Result, refl, sym, ap, subst, ◌∙◌, inl, inr, slice_get, arith, zero, suc, All, Contains}
+use Rattle.std.proofs.Common.{◌≡◌, ◌≢◌, ℕ, ◌==◌, Bool, true, false, cond, List, [], ◌∷◌, Some, Ok, Result, refl, sym, ap, subst, ◌∙◌, inl, inr, slice_get, arith, suc, Contains}
 use Rattle.std.proofs.lemmas.Bool.Decides.{nat_tests}
 use Rattle.std.proofs.lemmas.List.Elements.{All-head, All-tail}
-use Rattle.fsm_words.specs.Words.{joined, IsOver, IsDistinct}
+use Rattle.fsm_words.specs.Words.{joined, IsOver}
 use Rattle.fsm_words.proofs.Members.{Contains-nil_cases, Contains-head, Contains-cons_cases}
 use Rattle.fsm_base.specs.declared.letters.Sym.{Sym}
 use Rattle.fsm_base.specs.Alphabet.{IsAlphabet, symbols_of, texts_of, text_of, spelled}
 use Rattle.fsm_base.specs.Cut.{cut}
-use Rattle.fsm_meaning.specs.Answers.{Texts, AreAll, strings, Answers}
+use Rattle.fsm_meaning.specs.Answers.{Texts, AreAll, strings}
 use Rattle.fsm_meaning.specs.Projects.{Project, Defines, Meaning}
-use Rattle.fsm_meaning.specs.Replies.{RepliesToWord, no_net, no_symbol, answered, Related, Direction, up, answer_bytes, headed}
+use Rattle.fsm_meaning.specs.Replies.{RepliesToWord, answered, Related, up, answer_bytes}
 use Rattle.fsm_program.specs.Networks.{NetworkView, Shows}
 use Rattle.fsm_program.proofs.SideLemmas.{cases_bool}
 

@@ -1,8 +1,7 @@
 -- What the files read say of the project, as far as they are told.
-use Rattle.std.proofs.Common.{◌≡◌, ℕ, ◌+◌, ◌<◌, ◌≤◌, List, [], ◌∷◌, ◌++◌, length, take, Some, None, Option, Ok, Err, Result, refl, sym, ap, subst, ◌∙◌, inl, inr, arith, lit<}
-use Rattle.std.proofs.lemmas.List.{take_all, length-take}
+use Rattle.std.proofs.Common.{◌≡◌, ℕ, ◌<◌, List, length, take, Some, None, Option, Ok, Err, Result, refl, sym, ap, subst, ◌∙◌, arith, lit<}
+use Rattle.std.proofs.lemmas.List.{take_all}
 use Rattle.fsm_io.specs.Folders.{Files, file_of, Finds, Told}
-use Rattle.fsm_io.specs.declared.folder.Found.{Found}
 use Rattle.fsm_io.specs.declared.folder.Found.TheVariants.{Bytes, Missing}
 use Rattle.std.specs.declared.vec.Vec.{Vec}
 use Rattle.std.specs.declared.alloc.Global.{Global}

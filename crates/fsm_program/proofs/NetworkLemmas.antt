@@ -1,7 +1,7 @@
 -- A network made of a table and the symbols of its two words shows the project of its definition.
-use Rattle.std.proofs.Common.{◌≡◌, ◌↔◌, ℕ, ◌+◌, ◌<◌, ◌≤◌, ◌==◌, Bool, true, false, cond, List, [], ◌∷◌, ◌++◌, length, map, take, Some, None, refl, sym, ap, subst, ◌∙◌, inl, inr, ◌⊎◌, slice_get, get_or, arith, append_assoc, append-nil, zero, suc, All, Contains, length-append}
+use Rattle.std.proofs.Common.{◌≡◌, ◌↔◌, ℕ, ◌+◌, ◌<◌, ◌≤◌, ◌==◌, Bool, false, cond, List, [], ◌∷◌, ◌++◌, length, take, Some, refl, sym, ap, subst, ◌∙◌, inl, inr, slice_get, arith, zero, suc, All, Contains, length-append}
 use Rattle.std.proofs.lemmas.List.{take_more, map-append, take_all}
-use Rattle.std.proofs.lemmas.List.Elements.{All-nil, All-cons, All-append, All-weaker, Contains-append_cases, Contains-append_left, Contains-append_right}
+use Rattle.std.proofs.lemmas.List.Elements.{All-nil, All-cons, All-append, All-weaker, Contains-append_left, Contains-append_right}
 use Rattle.std.proofs.lemmas.Option.{slice_get_within, get_or_from_slice_get}
 use Rattle.std.proofs.lemmas.Bool.{cases_lt}
 use Rattle.std.proofs.lemmas.Bool.Decides.{nat_tests, Decides-eqb}
@@ -9,17 +9,15 @@ use Rattle.std.specs.Bool.{Decides}
 use Rattle.fsm_program.proofs.SideLemmas.{cases_bool}
 use Rattle.std.specs.List.{slice_index_or}
 use Rattle.fsm_words.specs.Words.{joined, IsOver, IsDistinct}
-use Rattle.fsm_words.proofs.Members.{Contains-nil_cases, Contains-head, Contains-tail, Contains-cons_cases}
-use Rattle.fsm_words.proofs.Places.{slice_get-append_cases, slice_get-push}
+use Rattle.fsm_words.proofs.Members.{Contains-nil_cases, Contains-head, Contains-cons_cases}
+use Rattle.fsm_words.proofs.Places.{slice_get-append_cases}
 use Rattle.fsm_base.specs.declared.letters.Sym.{Sym}
 use Rattle.fsm_base.specs.Alphabet.{IsAlphabet, listed, symbols_of, texts_of, text_of, spelled}
-use Rattle.regex_ast.specs.Terms.{Term}
-use Rattle.regex_ast.specs.declared.expr.Raw.{Raw}
 use Rattle.fsm_meaning.specs.OnePair.{IsPlain, upper_word, lower_word}
-use Rattle.fsm_meaning.specs.Projects.{Project, Definition, Defines, Meaning, symbol_of, symbols_in, with_texts, alphabet_of, project_of}
+use Rattle.fsm_meaning.specs.Projects.{Definition, Defines, Meaning, symbol_of, symbols_in, alphabet_of, project_of}
 use Rattle.fsm_meaning.specs.Relation.{Relates}
 use Rattle.fsm_meaning.proofs.OnePair.{plain_has, plain_only}
-use Rattle.fsm_program.specs.Networks.{NetworkView, Shows, symbols_below}
+use Rattle.fsm_program.specs.Networks.{Shows, symbols_below}
 use Rattle.fsm_program.specs.Sides.{Spells, AddsPair}
 
 length-below : (n : ℕ) → length (symbols_below n) ≡ n

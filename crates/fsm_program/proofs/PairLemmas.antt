@@ -1,15 +1,15 @@
 -- The two words of parts side by side, one part after another.
-use Rattle.std.proofs.Common.{◌≡◌, ℕ, ◌+◌, ◌<◌, ◌≤◌, List, [], ◌∷◌, ◌++◌, length, map, take, drop, refl, sym, ap, subst, ◌∙◌, arith, length-append, length-drop, append_assoc, append-nil, All, ◌-◌}
+use Rattle.std.proofs.Common.{◌≡◌, ℕ, ◌≤◌, List, [], ◌∷◌, ◌++◌, length, map, take, drop, refl, sym, ap, subst, ◌∙◌, arith, length-append, append_assoc, append-nil, All, ◌-◌}
 use Rattle.std.proofs.lemmas.List.{take-append-drop, map-append, take_rest}
 use Rattle.std.proofs.lemmas.List.Elements.{All-nil, All-cons, All-head, All-tail}
 use Rattle.fsm_base.specs.declared.letters.Sym.{Sym}
 use Rattle.fsm_base.specs.Symbols.{IsSymbol}
-use Rattle.regex_ast.specs.Terms.{Term, empty, any, edge, atom, letters, group, maybe, not_one, cross, suffixed, prefixed, ignore, concat, chain, only, rules, steps, Terms, no_term, then_term, term, terms}
+use Rattle.regex_ast.specs.Terms.{Term, empty, atom, letters, concat, then_term, term, terms}
 use Rattle.regex_ast.specs.declared.expr.Raw.{Raw}
 use Rattle.regex_ast.specs.declared.expr.Expr.{Expr, Concat, Concat', Row_of-Expr, end_of-Expr, more_of-Expr, items-the_row-Expr, items_hidden-the_row-Expr-0}
 use Rattle.std.specs.declared.vec.Vec.{Vec}
 use Rattle.std.specs.declared.alloc.Global.{Global}
-use Rattle.fsm_meaning.specs.OnePair.{IsLeaf, IsPart, AreParts, IsPlain, leaf_word, part_upper, part_lower, parts_upper, parts_lower, upper_word, lower_word}
+use Rattle.fsm_meaning.specs.OnePair.{IsLeaf, IsPart, AreParts, leaf_word, part_upper, part_lower, parts_upper, parts_lower}
 use Rattle.fsm_meaning.specs.Projects.{symbol_of, symbols_in, symbols_in_each, with_texts}
 use Rattle.fsm_program.specs.Sides.{Spells, AddsWord, AddsPair}
 use Rattle.regex_reader.specs.Form.{terms_of}

@@ -1,16 +1,16 @@
 -- The bytes of replies, as pieces in a row, and bytes without their last.
-use Rattle.std.proofs.Common.{◌≡◌, ℕ, ◌+◌, ◌<◌, ◌≤◌, ◌==◌, Bool, true, false, cond, List, [], ◌∷◌, ◌++◌, length, Option, Result, refl, sym, ap, subst, ◌∙◌, arith, append_assoc, append-nil, codes, All, get_or, inl, inr, ◌⊎◌, ◌≢◌}
+use Rattle.std.proofs.Common.{◌≡◌, ℕ, ◌<◌, ◌≤◌, ◌==◌, Bool, true, false, cond, List, [], ◌∷◌, ◌++◌, length, Option, Result, refl, sym, ap, subst, ◌∙◌, arith, append_assoc, append-nil, codes, All, get_or, inl, inr, ◌⊎◌, ◌≢◌}
 use Rattle.std.proofs.lemmas.List.Elements.{All-head, All-tail}
-use Rattle.std.proofs.lemmas.Bool.Decides.{nat_tests, eqb_tells}
+use Rattle.std.proofs.lemmas.Bool.Decides.{eqb_tells}
 use Rattle.std.proofs.lemmas.Fmt.{decimal_digit}
 use Rattle.std.proofs.lemmas.Str.{IsUtf8-from_ascii}
 use Rattle.std.proofs.lemmas.Bool.{cases_lt}
 use Rattle.std.proofs.lemmas.List.{get_or_past}
 use Rattle.std.specs.Fmt.{decimal}
-use Rattle.std.specs.Str.{IsUtf8, IsAscii}
+use Rattle.std.specs.Str.{IsUtf8}
 use Rattle.fsm_io.specs.Sinks.{Gathers, WritesAll}
 use Rattle.fsm_meaning.specs.Answers.{strings}
-use Rattle.fsm_meaning.specs.Replies.{IsWord, IsPrintable, headed, line_of, answer_bytes, without_last}
+use Rattle.fsm_meaning.specs.Replies.{IsWord, headed, line_of, answer_bytes, without_last}
 use Rattle.fsm_program.specs.Ends.{refusal_line}
 use Rattle.fsm_program.specs.Sending.{Sends}
 

@@ -1,12 +1,11 @@
 -- How what was read and written so far grows from line to line, and what it is at the end.
-use Rattle.std.proofs.Common.{◌≡◌, ℕ, ◌+◌, ◌<◌, ◌≤◌, Bool, true, false, List, [], ◌∷◌, ◌++◌, length, Option, Some, None, Result, Ok, Err, refl, sym, ap, subst, ◌∙◌, arith, append_assoc, append-nil, ◌≢◌, is_ok, if◌then◌else◌}
-use Rattle.std.specs.Io.KnownBytes.{Consumes, Appends, IsAtEnd}
-use Rattle.fsm_io.specs.Lines.{lines_of}
-use Rattle.fsm_io.specs.Reading.{LinesView, HasTold, HasRead, at_start}
+use Rattle.std.proofs.Common.{◌≡◌, ℕ, true, false, List, [], ◌∷◌, ◌++◌, Option, Some, None, Result, Ok, Err, refl, sym, ap, subst, ◌∙◌, arith, append_assoc, append-nil, ◌≢◌, is_ok, if◌then◌else◌}
+use Rattle.std.specs.Io.KnownBytes.{Appends}
+use Rattle.fsm_io.specs.Reading.{LinesView, HasTold}
 use Rattle.fsm_io.specs.Sinks.{Gathers}
 use Rattle.fsm_io.proofs.Known.{appends_none, appends_more}
-use Rattle.fsm_io.proofs.Streams.{told_start, told_all, told_so_far, told_front}
-use Rattle.fsm_meaning.specs.Transcripts.{IsTranscript, IsCutShort, IsWritten, HasAnswered}
+use Rattle.fsm_io.proofs.Streams.{told_all, told_so_far, told_front}
+use Rattle.fsm_meaning.specs.Transcripts.{IsTranscript, HasAnswered}
 use Rattle.fsm_meaning.specs.declared.ending.Ending.{Ending}
 use Rattle.fsm_meaning.specs.declared.ending.Ending.TheVariants.{Finished, WriteFailed, ReadFailed, Spent}
 use Rattle.fsm_program.specs.Running.{Sofar, Turns, flushed}

@@ -1,6 +1,6 @@
 -- What a set of files says: a project, or its first fault. The manifest is the one line `xfst FILE`, and
 -- FILE is one plain definition.
-use Rattle.std.specs.Prelude.{◌≡◌, ◌≢◌, ◌<◌, ◌≤◌, ◌++◌, ◌⊎◌, ℕ, List, [], ◌∷◌, length, take, All, Option, None, Some, Result, Ok, Err, codes, decimal, slice_get}
+use Rattle.std.specs.Prelude.{◌≡◌, ◌≢◌, ◌<◌, ◌≤◌, ◌++◌, ◌⊎◌, ℕ, List, [], ◌∷◌, length, take, All, Option, None, Some, Result, Ok, Err, codes, slice_get}
 use Rattle.fsm_io.specs.Folders.{Files, file_of, Told}
 use Rattle.regex_ast.specs.declared.fault.Fault.{Fault}
 use Rattle.regex_ast.specs.declared.fault.Why.{Why}

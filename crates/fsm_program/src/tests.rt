@@ -367,16 +367,16 @@ fn a_failing_input(rt: HostRuntime) -> Result<(), Fail> {
 fn a_failing_output(rt: HostRuntime) -> Result<(), Fail> {
     let alloc = rt.alloc();
     let files: [(&str, &[u8]); 2] = [MANIFEST, ("r.xfst", CAT)];
-    let rows: [(&str, &[(&str, &[u8])], u64, &[u8]); 7] = [
-        ("up dir N", &files, 1, b""),
-        ("up dir N", &files, 2, b"1 1"),
-        ("up dir N", &files, 5, b"1 1 cat\ncat+"),
-        ("up dir", &files, 1, b""),
-        ("up dir", &files, 2, b"up "),
-        ("up dir N", &[], 1, b""),
-        ("up dir N", &[], 2, b"ref"),
+    let rows: [(&str, usize, u64, &[u8]); 7] = [
+        ("up dir N", 2, 1, b""),
+        ("up dir N", 2, 2, b"1 1"),
+        ("up dir N", 2, 5, b"1 1 cat\ncat+"),
+        ("up dir", 2, 1, b""),
+        ("up dir", 2, 2, b"up "),
+        ("up dir N", 0, 1, b""),
+        ("up dir N", 0, 2, b"ref"),
     ];
-    for (words, files, call, wanted) in rows {
+    for (words, count, call, wanted) in rows {
         let output_failing = [call];
         let failing = Failing {
             folder: &[],
@@ -388,7 +388,14 @@ fn a_failing_output(rt: HostRuntime) -> Result<(), Fail> {
             write: 3,
             room: 1_000_000,
         };
-        let (status, written) = answer_of(alloc, words, files, b"cat\n", &sizes, &failing)?;
+        let (status, written) = answer_of(
+            alloc,
+            words,
+            &files[..count],
+            b"cat\n",
+            &sizes,
+            &failing,
+        )?;
         assert_eq!(rt; written.as_slice(), wanted);
         assert_eq!(rt; status, 4);
     }

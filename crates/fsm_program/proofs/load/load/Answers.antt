@@ -1,5 +1,3 @@
-use Rattle.std.proofs.Common.{List, ℕ, ◌≡◌, ◌<◌, sym, subst, ◌∙◌, arith}
-use Rattle.fsm_program.specs.Files.{most_read}
 use Rattle.fsm_program.proofs.Loading.{reads_no_manifest, reads_no_project, refused_so, most_read_big, asks_both}
 use Rattle.fsm_program.proofs.load.load.Goals as goal
 

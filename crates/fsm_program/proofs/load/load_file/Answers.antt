@@ -1,5 +1,4 @@
-use Rattle.std.proofs.Common.{List, ℕ, sym, subst, ◌∙◌, arith}
-use Rattle.fsm_program.specs.Files.{project_from, IsRead}
+use Rattle.fsm_program.specs.Files.{project_from}
 use Rattle.fsm_program.proofs.Loading.{reads_whole, reads_no_statement, reads_no_file, refused_so}
 use Rattle.fsm_program.proofs.load.load_file.Goals as goal
 

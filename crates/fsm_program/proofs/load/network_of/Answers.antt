@@ -1,6 +1,6 @@
-use Rattle.std.proofs.Common.{◌≡◌, List, ℕ, ap, sym, subst, ◌∙◌, arith, length, All, ◌≤◌, Some, None}
+use Rattle.std.proofs.Common.{List, ℕ, sym, subst, arith}
 use Rattle.regex_reader.specs.Form.{ReadsAs, statement_of}
-use Rattle.fsm_program.proofs.Reading.{statement_plain, statement_few, statement_text, first_read, no_first}
+use Rattle.fsm_program.proofs.Reading.{statement_plain, statement_few, statement_text, first_read}
 use Rattle.fsm_program.proofs.load.network_of.Goals as goal
 
 pub returns-in_default : goal.returns-in_default

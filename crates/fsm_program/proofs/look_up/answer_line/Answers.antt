@@ -1,4 +1,4 @@
-use Rattle.std.proofs.Common.{refl, Some, None}
+use Rattle.std.proofs.Common.{refl, None}
 use Rattle.fsm_meaning.specs.Replies.{Replies, up, long}
 use Rattle.fsm_program.proofs.ReplyBytes.{sends_as}
 use Rattle.fsm_program.proofs.Runs.{turn_sent, sofar_same}

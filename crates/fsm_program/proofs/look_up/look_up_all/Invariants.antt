@@ -1,4 +1,4 @@
-use Rattle.std.proofs.Common.{◌≤◌, ℕ, List, Option}
+use Rattle.std.proofs.Common.{◌≤◌}
 use Rattle.fsm_io.specs.Reading.{size_of}
 use Rattle.fsm_meaning.specs.Projects.{Project}
 use Rattle.fsm_meaning.specs.Replies.{Replies, up}

@@ -1,4 +1,4 @@
-use Rattle.std.proofs.Common.{List, ℕ, ◌++◌, ◌≡◌, sym, ap, ◌∙◌, codes, drop, subst}
+use Rattle.std.proofs.Common.{◌≡◌, sym, ap, ◌∙◌, drop, subst}
 use Rattle.std.proofs.lemmas.Bool.Decides.{Decides-eqb}
 use Rattle.std.proofs.lemmas.Slice.Eq.{strip_prefix_is}
 use Rattle.fsm_program.specs.Files.{IsFileName}

@@ -1,4 +1,4 @@
-use Rattle.std.proofs.Common.{◌≤◌, take, Ok, List, ℕ}
+use Rattle.std.proofs.Common.{◌≤◌, take, Ok}
 use Rattle.std.specs.List.{flat_map}
 use Rattle.fsm_io.specs.Sinks.{Gathers}
 use Rattle.fsm_io.specs.declared.source.Failed.{Failed}

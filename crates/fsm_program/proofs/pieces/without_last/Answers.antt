@@ -1,4 +1,4 @@
-use Rattle.std.proofs.Common.{List, ℕ, ◌++◌, ◌∷◌, [], sym, ap, ◌∙◌}
+use Rattle.std.proofs.Common.{ℕ, ◌++◌, ◌∷◌, [], sym, ap, ◌∙◌}
 use Rattle.fsm_meaning.specs.Replies.{without_last}
 use Rattle.fsm_program.proofs.ReplyBytes.{last_dropped, last_kept, not_same}
 use Rattle.fsm_program.proofs.pieces.without_last.Goals as goal

@@ -1,5 +1,4 @@
-use Rattle.std.proofs.Common.{ℕ, List, Option, Some, ap, sym, ◌∙◌}
-use Rattle.std.specs.Option.{option_map}
+use Rattle.std.proofs.Common.{◌∙◌}
 use Rattle.fsm_program.proofs.Endings.{refusal, answer, completes}
 use Rattle.fsm_program.proofs.program.run.Goals as goal
 

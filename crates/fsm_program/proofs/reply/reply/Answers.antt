@@ -1,4 +1,4 @@
-use Rattle.std.proofs.Common.{codes, arith, refl, ap, sym, subst, ◌∙◌, length, List, ℕ, true, false}
+use Rattle.std.proofs.Common.{codes, arith, refl, ap, sym, subst, ◌∙◌, length, List, ℕ}
 use Rattle.fsm_meaning.specs.Replies.{IsWord, RepliesToWord, no_word, word, no_net, up}
 use Rattle.fsm_program.proofs.ReplyBytes.{headed_one, bytes_net, sends_as, sends_weaker, length-without_last}
 use Rattle.fsm_program.proofs.Lawful.{undefined}

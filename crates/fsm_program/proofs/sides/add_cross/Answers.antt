@@ -1,4 +1,4 @@
-use Rattle.std.proofs.Common.{arith, All, length}
+use Rattle.std.proofs.Common.{arith}
 use Rattle.fsm_meaning.specs.OnePair.{leaf_word}
 use Rattle.fsm_meaning.specs.Projects.{symbol_of}
 use Rattle.regex_ast.specs.Terms.{term}

@@ -1,8 +1,5 @@
-use Rattle.std.proofs.Common.{rules, All, map, subst, sym}
 use Rattle.fsm_base.specs.Symbols.{IsSymbol}
-use Rattle.fsm_meaning.specs.OnePair.{leaf_word}
 use Rattle.fsm_meaning.specs.Projects.{symbol_of}
-use Rattle.regex_ast.specs.Terms.{term}
 use Rattle.fsm_program.proofs.SideLemmas.{All-unmap}
 use Rattle.fsm_program.proofs.sides.add_leaf.Goals as goal
 

@@ -1,7 +1,7 @@
 use Rattle.std.proofs.Common.{All, subst}
 use Rattle.fsm_base.specs.Symbols.{IsSymbol}
 use Rattle.regex_ast.specs.Terms.{term}
-use Rattle.fsm_meaning.specs.Projects.{symbol_of, symbols_in}
+use Rattle.fsm_meaning.specs.Projects.{symbols_in}
 use Rattle.fsm_program.proofs.PairLemmas.{All-append_right, symbols_in-leaf}
 use Rattle.fsm_program.proofs.sides.add_part.Goals as goal
 

@@ -1,5 +1,4 @@
-use Rattle.std.proofs.Common.{ℕ, List, ◌++◌, ◌∷◌, [], ◌≡◌, ◌+◌, map, take, drop, length, subst, sym, ap, arith, length-append, All, ◌∙◌}
-use Rattle.fsm_base.specs.Symbols.{IsSymbol}
+use Rattle.std.proofs.Common.{List, ◌++◌, ◌∷◌, [], ◌≡◌, ◌+◌, map, take, length, subst, sym, ap, arith, length-append, ◌∙◌}
 use Rattle.regex_ast.specs.Terms.{Term, term}
 use Rattle.regex_ast.specs.declared.expr.Raw.{Raw}
 use Rattle.fsm_meaning.specs.OnePair.{parts_upper, parts_lower}

@@ -1,4 +1,4 @@
-use Rattle.std.proofs.Common.{ℕ, List, ◌∷◌, [], map, take, subst, sym, arith}
+use Rattle.std.proofs.Common.{map, take, subst, sym, arith}
 use Rattle.fsm_meaning.specs.Projects.{symbol_of}
 use Rattle.fsm_program.specs.Sides.{AddsWord}
 use Rattle.fsm_program.proofs.SideLemmas.{room_left, adds_both, map-take_more, length-map-take}

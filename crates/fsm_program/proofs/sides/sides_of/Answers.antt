@@ -1,11 +1,9 @@
-use Rattle.std.proofs.Common.{All, length, ◌≡◌, ◌+◌, ◌≤◌, map, subst, sym, ap, OnOk, ◌∙◌}
+use Rattle.std.proofs.Common.{All, length, ◌+◌, ◌≤◌, subst, sym, ap, OnOk, ◌∙◌}
 use Rattle.fsm_base.specs.Symbols.{IsSymbol}
-use Rattle.regex_ast.specs.Terms.{Term, term, concat}
-use Rattle.regex_ast.specs.declared.expr.Raw.{Raw}
-use Rattle.fsm_meaning.specs.OnePair.{IsPlain, AreParts, upper_word, lower_word}
+use Rattle.regex_ast.specs.Terms.{term}
+use Rattle.fsm_meaning.specs.OnePair.{IsPlain, upper_word, lower_word}
 use Rattle.fsm_meaning.specs.Projects.{symbol_of, symbols_in}
 use Rattle.fsm_program.specs.Sides.{AddsPair}
-use Rattle.regex_reader.specs.Form.{terms_of}
 use Rattle.fsm_program.proofs.PairLemmas.{term-Concat, parts_each, symbols_each}
 use Rattle.fsm_program.proofs.sides.sides_of.Goals as goal
 

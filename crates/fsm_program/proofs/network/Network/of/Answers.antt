@@ -1,4 +1,4 @@
-use Rattle.std.proofs.Common.{List, ℕ, ◌≡◌, ◌<◌, sym, ap, subst, ◌∙◌, length, All}
+use Rattle.std.proofs.Common.{List, ◌<◌, sym, ap, subst, ◌∙◌, length, All}
 use Rattle.fsm_base.specs.declared.letters.Sym.{Sym}
 use Rattle.fsm_base.specs.Alphabet.{symbols_of, listed}
 use Rattle.fsm_words.specs.Words.{IsDistinct, IsOver}

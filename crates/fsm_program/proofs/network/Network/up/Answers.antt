@@ -1,4 +1,4 @@
-use Rattle.std.proofs.Common.{◌≡◌, ap, sym, subst, ◌∙◌, true, false, refl}
+use Rattle.std.proofs.Common.{ap, sym, ◌∙◌, true, false, refl}
 use Rattle.std.proofs.lemmas.Slice.Eq.{slice_eq-Decides}
 use Rattle.fsm_program.proofs.NetworkLemmas.{sym_eq-Decides}
 use Rattle.fsm_program.proofs.network.Network.up.Goals as goal
