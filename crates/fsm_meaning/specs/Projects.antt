@@ -2,7 +2,7 @@
 use Rattle.std.specs.Prelude.{◌≡◌, ℕ, List, [], ◌∷◌, ◌++◌, map, Contains}
 use Rattle.regex_ast.specs.declared.expr.Raw.{Raw}
 use Rattle.regex_ast.specs.declared.expr.Raw.TheVariants.{Run, Quoted}
-use Rattle.regex_ast.specs.Terms.{Term, atom, letters, cross, concat, Terms, no_term, then_term}
+use Rattle.regex_ast.specs.Terms.{Term, atom, letters, group, maybe, cross, suffixed, concat, chain, Terms, no_term, then_term, Links, no_link, or, and, less}
 use Rattle.fsm_base.specs.Symbols.{with_text}
 use Rattle.fsm_meaning.specs.Relation.{Relates}
 
@@ -28,12 +28,22 @@ abbrev mutual
   symbols_in (letters all) = map symbol_of all
   symbols_in (cross e f) = symbols_in e ++ symbols_in f
   symbols_in (concat es) = symbols_in_each es
+  symbols_in (group e) = symbols_in e
+  symbols_in (maybe e) = symbols_in e
+  symbols_in (suffixed e suffixes) = symbols_in e
+  symbols_in (chain e links) = symbols_in e ++ symbols_in_links links
   -- the forms that have a relation, and no others, have symbols yet
   symbols_in _ = []
 
   pub symbols_in_each : Terms Raw → List (List ℕ)
   symbols_in_each no_term = []
   symbols_in_each (then_term e es) = symbols_in e ++ symbols_in_each es
+
+  pub symbols_in_links : Links Raw → List (List ℕ)
+  symbols_in_links no_link = []
+  symbols_in_links (or e links) = symbols_in e ++ symbols_in_links links
+  symbols_in_links (and e links) = symbols_in e ++ symbols_in_links links
+  symbols_in_links (less e links) = symbols_in e ++ symbols_in_links links
 
 -- the table's texts, and then each of these that is new, in their order
 abbrev pub with_texts : List (List ℕ) → List (List ℕ) → List (List ℕ)

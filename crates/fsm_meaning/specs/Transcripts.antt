@@ -1,6 +1,6 @@
 -- What an output gets for the lines of an input, whatever the command: a transcript has the reply to
 -- each line, in order. `R` says which bytes are a reply to a line.
-use Rattle.std.specs.Prelude.{◌≡◌, ◌++◌, ◌<◌, ℕ, Bool, true, false, List, [], ◌∷◌, length, Option}
+use Rattle.std.specs.Prelude.{◌≡◌, ◌++◌, ℕ, Bool, true, false, List, [], ◌∷◌, length, Option}
 use Rattle.std.specs.Io.KnownBytes.{Consumes, Appends, IsAtEnd}
 use Rattle.fsm_io.specs.Lines.{lines_of}
 use Rattle.fsm_meaning.specs.declared.ending.Ending.{Ending}
