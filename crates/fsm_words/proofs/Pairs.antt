@@ -114,3 +114,52 @@ module _ {L : Type 0} (P : List L → List L → Type 0) where
       back (u1, u2, w1, w2, e, d, p, q) =
           repetition_append (λ n. n ≡ 1) (λ n. Unit {0}) (λ n. 0 < n) (λ i j one any. omega (arith, one)) u w
           (u1, u2, w1, w2, e, d, repetition_one (λ n. n ≡ 1) refl u1 w1 p, q)
+
+module _ {L : Type 0} where
+  pub concatenation_assoc : (P Q R : List L → List L → Type 0) → AreSame (IsConcatenationOfPairs (IsConcatenationOfPairs P Q) R) (IsConcatenationOfPairs P (IsConcatenationOfPairs Q R))
+  concatenation_assoc P Q R u w = (
+    λ (u12, u3, w12, w3, e, d, (u1, u2, w1, w2, e', d', p, q), r). (
+      u1,
+      u2 ++ u3,
+      w1,
+      w2 ++ w3,
+      e ∙ ap (λ (z : List L). z ++ u3) e' ∙ append_assoc u1 u2 u3,
+      d ∙ ap (λ (z : List L). z ++ w3) d' ∙ append_assoc w1 w2 w3,
+      p,
+      (u2, u3, w2, w3, refl, refl, q, r),
+    ),
+    λ (u1, u23, w1, w23, e, d, p, (u2, u3, w2, w3, e', d', q, r)). (
+      u1 ++ u2,
+      u3,
+      w1 ++ w2,
+      w3,
+      e ∙ ap (λ (z : List L). u1 ++ z) e' ∙ sym (append_assoc u1 u2 u3),
+      d ∙ ap (λ (z : List L). w1 ++ z) d' ∙ sym (append_assoc w1 w2 w3),
+      (u1, u2, w1, w2, refl, refl, p, q),
+      r,
+    ),
+  )
+
+  -- only the pair of empty words
+  abbrev pub AreEmpty : List L → List L → Type 0
+  AreEmpty u w = (u ≡ []) × (w ≡ [])
+
+  pub concatenation_empty_left : (P : List L → List L → Type 0) → AreSame (IsConcatenationOfPairs AreEmpty P) P
+  concatenation_empty_left P u w = (
+    λ (u1, u2, w1, w2, e, d, (none, none'), p).
+        subst (λ (z : List L). P z w) (sym (e ∙ ap (λ (z : List L). z ++ u2) none)) (subst (λ (z : List L). P u2 z) (sym (d ∙ ap (λ (z : List L). z ++ w2) none')) p),
+    λ p. ([], u, [], w, refl, refl, (refl, refl), p),
+  )
+
+  pub concatenation_empty_right : (P : List L → List L → Type 0) → AreSame (IsConcatenationOfPairs P AreEmpty) P
+  concatenation_empty_right P u w = (
+    λ (u1, u2, w1, w2, e, d, p, (none, none')).
+        subst (λ (z : List L). P z w) (sym (e ∙ ap (λ (z : List L). u1 ++ z) none ∙ append-nil u1)) (subst (λ (z : List L). P u1 z) (sym (d ∙ ap (λ (z : List L). w1 ++ z) none' ∙ append-nil w1)) p),
+    λ p. (u, [], w, [], sym (append-nil u), sym (append-nil w), p, (refl, refl)),
+  )
+
+  pub same_trans : (P Q R : List L → List L → Type 0) → AreSame P Q → AreSame Q R → AreSame P R
+  same_trans P Q R f g u w = (λ p. (g u w).0 ((f u w).0 p), λ r. (f u w).1 ((g u w).1 r))
+
+  pub same_back : (P Q : List L → List L → Type 0) → AreSame P Q → AreSame Q P
+  same_back P Q f u w = ((f u w).1, (f u w).0)
