@@ -6,3 +6,5 @@ mod WordAlone
 mod Steps
 mod Related
 mod Repeated
+mod Leaves
+mod Rowing

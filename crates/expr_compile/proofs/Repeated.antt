@@ -4,7 +4,7 @@ use Rattle.fsm_base.specs.declared.letters.Sym.{Sym}
 use Rattle.fsm_base.specs.declared.letters.Pair.{Pair}
 use Rattle.fsm_words.specs.Words.{IsConcatenation, IsRepetition}
 use Rattle.fsm_words.specs.Relations.{IsConcatenationOfPairs, IsRepetitionOfPairs}
-use Rattle.fsm_words.proofs.Pairs.{concatenation_same, repetition_same, repetition_more, repetition_zero, repetition_single, repetition_sum, repetition_some, same_trans, same_back, AreEmpty}
+use Rattle.fsm_words.proofs.Pairs.{concatenation_same, repetition_same, repetition_zero, repetition_single, repetition_sum, repetition_some, same_trans, same_back, AreEmpty}
 use Rattle.fsa.specs.Automaton.{Automaton}
 use Rattle.fsa.specs.Language.{Accepts}
 use Rattle.fst_relation.specs.Relation.{IsRelated}

@@ -1,7 +1,7 @@
 -- The symbols of the items of a row, item by item.
 use Rattle.std.proofs.Common.{◌≡◌, ℕ, ◌<◌, ◌+◌, List, [], ◌∷◌, ◌++◌, length, map, drop, get_or, refl, sym, ap, ◌∙◌, arith, suc}
 use lib.Seq.{drop-cons}
-use Rattle.regex_ast.specs.Terms.{Term, term, terms_of, links_of, or, and, less}
+use Rattle.regex_ast.specs.Terms.{Term, term, terms_of, links_of}
 use Rattle.regex_ast.specs.declared.expr.Raw.{Raw}
 use Rattle.regex_ast.specs.declared.expr.Expr.{Expr}
 use Rattle.regex_ast.specs.declared.expr.Link.{Link, Or, And, Less}

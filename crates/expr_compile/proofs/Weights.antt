@@ -13,7 +13,7 @@ abbrev mutual
   weight (maybe e) = suc (weight e)
   weight (suffixed e suffixes) = suc (weight e)
   weight (concat es) = suc (weight_each es)
-  weight (chain e links) = suc (weight e + weight_links links)
+  weight (chain e links) = suc (suc (weight e + weight_links links))
   weight _ = 0
 
   pub weight_each : {A : Type 0} → Terms A → ℕ

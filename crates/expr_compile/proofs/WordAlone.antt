@@ -3,7 +3,7 @@ use Rattle.std.proofs.Common.{◌≡◌, ◌↔◌, ◌<◌, ◌≤◌, ◌+◌,
 use Rattle.std.proofs.lemmas.List.{drop_all}
 use Rattle.std.specs.List.{Contains}
 use Rattle.fsm_base.specs.declared.letters.Pair.{Pair}
-use Rattle.fsa.specs.Automaton.{Automaton, IsFinal}
+use Rattle.fsa.specs.Automaton.{Automaton}
 use Rattle.fsa.specs.Language.{Accepts, AcceptsFrom, stop, read, skip}
 use Rattle.fsa.specs.declared.automaton.Edge.{Edge}
 use Rattle.expr_compile.specs.Compiled.{IsStep}

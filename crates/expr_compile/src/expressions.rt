@@ -32,8 +32,8 @@ fn leaf_symbols(
     match leaf {
         Expr::Atom(atom) => symbols.push(symbol(atom, table))?,
         Expr::Letters(leaves) => {
-            'leaves: for leaf in leaves {
-                symbols.push(symbol(leaf, table))?;
+            'leaves: for each in leaves {
+                symbols.push(symbol(each, table))?;
             }
         }
         _ => {}
@@ -80,7 +80,14 @@ pub fn compile(
         }
         Expr::Concat(parts) => in_turn(alloc, &compile_each(alloc, parts, table)?),
         Expr::Chain(first, links) => by_any(alloc, &compile_row(alloc, first, links, table)?),
-        _ => unreachable!(),
+        Expr::Any
+        | Expr::Edge
+        | Expr::NotOne(_, _)
+        | Expr::Prefixed(_, _)
+        | Expr::Ignore(_)
+        | Expr::Only(_, _)
+        | Expr::Rules(_)
+        | Expr::Steps(_, _) => unreachable!(),
     }
 }
 

@@ -1,6 +1,5 @@
-use Rattle.std.proofs.Common.{◌≡◌, List, Bool, true, false, [], ◌∷◌, ◌++◌, replicate, length, Some, sym, ap, subst, ◌∙◌}
+use Rattle.std.proofs.Common.{◌≡◌, Some, sym, ap, subst, ◌∙◌}
 use Rattle.std.specs.List.{Contains}
-use Rattle.fsm_base.specs.declared.letters.Pair.{Pair}
 use Rattle.fsm_words.proofs.Places.{Contains-from_slice_get}
 use Rattle.expr_compile.proofs.WordAlone.{alone_accepts}
 use Rattle.expr_compile.proofs.alone.alone.Goals as goal

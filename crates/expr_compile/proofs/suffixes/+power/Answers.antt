@@ -1,4 +1,4 @@
-use Rattle.std.proofs.Common.{◌≡◌, ◌⊎◌, ◌/◌, ◌%◌, ◌+◌, [], inl, inr, arith}
+use Rattle.std.proofs.Common.{◌⊎◌, ◌/◌, ◌+◌, [], arith}
 use Rattle.std.proofs.lemmas.Result.{IfOk-weaker}
 use Rattle.std.specs.List.{Contains}
 use Rattle.fsa.specs.Automaton.{Automaton, UsesLetter}

@@ -1,4 +1,4 @@
-use Rattle.std.proofs.Common.{◌≡◌, ◌⊎◌, IfOk, sym, subst}
+use Rattle.std.proofs.Common.{◌⊎◌, IfOk, sym, subst}
 use Rattle.std.proofs.lemmas.Result.{IfOk-weaker}
 use Rattle.fsa.specs.Automaton.{Automaton, UsesLetter}
 use Rattle.fsm_base.specs.declared.letters.Pair.{Pair}

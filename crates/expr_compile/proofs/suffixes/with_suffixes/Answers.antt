@@ -1,7 +1,5 @@
-use Rattle.std.proofs.Common.{◌+◌, ◌∷◌, drop, subst, arith}
+use Rattle.std.proofs.Common.{arith}
 use Rattle.std.proofs.lemmas.List.{get_or_default}
-use Rattle.fsa.specs.Automaton.{UsesLetter}
-use Rattle.fsm_base.specs.declared.letters.Pair.{Pair}
 use Rattle.expr_compile.proofs.Rowwise.{left_behind}
 use Rattle.expr_compile.proofs.Repeated.{suffix_done}
 use Rattle.expr_compile.proofs.suffixes.with_suffixes.Goals as goal

@@ -1,10 +1,9 @@
-use Rattle.std.proofs.Common.{◌≡◌, ◌∷◌, ◌++◌, ◌+◌, ◌<◌, [], map, drop, length, OnOk, List, ℕ, subst, sym, ap, ◌∙◌, arith, inl, inr}
-use Rattle.regex_ast.specs.Terms.{Term, term, links_of, terms_of}
-use Rattle.regex_ast.specs.declared.expr.Raw.{Raw}
+use Rattle.std.proofs.Common.{◌≡◌, ◌++◌, OnOk, subst, sym, ap, ◌∙◌, arith, inl, inr}
+use Rattle.regex_ast.specs.Terms.{term, links_of}
 use Rattle.regex_ast.proofs.Rows.{term-Concat, term-Chain}
-use Rattle.fsm_meaning.specs.Projects.{symbol_of, symbols_in, symbols_in_each, symbols_in_links, with_texts}
+use Rattle.fsm_meaning.specs.Projects.{symbols_in, symbols_in_links, with_texts}
 use Rattle.expr_compile.specs.Tables.{Fits}
-use Rattle.expr_compile.proofs.Tables.{interned, fits_item, fits_first, fits_second, with_texts-append, interned_both}
+use Rattle.expr_compile.proofs.Tables.{interned, fits_item, fits_first, fits_second, interned_both}
 use Rattle.expr_compile.proofs.Rowwise.{parts_left, links_left, operand_term}
 use Rattle.expr_compile.proofs.Weights.{weight, part_lighter, operand_lighter}
 use Rattle.expr_compile.proofs.symbols.+add_expr.Goals as goal
@@ -34,8 +33,7 @@ add_linked-links-preserved t c =
 pub add_symbols-add_symbols-requires-in-Cross : goal.add_symbols-add_symbols-requires-in-Cross
 add_symbols-add_symbols-requires-in-Cross t c =
     let fits : Fits c.args.table.now (symbols_in (term c.in-Cross.up.value) ++ symbols_in (term c.in-Cross.low.value)) = subst (λ e. Fits c.args.table.now (symbols_in (term e))) c.in-Cross.is c.requires in
-    let is = rw c.deref-in-Cross.ensures at c.in_ok-add_symbols-in-Cross.ensures in
-    (
+    let is = rw c.deref-in-Cross.ensures at c.in_ok-add_symbols-in-Cross.ensures in (
       rw c.deref-in-Cross-2.ensures (omega (arith, c.decreases, ap (λ e. weight (term e)) c.in-Cross.is)),
       rw c.deref-in-Cross-2.ensures (fits_second c.args.table.now (symbols_in (term c.in-Cross.up.value)) (symbols_in (term c.in-Cross.low.value)) fits c.add_symbols.new.table is),
     )
@@ -55,8 +53,7 @@ pub add_symbols-add_linked-requires : goal.add_symbols-add_linked-requires
 add_symbols-add_linked-requires t c =
     let is = ap term c.in-Chain.is ∙ term-Chain c.in-Chain.first c.in-Chain.links in
     let fits : Fits c.args.table.now (symbols_in (term c.in-Chain.first.value) ++ symbols_in_links (links_of c.in-Chain.links.items)) = subst (λ e. Fits c.args.table.now (symbols_in e)) is c.requires in
-    let new = rw c.deref-in-Chain.ensures at c.in_ok-add_symbols-in-Chain.ensures in
-    (
+    let new = rw c.deref-in-Chain.ensures at c.in_ok-add_symbols-in-Chain.ensures in (
       rw c.deref-in-Chain-2.ensures.value (omega (arith, c.decreases, ap weight is)),
       rw c.deref-in-Chain-2.ensures.value (fits_second c.args.table.now (symbols_in (term c.in-Chain.first.value)) (symbols_in_links (links_of c.in-Chain.links.items)) fits c.add_symbols-in-Chain.new.table new),
     )

@@ -1,4 +1,4 @@
-use Rattle.std.proofs.Common.{◌+◌, ◌∷◌, [], map, drop, arith}
+use Rattle.std.proofs.Common.{◌∷◌, [], arith}
 use Rattle.fsm_meaning.specs.Projects.{symbol_of}
 use Rattle.expr_compile.proofs.Tables.{interned, fits_item}
 use Rattle.expr_compile.proofs.Rowwise.{leaves_left}
