@@ -107,6 +107,13 @@ pub fn has_no_digit(text: &[u8]) -> bool
     text.iter().all(|byte| !byte.is_ascii_digit())
 }
 
+/// Whether every byte is a digit.
+pub fn has_only_digits(text: &[u8]) -> bool
+    ensures { result ≡ list_all is_digit text.now }
+{
+    text.iter().all(|byte| byte.is_ascii_digit())
+}
+
 /// The text of printable bytes.
 pub fn text_of(alloc: Global, bytes: &[u8]) -> Result<Text, AllocError>
     requires { IsTrue (list_all is_printable bytes.now) }

@@ -65,7 +65,7 @@ fn definition(alloc: Global, text: &[u8]) -> Result<Option<Define<Raw>>, AllocEr
     let Some(tokens) = tokens(alloc, behind)? else {
         return Ok(None);
     };
-    statement(alloc, line, tokens)
+    statement(alloc, line, &tokens)
 }
 
 /// The line that is reached behind a text, counted from 1.
