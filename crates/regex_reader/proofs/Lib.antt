@@ -1,1 +1,9 @@
 pub mod Lists
+pub mod Cases
+pub mod Exact
+pub mod Loops
+pub mod Flags
+pub mod Levels
+pub mod Tokens
+pub mod Texts
+pub mod Whole
