@@ -10,7 +10,7 @@ use Rattle.regex_ast.specs.Terms.{Term, empty, group, maybe, cross}
 use Rattle.regex_ast.specs.declared.expr.Raw.{Raw}
 use Rattle.regex_ast.specs.declared.expr.Suffix.{Suffix}
 use Rattle.regex_ast.specs.declared.expr.Suffix.TheVariants.{Star as any_number, Plus as one_or_more, Power as times}
-use Rattle.regex_reader.specs.Bytes.{begins, is_digit, number_of}
+use Rattle.regex_reader.specs.Bytes.{begins, is_digit, is_number, number_of}
 use Rattle.regex_reader.specs.Rows.{Row, Reader}
 use Rattle.regex_reader.specs.Form.{byte_of, IsLeaf, Operand, Primary, single, blank, grouped, optional, Crossed, alone, pair, Times, Ending, star, plus, power, Suffixed, Concatenated, Linked, or_else, Chained, Expression, put_operand, put_primary, put_crossed, put_ending, put_suffixed, put_concat, put_linked, put_chain, put_expression, leaf_term, operand_term, primary_term, crossed_term, suffix_of, with_suffixes, suffixed_term, side_by_side, concat_term, LinkTerm, or_term, linked_value, with_links, chain_term, expression_term}
 use Rattle.regex_reader.specs.Reading.{operator_of, level, is_level, is_operator, after, leaf_of, run_of, run_before, leaf_before, is_leaf, leaf_at, operand_at, lower_at, pair_at, bracket_at, square_by, square_at, crossed_at, power_of, power_at, suffix_at, suffixed_at, concat_at, link_at, chain_at, expression_at}
@@ -284,9 +284,9 @@ small n = ((λ e. grind (arith, nat_tests)), (λ h. grind (arith, nat_tests)))
 
 power_takes : (tokens : List Token) (x : Suffix × List Token) → power_at tokens ≡ Some x → Found put_ending suffix_of (operator Caret ∷ tokens) x
 power_takes tokens x e = then_some _ (run_before tokens) x e (λ y first more. map_some _ (power_of y.0) x more (λ s found same.
-    if_cases (list_all is_digit y.0 && nat_le (number_of y.0) 255) _ _ _ found
+    if_cases (is_number y.0 && nat_le (number_of y.0) 255) _ _ _ found
     (λ is some. (
-      power (record { digits = y.0; decimal = and_left _ _ is; small = (small (number_of y.0)).0 (and_right (list_all is_digit y.0) _ is) }),
+      power (record { digits = y.0; decimal = and_left _ _ is; small = (small (number_of y.0)).0 (and_right (is_number y.0) _ is) }),
       ap (λ us. operator Caret ∷ us) (run_before_takes tokens y first ∙ ap (λ (z : Suffix × List Token). leaf (Run y.0) ∷ z.1) same),
       same_some (times (number_of y.0)) s some ∙ ap (λ (z : Suffix × List Token). z.0) same,
     ))

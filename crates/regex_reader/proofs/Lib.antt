@@ -7,3 +7,5 @@ pub mod Levels
 pub mod Tokens
 pub mod Texts
 pub mod Whole
+pub mod Rows
+pub mod Numbers

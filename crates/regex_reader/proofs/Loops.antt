@@ -1,10 +1,10 @@
 -- A loop that reads items one behind the other. Nothing here knows what a token is.
-use Rattle.std.proofs.Common.{◌≡◌, ℕ, zero, suc, ◌<◌, ◌≤◌, Bool, true, false, cond, Option, Some, None, List, [], ◌∷◌, ◌++◌, length, refl, sym, ap, ◌∙◌, arith, append_assoc, append-nil}
+use Rattle.std.proofs.Common.{◌≡◌, ℕ, zero, suc, ◌<◌, ◌≤◌, Bool, true, false, cond, Option, Some, None, List, [], ◌∷◌, ◌++◌, length, refl, sym, ap, subst, ◌∙◌, arith, append_assoc, append-nil}
 use Rattle.std.specs.Option.{option_map, option_and_then}
 use Rattle.regex_reader.specs.Bytes.{begins}
 use Rattle.regex_reader.specs.Rows.{Reader, many}
 use Rattle.regex_reader.proofs.Cases.{map_map}
-use Rattle.regex_reader.proofs.Exact.{many_step, many_stop}
+use Rattle.regex_reader.proofs.Exact.{Exact, exact_shorter, many_step, many_stop}
 
 -- what was found, and what the rest will give
 pub record ManySoFar {K U : Type 0} (next : K → Bool) (read : Reader K U) (tokens : List K) (found : List U) (rest : List K) : Type 0 where
@@ -48,3 +48,9 @@ fails_from {K} {U} next read tokens found rest (suc n) enough so_far here item =
 
 pub many_fails : {K U : Type 0} (next : K → Bool) (read : Reader K U) (tokens : List K) (found : List U) (rest : List K) → ManySoFar next read tokens found rest → begins next rest ≡ true → None ≡ read rest → None ≡ many next read (length tokens) tokens
 many_fails next read tokens found rest h here item = fails_from next read tokens found rest h.count h.enough h.so_far here (sym item)
+
+-- one more item of what is read exactly
+pub item_found : {B U K : Type 0} {read : Reader K U} {put : B → List K → List K} {says : B → U} {next goes : K → Bool} → Exact read put says next goes
+    → (tokens : List K) (found now_found : List U) (rest : List K) (u : U) (behind : List K) → ManySoFar next read tokens found rest → begins next rest ≡ true → read rest ≡ Some (u, behind) → now_found ≡ found ++ u ∷ [] → ManySoFar next read tokens now_found behind
+item_found {read = read} {next = next} h tokens found now_found rest u behind so_far here item same =
+    subst (λ us. ManySoFar next read tokens us behind) (sym same) (many_goes_on next read tokens found rest u behind so_far here item (exact_shorter h rest (u, behind) item))

@@ -23,9 +23,6 @@ printable_run text = list_all_weaker is_run_byte is_printable (λ b h. and_left 
 pub printable_quoted : (text : List ℕ) → list_all is_printable (taken is_quoted_byte text) ≡ true
 printable_quoted text = list_all_weaker is_quoted_byte is_printable (λ b h. and_left _ _ h) (taken is_quoted_byte text) (list_all-taken is_quoted_byte text)
 
-pub printable_braced : (text : List ℕ) → list_all is_printable (taken is_braced_byte text) ≡ true
-printable_braced text = list_all_weaker is_braced_byte is_printable (λ b h. and_left _ _ h) (taken is_braced_byte text) (list_all-taken is_braced_byte text)
-
 run_byte_differs : (b c : ℕ) → is_run_byte c ≡ false → is_run_byte b ≡ true → (b == c) ≡ false
 run_byte_differs b c fails passes = false_by (b == c) (λ e. sym passes ∙ ap is_run_byte ((Decides-eqb b c).0 e) ∙ fails)
 

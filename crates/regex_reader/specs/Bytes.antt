@@ -45,6 +45,11 @@ is_of Quoted = is_quoted_byte
 is_of Braced = is_braced_byte
 is_of Feature = is_feature_byte
 
+-- digits, one at least
+abbrev pub is_number : List ℕ → Bool
+is_number [] = false
+is_number (c ∷ cs) = list_all is_digit (c ∷ cs)
+
 -- the number that decimal digits say, where those before them said n
 abbrev pub number_behind : ℕ → List ℕ → ℕ
 number_behind n [] = n

@@ -21,7 +21,7 @@ use Rattle.regex_ast.specs.declared.expr.Define.{Define}
 use Rattle.regex_ast.specs.declared.fault.ReadError.{ReadError}
 use Rattle.regex_ast.specs.declared.fault.ReadError.TheVariants.{Fault, Memory}
 use Rattle.regex_ast.specs.declared.fault.Why.TheVariants.{NotBuilt}
-use Rattle.regex_reader.specs.Bytes.{is_blank, is_digit, is_run_byte, is_quoted_byte, is_braced_byte, is_name, number_of}
+use Rattle.regex_reader.specs.Bytes.{is_blank, is_digit, is_run_byte, is_quoted_byte, is_braced_byte, is_name, is_number, number_of}
 use Rattle.regex_reader.specs.Rows.{Row, put_row, row_value}
 use Rattle.regex_reader.specs.declared.token.Leaf.{Leaf}
 use Rattle.regex_reader.specs.declared.token.Leaf.TheVariants.{Run, Quoted, Braced}
@@ -116,10 +116,10 @@ pub data Crossed (name : List ℕ) (E : Type 0) : Type 0 where
   alone : Primary name E → Crossed name E
   pair : Operand name → Operand name → Crossed name E
 
--- the number of a power: digits only
+-- the number of a power
 pub record Times : Type 0 where
   pub digits : List ℕ
-  pub decimal : IsTrue (list_all is_digit digits)
+  pub decimal : IsTrue (is_number digits)
   pub small : number_of digits ≤ 255
 
 -- level 4

@@ -9,7 +9,7 @@ use Rattle.regex_ast.specs.declared.expr.Link.{Link, Or, And, Less}
 use Rattle.regex_ast.specs.declared.expr.Raw.{Raw}
 use Rattle.regex_ast.specs.declared.expr.Suffix.{Suffix}
 use Rattle.regex_ast.specs.declared.expr.Suffix.TheVariants.{Star as any_number, Plus as one_or_more, Power as times}
-use Rattle.regex_reader.specs.Bytes.{is_blank, is_digit, is_run_byte, is_quoted_byte, is_braced_byte, is_feature_byte, is_name, begins, number_of}
+use Rattle.regex_reader.specs.Bytes.{is_blank, is_digit, is_run_byte, is_quoted_byte, is_braced_byte, is_feature_byte, is_name, is_number, number_of}
 use Rattle.regex_reader.specs.Rows.{Reader, row_at}
 use Rattle.regex_reader.specs.Form.{Statement, byte_of, leaf_term, with_suffixes, side_by_side, LinkTerm, or_term, and_term, less_term, with_links, newlines, most_open}
 use Rattle.regex_reader.specs.declared.token.Leaf.{Leaf}
@@ -200,7 +200,7 @@ crossed_at name inner (operator OpenRound ∷ rest) = bracket_at maybe CloseRoun
 crossed_at name inner (operator _ ∷ rest) = None
 
 abbrev pub power_of : List ℕ → Option Suffix
-power_of digits = if list_all is_digit digits && nat_le (number_of digits) 255 then Some (times (number_of digits)) else None
+power_of digits = if is_number digits && nat_le (number_of digits) 255 then Some (times (number_of digits)) else None
 
 abbrev pub power_at : Reader Token Suffix
 power_at tokens = option_and_then (λ x. option_map (λ s. (s, x.1)) (power_of x.0)) (run_before tokens)

@@ -5,7 +5,7 @@ ghost use Rattle.regex_reader.specs.Form.{with_suffixes, side_by_side, with_link
 ghost use Rattle.regex_reader.specs.Rows.{many};
 ghost use Rattle.regex_reader.specs.Reading.{is_level, leaf_at, operand_at, pair_at, bracket_at, square_at, crossed_at, power_of, power_at, suffix_at, suffixed_at, concat_at, link_at, link_value, chain_at, expression_at};
 
-use crate::bytes::has_only_digits;
+use crate::bytes::is_number;
 use crate::leaf::{is_leaf, leaf_expr};
 use crate::token::{Leaf, Operator, Token, after, begins_operand, begins_suffix, split_leaf, split_run};
 use fsm_base::Text;
@@ -262,7 +262,7 @@ fn power(tokens: &[Token]) -> Option<(Suffix, &[Token])>
 fn times(digits: &str) -> Option<u32>
     ensures { option_map (λ n. Suffix.Power n) result ≡ power_of digits.now }
 {
-    if !has_only_digits(digits.as_bytes()) {
+    if !is_number(digits.as_bytes()) {
         return None;
     }
     match digits.parse::<u8>() {
