@@ -9,3 +9,4 @@ pub mod Texts
 pub mod Whole
 pub mod Rows
 pub mod Numbers
+pub mod Parsing
