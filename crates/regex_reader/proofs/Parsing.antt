@@ -1,12 +1,12 @@
 -- The functions of the parser, each as its level is read.
-use Rattle.std.proofs.Common.{◌≡◌, ℕ, zero, suc, ◌<◌, ◌-◌, Bool, true, false, Option, Some, None, List, [], ◌∷◌, ◌++◌, length, refl, sym, ap, ◌∙◌, arith}
+use Rattle.std.proofs.Common.{◌≡◌, ℕ, zero, suc, ◌<◌, ◌-◌, Bool, true, false, cond, Option, Some, None, List, [], ◌∷◌, ◌++◌, length, refl, sym, ap, ◌∙◌, arith}
 use Rattle.std.specs.Option.{option_map, option_and_then}
 use Rattle.regex_ast.specs.Terms.{Term}
 use Rattle.regex_ast.specs.declared.expr.Raw.{Raw}
 use Rattle.regex_reader.specs.Bytes.{begins}
 use Rattle.regex_reader.specs.Rows.{many}
-use Rattle.regex_reader.specs.Form.{Suffixed, Concatenated, Linked, Expression, put_suffixed, put_concat, put_linked, put_expression, suffixed_term, concat_term, LinkTerm, or_term, linked_value, expression_term}
-use Rattle.regex_reader.specs.Reading.{is_level, after, suffixed_at, concat_at, link_at, chain_at, expression_at}
+use Rattle.regex_reader.specs.Form.{Suffixed, Concatenated, Linked, Expression, most_open, put_suffixed, put_concat, put_linked, put_expression, suffixed_term, concat_term, LinkTerm, or_term, linked_value, expression_term}
+use Rattle.regex_reader.specs.Reading.{is_level, after, suffixed_at, concat_at, link_at, chain_at, expression_at, ends, whole_at}
 use Rattle.regex_reader.specs.declared.token.Operator.TheVariants.{Colon, Semicolon, OpenSquare, CloseSquare, OpenRound, CloseRound, Bar, Star, Plus, Caret}
 use Rattle.regex_reader.specs.declared.token.Token.{Token}
 use Rattle.regex_reader.specs.declared.token.Token.TheVariants.{Leaf as leaf, Operator as operator}
@@ -63,3 +63,21 @@ pub link_fails : (name : List ℕ) (depth : ℕ) (rest operand : List Token) →
 link_fails name depth rest operand bar none = sym (
     ap (option_and_then (λ us. option_map (λ (x : Term Raw × List Token). (or_term x.0, x.1)) (concat_at name (expression_at name depth) us))) bar
     ∙ ap (option_map (λ (x : Term Raw × List Token). (or_term x.0, x.1))) (sym none))
+
+-- Whole expressions.
+
+abbrev ended : Term Raw × List Token → Option (Term Raw)
+ended x = cond (ends x.1) (Some x.0) None
+
+pub whole_by : (name : List ℕ) (tokens : List Token) (o : Option (Term Raw × List Token)) → o ≡ chain_at name (expression_at name 16) tokens → option_and_then ended o ≡ whole_at name tokens
+unfolding most_open
+whole_by name tokens o e = ap (option_and_then ended) e
+
+pub whole_none : (name : List ℕ) (tokens : List Token) → None ≡ chain_at name (expression_at name 16) tokens → None ≡ whole_at name tokens
+whole_none name tokens e = whole_by name tokens None e
+
+pub whole_open : (name : List ℕ) (tokens : List Token) (t : Term Raw) (rest : List Token) → Some (t, rest) ≡ chain_at name (expression_at name 16) tokens → ends rest ≡ false → None ≡ whole_at name tokens
+whole_open name tokens t rest e more = sym (ap (λ b. cond b (Some t) None) more) ∙ whole_by name tokens (Some (t, rest)) e
+
+pub whole_found : (name : List ℕ) (tokens : List Token) (t : Term Raw) (rest : List Token) → Some (t, rest) ≡ chain_at name (expression_at name 16) tokens → ends rest ≡ true → Some t ≡ whole_at name tokens
+whole_found name tokens t rest e last = sym (ap (λ b. cond b (Some t) None) last) ∙ whole_by name tokens (Some (t, rest)) e

@@ -142,6 +142,3 @@ token_again (leaf (Braced cs)) rest fine ends =
     let behind : left is_braced_byte (cs ++ 125 ∷ rest) ≡ 125 ∷ rest = left-front is_braced_byte cs (125 ∷ rest) fine refl in
     ap (λ text. token_at (123 ∷ text)) (append_assoc cs (125 ∷ []) rest) ∙ (ap (λ inner. closed 125 (Braced inner) (left is_braced_byte (cs ++ 125 ∷ rest))) front ∙ ap (λ end. closed 125 (Braced cs) end) behind)
 token_again (operator o) rest fine ends = operator_again o rest
-
-pub token_fine : (text : List ℕ) (t : Token) (behind : List ℕ) → token_at text ≡ Some (t, behind) → is_token t ≡ true
-token_fine text t behind e = (token_takes text (t, behind) e).fine

@@ -7,7 +7,9 @@ ghost use Rattle.regex_reader.specs.Reading.{is_level, leaf_at, operand_at, pair
 
 use crate::bytes::is_number;
 use crate::leaf::{is_leaf, leaf_expr};
-use crate::token::{Leaf, Operator, Token, after, begins_operand, begins_suffix, split_leaf, split_run};
+use crate::token::{
+    Leaf, Operator, Token, after, begins_operand, begins_suffix, split_leaf, split_run,
+};
 use fsm_base::Text;
 use regex_ast::{Expr, Link, Raw, Suffix};
 use std::alloc::{AllocError, Global};

@@ -192,8 +192,6 @@ pub fn begins_suffix(tokens: &[Token]) -> bool
 {
     matches!(
         tokens.first(),
-        Some(Token::Operator(
-            Operator::Star | Operator::Plus | Operator::Caret
-        ))
+        Some(Token::Operator(Operator::Star | Operator::Plus | Operator::Caret))
     )
 }
