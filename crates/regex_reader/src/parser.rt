@@ -17,8 +17,8 @@ use std::alloc::{AllocError, Global};
 /// An expression and the tokens behind it.
 pub type Read<'a> = Option<(Expr<Raw>, &'a [Token])>;
 
-/// Reads an expression at the front of the tokens where `name` is defined, at whose tokens at most `depth` - 1
-/// pairs of brackets are open; `None` where there is none.
+/// Reads an expression at the front of the tokens, where `name` is defined. Fewer than `depth` brackets may be open
+/// round each of its tokens. `None` where there is none.
 #[cycle(parser)]
 fn expression<'a>(
     alloc: Global,
@@ -34,8 +34,8 @@ fn expression<'a>(
     chain(alloc, name, tokens, depth - 1)
 }
 
-/// Reads a row of `|` with operands of the tighter levels, inside of which at most `depth` pairs of brackets are
-/// open; the tokens are those at the front.
+/// Reads an expression at the front of the tokens, a row of `|`, where `name` is defined. At most `depth` brackets
+/// may be open round each of its tokens. `None` where there is none.
 #[cycle(parser)]
 pub fn chain<'a>(
     alloc: Global,
