@@ -15,7 +15,7 @@ use Rattle.regex_ast.specs.declared.expr.Define.{Define}
 use Rattle.regex_ast.specs.declared.expr.Raw.TheVariants.{Run as run_symbol, Quoted as quoted_symbol}
 use Rattle.regex_reader.specs.Bytes.{is_blank, is_printable, is_run_byte, is_quoted_byte, is_braced_byte}
 use Rattle.regex_reader.specs.Rows.{Row, put_more, put_row}
-use Rattle.regex_reader.specs.Form.{Statement, ReadsAs, Placed, IsPlaced, statement_of, byte_of, spelling, is_token, text_of, Operand, Primary, single, blank, grouped, optional, Crossed, alone, pair, Ending, star, plus, power, Suffixed, Concatenated, Linked, or_else, Chained, Expression, most_open, put_operand, put_primary, put_crossed, put_ending, put_suffixed, put_concat, put_linked, put_chain, put_expression, statement_tokens, leaf_term, operand_term, primary_term, crossed_term, suffix_of, with_suffixes, suffixed_term, terms_of, side_by_side, concat_term, LinkTerm, or_term, and_term, less_term, linked_value, links_of, with_links, chain_term, expression_term}
+use Rattle.regex_reader.specs.Form.{Statement, ReadsAs, Placed, IsPlaced, statement_of, byte_of, spelling, is_token, text_of, Operand, Primary, single, blank, grouped, optional, Crossed, alone, pair, SuffixForm, star, plus, power, Suffixed, Concatenated, Linked, or_else, Chained, Expression, most_open, put_operand, put_primary, put_crossed, put_suffix, put_suffixed, put_concat, put_linked, put_chain, put_expression, statement_tokens, leaf_term, operand_term, primary_term, crossed_term, suffix_of, with_suffixes, suffixed_term, terms_of, side_by_side, concat_term, LinkTerm, or_term, and_term, less_term, linked_value, links_of, with_links, chain_term, expression_term}
 use Rattle.regex_reader.specs.declared.token.Leaf.{Leaf}
 use Rattle.regex_reader.specs.declared.token.Leaf.TheVariants.{Run, Quoted, Braced}
 use Rattle.regex_reader.specs.declared.token.Operator.{Operator}
@@ -53,12 +53,12 @@ crossed_built name says h (alone (grouped e)) = h e
 crossed_built name says h (alone (optional e)) = h e
 crossed_built name says h (pair a b) = (leaf_plain a.leaf, leaf_plain b.leaf)
 
-suffix_repeats : (s : Ending) → IsRepeating (suffix_of s)
+suffix_repeats : (s : SuffixForm) → IsRepeating (suffix_of s)
 suffix_repeats star = tt
 suffix_repeats plus = tt
 suffix_repeats (power n) = tt
 
-suffixes_repeat : (ss : List Ending) → All IsRepeating (map suffix_of ss)
+suffixes_repeat : (ss : List SuffixForm) → All IsRepeating (map suffix_of ss)
 suffixes_repeat [] = All-nil IsRepeating
 suffixes_repeat (s ∷ ss) = All-cons IsRepeating (suffix_of s) (map suffix_of ss) (suffix_repeats s) (suffixes_repeat ss)
 
@@ -204,15 +204,15 @@ crossed_fits name put says h (pair a b) rest fine =
     let two = few_both (symbols_in (operand_term a)) (symbols_in (operand_term b)) (length (spelling (leaf a.leaf))) (length (spelling (leaf b.leaf))) (few_leaf a.leaf fine.0) (few_leaf b.leaf fine.1.1.0) in
     record { cost = length (spelling (leaf a.leaf)) + length (spelling (leaf b.leaf)) + 1; few = (two.0, omega (arith, two.1)); sizes = omega arith; behind = fine.1.1.1 }
 
-ending_fits : EachFits put_ending (λ s. [])
-ending_fits star rest fine = record { cost = 1; few = few_none 1; sizes = refl; behind = fine.1 }
-ending_fits plus rest fine = record { cost = 1; few = few_none 1; sizes = refl; behind = fine.1 }
-ending_fits (power n) rest fine = record { cost = length n.digits + 1; few = few_none (length n.digits + 1); sizes = sized n.digits fine.1.0; behind = fine.1.1 }
+suffix_fits : EachFits put_suffix (λ s. [])
+suffix_fits star rest fine = record { cost = 1; few = few_none 1; sizes = refl; behind = fine.1 }
+suffix_fits plus rest fine = record { cost = 1; few = few_none 1; sizes = refl; behind = fine.1 }
+suffix_fits (power n) rest fine = record { cost = length n.digits + 1; few = few_none (length n.digits + 1); sizes = sized n.digits fine.1.0; behind = fine.1.1 }
   where
     sized : (digits : List ℕ) → IsTrue (is_token (leaf (Run digits))) → size (operator Caret ∷ leaf (Run digits) ∷ rest) ≡ length digits + 1 + size rest
     sized digits h = omega arith
 
-no_symbols : (ss : List Ending) → each (λ (s : Ending). []) ss ≡ []
+no_symbols : (ss : List SuffixForm) → each (λ (s : SuffixForm). []) ss ≡ []
 no_symbols [] = refl
 no_symbols (s ∷ ss) = no_symbols ss
 
@@ -221,9 +221,9 @@ suffixes_symbols t [] = refl
 suffixes_symbols t (s ∷ ss) = refl
 
 suffixed_fits : {E : Type 0} (name : List ℕ) (put : E → List Token → List Token) (says : E → Term Raw) → EachFits put (λ e. symbols_in (says e)) → EachFits (put_suffixed {name = name} put) (λ row. symbols_in (suffixed_term says row))
-suffixed_fits {E} name put says h = fits_as (put_suffixed {name = name} put) _ _ (row_fits (put_crossed {name = name} put) put_ending (λ c. symbols_in (crossed_term says c)) (λ s. []) (crossed_fits name put says h) ending_fits) same
+suffixed_fits {E} name put says h = fits_as (put_suffixed {name = name} put) _ _ (row_fits (put_crossed {name = name} put) put_suffix (λ c. symbols_in (crossed_term says c)) (λ s. []) (crossed_fits name put says h) suffix_fits) same
   where
-    same : (row : Suffixed name E) → symbols_in (crossed_term says row.first) ++ each (λ (s : Ending). []) row.more ≡ symbols_in (suffixed_term says row)
+    same : (row : Suffixed name E) → symbols_in (crossed_term says row.first) ++ each (λ (s : SuffixForm). []) row.more ≡ symbols_in (suffixed_term says row)
     same row = ap (λ more. symbols_in (crossed_term says row.first) ++ more) (no_symbols row.more) ∙ append-nil (symbols_in (crossed_term says row.first)) ∙ suffixes_symbols (crossed_term says row.first) (map suffix_of row.more)
 
 terms_symbols : {A : Type 0} (says : A → Term Raw) (items : List A) → each (λ a. symbols_in (says a)) items ≡ symbols_in_each (terms_of (map says items))

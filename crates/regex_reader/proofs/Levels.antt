@@ -12,7 +12,7 @@ use Rattle.regex_ast.specs.declared.expr.Suffix.{Suffix}
 use Rattle.regex_ast.specs.declared.expr.Suffix.TheVariants.{Star as any_number, Plus as one_or_more, Power as times}
 use Rattle.regex_reader.specs.Bytes.{begins, is_digit, is_number, number_of}
 use Rattle.regex_reader.specs.Rows.{Row, Reader}
-use Rattle.regex_reader.specs.Form.{byte_of, IsLeaf, Operand, Primary, single, blank, grouped, optional, Crossed, alone, pair, Times, Ending, star, plus, power, Suffixed, Concatenated, Linked, or_else, Chained, Expression, put_operand, put_primary, put_crossed, put_ending, put_suffixed, put_concat, put_linked, put_chain, put_expression, leaf_term, operand_term, primary_term, crossed_term, suffix_of, with_suffixes, suffixed_term, side_by_side, concat_term, LinkTerm, or_term, linked_value, with_links, chain_term, expression_term}
+use Rattle.regex_reader.specs.Form.{byte_of, IsLeaf, Operand, Primary, single, blank, grouped, optional, Crossed, alone, pair, Times, SuffixForm, star, plus, power, Suffixed, Concatenated, Linked, or_else, Chained, Expression, put_operand, put_primary, put_crossed, put_suffix, put_suffixed, put_concat, put_linked, put_chain, put_expression, leaf_term, operand_term, primary_term, crossed_term, suffix_of, with_suffixes, suffixed_term, side_by_side, concat_term, LinkTerm, or_term, linked_value, with_links, chain_term, expression_term}
 use Rattle.regex_reader.specs.Reading.{operator_of, level, is_level, is_operator, after, leaf_of, run_of, run_before, leaf_before, is_leaf, leaf_at, operand_at, lower_at, pair_at, bracket_at, square_by, square_at, crossed_at, power_of, power_at, suffix_at, suffixed_at, concat_at, link_at, chain_at, expression_at}
 use Rattle.regex_reader.specs.declared.token.Leaf.{Leaf}
 use Rattle.regex_reader.specs.declared.token.Leaf.TheVariants.{Run, Quoted, Braced}
@@ -282,7 +282,7 @@ crossed_exact name put says inner h = record {
 small : (n : ℕ) → Decides (nat_le n 255) (n ≤ 255)
 small n = ((λ e. grind (arith, nat_tests)), (λ h. grind (arith, nat_tests)))
 
-power_takes : (tokens : List Token) (x : Suffix × List Token) → power_at tokens ≡ Some x → Found put_ending suffix_of (operator Caret ∷ tokens) x
+power_takes : (tokens : List Token) (x : Suffix × List Token) → power_at tokens ≡ Some x → Found put_suffix suffix_of (operator Caret ∷ tokens) x
 power_takes tokens x e = then_some _ (run_before tokens) x e (λ y first more. map_some _ (power_of y.0) x more (λ s found same.
     if_cases (is_number y.0 && nat_le (number_of y.0) 255) _ _ _ found
     (λ is some. (
@@ -292,13 +292,13 @@ power_takes tokens x e = then_some _ (run_before tokens) x e (λ y first more. m
     ))
     (λ _ none. absurd cc)))
 
-operator_only : (o : Operator) (ending : Ending) (s : Suffix) (rest : List Token) (x : Suffix × List Token) → ((us : List Token) → put_ending ending us ≡ operator o ∷ us) → suffix_of ending ≡ s → Some (s, rest) ≡ Some x → Found put_ending suffix_of (operator o ∷ rest) x
-operator_only o ending s rest x spelled value e =
+operator_only : (o : Operator) (form : SuffixForm) (s : Suffix) (rest : List Token) (x : Suffix × List Token) → ((us : List Token) → put_suffix form us ≡ operator o ∷ us) → suffix_of form ≡ s → Some (s, rest) ≡ Some x → Found put_suffix suffix_of (operator o ∷ rest) x
+operator_only o form s rest x spelled value e =
     let here : Suffix × List Token = (s, rest) in
     let same : here ≡ x = same_some here x e in
-    (ending, ap (λ (z : Suffix × List Token). operator o ∷ z.1) same ∙ sym (spelled x.1), value ∙ ap (λ (z : Suffix × List Token). z.0) same)
+    (form, ap (λ (z : Suffix × List Token). operator o ∷ z.1) same ∙ sym (spelled x.1), value ∙ ap (λ (z : Suffix × List Token). z.0) same)
 
-suffix_takes : (tokens : List Token) (x : Suffix × List Token) → suffix_at tokens ≡ Some x → Found put_ending suffix_of tokens x
+suffix_takes : (tokens : List Token) (x : Suffix × List Token) → suffix_at tokens ≡ Some x → Found put_suffix suffix_of tokens x
 suffix_takes [] x e = absurd cc
 suffix_takes (leaf a ∷ rest) x e = absurd cc
 suffix_takes (operator Star ∷ rest) x e = operator_only Star star any_number rest x (λ us. refl) refl e
@@ -312,23 +312,23 @@ suffix_takes (operator OpenRound ∷ rest) x e = absurd cc
 suffix_takes (operator CloseRound ∷ rest) x e = absurd cc
 suffix_takes (operator Bar ∷ rest) x e = absurd cc
 
-suffix_again : (s : Ending) (rest : List Token) → suffix_at (put_ending s rest) ≡ Some (suffix_of s, rest)
+suffix_again : (s : SuffixForm) (rest : List Token) → suffix_at (put_suffix s rest) ≡ Some (suffix_of s, rest)
 suffix_again star rest = refl
 suffix_again plus rest = refl
 suffix_again (power n) rest =
     ap (λ b. option_map (λ (s : Suffix). (s, rest)) (cond b (Some (times (number_of n.digits))) None)) (and_true _ _ n.decimal ((small (number_of n.digits)).1 n.small))
 
-suffix_begun : (s : Ending) (rest : List Token) → begins (is_level 4) (put_ending s rest) ≡ true
+suffix_begun : (s : SuffixForm) (rest : List Token) → begins (is_level 4) (put_suffix s rest) ≡ true
 suffix_begun star rest = refl
 suffix_begun plus rest = refl
 suffix_begun (power n) rest = refl
 
-suffix_grows : (s : Ending) (rest : List Token) → length rest < length (put_ending s rest)
+suffix_grows : (s : SuffixForm) (rest : List Token) → length rest < length (put_suffix s rest)
 suffix_grows star rest = omega arith
 suffix_grows plus rest = omega arith
 suffix_grows (power n) rest = omega arith
 
-pub suffix_exact : Exact suffix_at put_ending suffix_of (is_level 4) (goes_on 0)
+pub suffix_exact : Exact suffix_at put_suffix suffix_of (is_level 4) (goes_on 0)
 suffix_exact = record { takes = suffix_takes; again = λ s rest _. suffix_again s rest; begun = suffix_begun; grows = suffix_grows }
 
 pub suffixed_exact : {E : Type 0} (name : List ℕ) (put : E → List Token → List Token) (says : E → Term Raw) (inner : Reader Token (Term Raw)) → Exact inner put says (is_level 7) (goes_on 8) → Exact (suffixed_at name inner) (put_suffixed {name = name} put) (suffixed_term says) (is_level 7) (goes_on 4)

@@ -100,6 +100,7 @@ IsLeaf name (Run cs) = IsTrue (bytes_eq cs (codes "0") || list_all (λ c. not (i
 IsLeaf name (Quoted cs) = (IsFlag cs → ⊥) × (IsNegativeFlag cs → ⊥)
 IsLeaf name (Braced cs) = ⊤
 
+-- such a leaf, as an operand
 pub record Operand (name : List ℕ) : Type 0 where
   pub leaf : Leaf
   pub stands : IsLeaf name leaf
@@ -111,7 +112,7 @@ pub data Primary (name : List ℕ) (E : Type 0) : Type 0 where
   grouped : E → Primary name E
   optional : E → Primary name E
 
--- level 3
+-- level 3, at most one `:`
 pub data Crossed (name : List ℕ) (E : Type 0) : Type 0 where
   alone : Primary name E → Crossed name E
   pair : Operand name → Operand name → Crossed name E
@@ -122,20 +123,20 @@ pub record Times : Type 0 where
   pub decimal : IsTrue (is_number digits)
   pub small : number_of digits ≤ 255
 
--- level 4
-pub data Ending : Type 0 where
-  star : Ending
-  plus : Ending
-  power : Times → Ending
+-- level 4: one suffix, and an operand with its suffixes
+pub data SuffixForm : Type 0 where
+  star : SuffixForm
+  plus : SuffixForm
+  power : Times → SuffixForm
 
 abbrev pub Suffixed : List ℕ → Type 0 → Type 0
-Suffixed name E = Row (Crossed name E) Ending
+Suffixed name E = Row (Crossed name E) SuffixForm
 
--- level 7
+-- level 7: operands side by side
 abbrev pub Concatenated : List ℕ → Type 0 → Type 0
 Concatenated name E = Row (Suffixed name E) (Suffixed name E)
 
--- level 8
+-- level 8: an operand with the operator before it, and a row of them
 pub data Linked (C : Type 0) : Type 0 where
   or_else : C → Linked C
 
@@ -166,13 +167,13 @@ abbrev pub put_crossed : {name : List ℕ} {E : Type 0} → (E → List Token �
 put_crossed put (alone p) rest = put_primary put p rest
 put_crossed put (pair a b) rest = put_operand a (operator Colon ∷ put_operand b rest)
 
-abbrev pub put_ending : Ending → List Token → List Token
-put_ending star rest = operator Star ∷ rest
-put_ending plus rest = operator Plus ∷ rest
-put_ending (power n) rest = operator Caret ∷ leaf (Run n.digits) ∷ rest
+abbrev pub put_suffix : SuffixForm → List Token → List Token
+put_suffix star rest = operator Star ∷ rest
+put_suffix plus rest = operator Plus ∷ rest
+put_suffix (power n) rest = operator Caret ∷ leaf (Run n.digits) ∷ rest
 
 abbrev pub put_suffixed : {name : List ℕ} {E : Type 0} → (E → List Token → List Token) → Suffixed name E → List Token → List Token
-put_suffixed put row rest = put_row (put_crossed put) put_ending row rest
+put_suffixed put row rest = put_row (put_crossed put) put_suffix row rest
 
 abbrev pub put_concat : {name : List ℕ} {E : Type 0} → (E → List Token → List Token) → Concatenated name E → List Token → List Token
 put_concat put row rest = put_row (put_suffixed put) (put_suffixed put) row rest
@@ -213,7 +214,7 @@ abbrev pub crossed_term : {name : List ℕ} {E : Type 0} → (E → Term Raw) �
 crossed_term says (alone p) = primary_term says p
 crossed_term says (pair a b) = cross (operand_term a) (operand_term b)
 
-abbrev pub suffix_of : Ending → Suffix
+abbrev pub suffix_of : SuffixForm → Suffix
 suffix_of star = any_number
 suffix_of plus = one_or_more
 suffix_of (power n) = times (number_of n.digits)
