@@ -1,5 +1,5 @@
 -- Readers that read what is written, and nothing else. Nothing here knows what a token is.
-use Rattle.std.proofs.Common.{◌≡◌, ℕ, zero, suc, ◌<◌, ◌≤◌, Bool, true, false, cond, Option, Some, None, List, [], ◌∷◌, length, map, refl, sym, ap, ◌∙◌, arith}
+use Rattle.std.proofs.Common.{◌≡◌, ℕ, zero, suc, ◌<◌, ◌≤◌, Bool, true, false, cond, Some, List, [], ◌∷◌, length, map, refl, ap, ◌∙◌, arith}
 use Rattle.std.specs.Option.{option_map, option_and_then}
 use Rattle.regex_reader.specs.Bytes.{begins}
 use Rattle.regex_reader.specs.Rows.{Row, put_more, put_row, row_value, Reader, many, row_at}

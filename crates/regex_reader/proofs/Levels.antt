@@ -1,7 +1,6 @@
 -- Each level of the grammar is read exactly.
-use Rattle.std.proofs.Common.{◌≡◌, ℕ, zero, suc, ◌<◌, ◌≤◌, ◌==◌, ◌&&◌, nat_le, Bool, true, false, cond, Option, Some, None, List, [], ◌∷◌, length, refl, sym, ap, subst, ◌∙◌, arith}
+use Rattle.std.proofs.Common.{◌≡◌, ℕ, zero, suc, ◌<◌, ◌≤◌, ◌==◌, ◌&&◌, nat_le, Bool, true, false, cond, Some, None, List, [], ◌∷◌, length, refl, sym, ap, ◌∙◌, arith}
 use Rattle.std.specs.Bool.{Decides}
-use Rattle.std.specs.List.{list_all}
 use Rattle.std.specs.Option.{option_map, option_and_then}
 use Rattle.std.proofs.lemmas.Bool.Decides.{Decides-and, Decides-not, Decides-eqb, nat_tests}
 use Rattle.std.proofs.lemmas.Slice.Eq.{bytes_eq-Decides}
@@ -10,9 +9,9 @@ use Rattle.regex_ast.specs.Terms.{Term, empty, group, maybe, cross}
 use Rattle.regex_ast.specs.declared.expr.Raw.{Raw}
 use Rattle.regex_ast.specs.declared.expr.Suffix.{Suffix}
 use Rattle.regex_ast.specs.declared.expr.Suffix.TheVariants.{Star as any_number, Plus as one_or_more, Power as times}
-use Rattle.regex_reader.specs.Bytes.{begins, is_digit, is_number, number_of}
-use Rattle.regex_reader.specs.Rows.{Row, Reader}
-use Rattle.regex_reader.specs.Form.{byte_of, IsLeaf, Operand, Primary, single, blank, grouped, optional, Crossed, alone, pair, Times, SuffixForm, star, plus, power, Suffixed, Concatenated, Linked, or_else, Chained, Expression, put_operand, put_primary, put_crossed, put_suffix, put_suffixed, put_concat, put_linked, put_chain, put_expression, leaf_term, operand_term, primary_term, crossed_term, suffix_of, with_suffixes, suffixed_term, side_by_side, concat_term, LinkTerm, or_term, linked_value, with_links, chain_term, expression_term}
+use Rattle.regex_reader.specs.Bytes.{begins, is_number, number_of}
+use Rattle.regex_reader.specs.Rows.{Reader}
+use Rattle.regex_reader.specs.Form.{byte_of, IsLeaf, Operand, single, blank, grouped, optional, Crossed, alone, pair, SuffixForm, star, plus, power, Linked, or_else, put_operand, put_crossed, put_suffix, put_suffixed, put_concat, put_linked, put_chain, put_expression, leaf_term, operand_term, crossed_term, suffix_of, with_suffixes, suffixed_term, side_by_side, concat_term, LinkTerm, or_term, linked_value, with_links, chain_term, expression_term}
 use Rattle.regex_reader.specs.Reading.{operator_of, level, is_level, is_operator, after, leaf_of, run_of, run_before, leaf_before, is_leaf, leaf_at, operand_at, lower_at, pair_at, bracket_at, square_by, square_at, crossed_at, power_of, power_at, suffix_at, suffixed_at, concat_at, link_at, chain_at, expression_at}
 use Rattle.regex_reader.specs.declared.token.Leaf.{Leaf}
 use Rattle.regex_reader.specs.declared.token.Leaf.TheVariants.{Run, Quoted, Braced}
@@ -22,7 +21,7 @@ use Rattle.regex_reader.specs.declared.token.Token.{Token}
 use Rattle.regex_reader.specs.declared.token.Token.TheVariants.{Leaf as leaf, Operator as operator}
 use Rattle.regex_reader.proofs.Lists.{and_left, and_right, and_true}
 use Rattle.regex_reader.proofs.Cases.{if_cases, map_some, then_some, same_some, either_way}
-use Rattle.regex_reader.proofs.Exact.{Exact, Follow, row_exact, exact_shorter}
+use Rattle.regex_reader.proofs.Exact.{Exact, Follow, row_exact}
 use Rattle.regex_reader.proofs.Flags.{no_flag}
 
 -- a token at which a row of this level or of a tighter one goes on

@@ -1,18 +1,16 @@
 -- The functions of the parser, each as its level is read.
-use Rattle.std.proofs.Common.{◌≡◌, ℕ, zero, suc, ◌<◌, ◌-◌, Bool, true, false, cond, Option, Some, None, List, [], ◌∷◌, ◌++◌, length, refl, sym, ap, ◌∙◌, arith}
+use Rattle.std.proofs.Common.{◌≡◌, ℕ, zero, suc, ◌-◌, true, false, cond, Option, Some, None, List, [], ◌∷◌, refl, sym, ap, ◌∙◌, arith}
 use Rattle.std.specs.Option.{option_map, option_and_then}
 use Rattle.regex_ast.specs.Terms.{Term}
 use Rattle.regex_ast.specs.declared.expr.Raw.{Raw}
 use Rattle.regex_reader.specs.Bytes.{begins}
-use Rattle.regex_reader.specs.Rows.{many}
-use Rattle.regex_reader.specs.Form.{Suffixed, Concatenated, Linked, Expression, most_open, put_suffixed, put_concat, put_linked, put_expression, suffixed_term, concat_term, LinkTerm, or_term, linked_value, expression_term}
+use Rattle.regex_reader.specs.Form.{most_open, put_suffixed, put_concat, put_linked, put_expression, suffixed_term, concat_term, or_term, linked_value, expression_term}
 use Rattle.regex_reader.specs.Reading.{is_level, after, suffixed_at, concat_at, link_at, chain_at, expression_at, ends, whole_at}
 use Rattle.regex_reader.specs.declared.token.Operator.TheVariants.{Colon, Semicolon, OpenSquare, CloseSquare, OpenRound, CloseRound, Bar, Star, Plus, Caret}
 use Rattle.regex_reader.specs.declared.token.Token.{Token}
 use Rattle.regex_reader.specs.declared.token.Token.TheVariants.{Leaf as leaf, Operator as operator}
-use Rattle.regex_reader.proofs.Exact.{Exact, exact_shorter}
+use Rattle.regex_reader.proofs.Exact.{Exact}
 use Rattle.regex_reader.proofs.Levels.{goes_on, after_takes, suffixed_exact, concat_exact, link_exact, expression_exact}
-use Rattle.regex_reader.proofs.Loops.{ManySoFar, item_found, many_ends, many_fails}
 
 -- Brackets.
 

@@ -1,11 +1,11 @@
 -- The terms of a row of expressions, from the items of the `Vec` that holds them.
-use Rattle.std.proofs.Common.{◌≡◌, ◌==◌, true, false, List, [], ◌∷◌, length, map, Vec, vec_len, Box, Global, refl, sym, ap, ◌∙◌, arith}
+use Rattle.std.proofs.Common.{◌≡◌, ◌==◌, true, false, List, [], ◌∷◌, length, map, Vec, vec_len, Box, Global, refl, ap, ◌∙◌, arith}
 use Rattle.std.proofs.lemmas.Bool.Decides.{Decides-eqb}
 use Rattle.regex_ast.specs.Terms.{Term, term, terms, then_term, concat, links, or, and, less, chain, empty}
 use Rattle.regex_ast.specs.declared.expr.Expr.{Expr, Concat, Concat', Row_of-Expr, items_hidden-the_row-Expr-0, end_of-Expr, more_of-Expr, items-the_row-Expr, Chain, Chain', Row_of-Link, items_hidden-the_row-Link-1, end_of-Link, more_of-Link, items-the_row-Link}
 use Rattle.regex_ast.specs.declared.expr.Link.{Link, Or, And, Less}
 use Rattle.regex_ast.specs.declared.expr.Raw.{Raw}
-use Rattle.regex_reader.specs.Form.{terms_of, LinkTerm, links_of, side_by_side, with_links}
+use Rattle.regex_reader.specs.Form.{terms_of, links_of, side_by_side, with_links}
 use Rattle.regex_reader.specs.Reading.{link_value}
 
 -- by the list of the row's items

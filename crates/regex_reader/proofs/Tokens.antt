@@ -1,7 +1,6 @@
 -- The tokens of a text, as they are read and as the form spells them.
-use Rattle.std.proofs.Common.{◌≡◌, ℕ, ◌==◌, Bool, true, false, not, cond, Option, Some, None, List, [], ◌∷◌, ◌++◌, refl, sym, ap, subst, ◌∙◌, append_assoc}
+use Rattle.std.proofs.Common.{◌≡◌, ℕ, ◌==◌, Bool, true, false, not, Some, None, List, [], ◌∷◌, ◌++◌, refl, sym, ap, subst, ◌∙◌, append_assoc}
 use Rattle.std.specs.List.{list_all}
-use Rattle.std.specs.Option.{option_map, option_and_then}
 use Rattle.std.proofs.lemmas.Bool.Decides.{Decides-eqb}
 use Rattle.regex_reader.specs.Bytes.{begins, is_printable, is_blank, is_run_byte, is_quoted_byte, is_braced_byte}
 use Rattle.regex_reader.specs.Form.{byte_of, spelling, is_token, is_run}
@@ -13,7 +12,7 @@ use Rattle.regex_reader.specs.declared.token.Operator.TheVariants.{Colon, Semico
 use Rattle.regex_reader.specs.declared.token.Token.{Token}
 use Rattle.regex_reader.specs.declared.token.Token.TheVariants.{Leaf as leaf, Operator as operator}
 use Rattle.regex_reader.proofs.Lists.{and_left, and_right, false_by, list_all_weaker, taken-left, list_all-taken, begins-left, taken-front, left-front}
-use Rattle.regex_reader.proofs.Cases.{if_cases, map_some, then_some, same_some, either_way}
+use Rattle.regex_reader.proofs.Cases.{if_cases, map_some, same_some, either_way}
 
 -- Bytes.
 

@@ -1,5 +1,5 @@
 -- The reader reads exactly the texts of the form.
-use Rattle.std.proofs.Common.{◌≡◌, ℕ, zero, suc, ◌≤◌, ◌+◌, ◌==◌, nat_le, Bool, true, false, cond, Option, Some, None, List, [], ◌∷◌, ◌++◌, length, map, refl, sym, ap, subst, ◌∙◌, arith}
+use Rattle.std.proofs.Common.{◌≡◌, ℕ, suc, ◌≤◌, ◌+◌, nat_le, true, false, cond, Option, Some, None, List, [], ◌∷◌, ◌++◌, length, map, refl, sym, ap, subst, ◌∙◌, arith}
 use Rattle.std.specs.Prelude.{codes}
 use Rattle.std.specs.Option.{option_map, option_and_then}
 use Rattle.std.specs.Str.{bytes_eq}
@@ -8,7 +8,7 @@ use Rattle.std.proofs.lemmas.Slice.Eq.{bytes_eq-Decides}
 use Rattle.regex_ast.specs.Terms.{Term}
 use Rattle.regex_ast.specs.declared.expr.Raw.{Raw}
 use Rattle.regex_reader.specs.Bytes.{begins, is_blank, is_name}
-use Rattle.regex_reader.specs.Form.{Statement, text_of, Expression, most_open, put_chain, put_expression, statement_tokens, chain_term, expression_term, newlines, ReadsAs}
+use Rattle.regex_reader.specs.Form.{Statement, text_of, Expression, most_open, put_expression, statement_tokens, expression_term, newlines, ReadsAs}
 use Rattle.regex_reader.specs.Reading.{taken, left, tokens_of, run_before, chain_at, expression_at, ends, whole_at, definition_at, statement_at, read}
 use Rattle.regex_reader.specs.declared.token.Leaf.TheVariants.{Run}
 use Rattle.regex_reader.specs.declared.token.Operator.TheVariants.{Colon, Semicolon, OpenSquare, CloseSquare, OpenRound, CloseRound, Bar, Star, Plus, Caret}
@@ -16,8 +16,7 @@ use Rattle.regex_reader.specs.declared.token.Token.{Token}
 use Rattle.regex_reader.specs.declared.token.Token.TheVariants.{Leaf as leaf, Operator as operator}
 use Rattle.regex_reader.proofs.Lists.{taken-left, list_all-taken, taken-front, left-front}
 use Rattle.regex_reader.proofs.Cases.{if_cases, map_some, then_some, same_some}
-use Rattle.regex_reader.proofs.Exact.{Exact}
-use Rattle.regex_reader.proofs.Levels.{goes_on, run_before_takes, chain_exact, expression_exact}
+use Rattle.regex_reader.proofs.Levels.{run_before_takes, chain_exact, expression_exact}
 use Rattle.regex_reader.proofs.Texts.{TextOf, tokens_take, tokens_again, text_begins_no_blank}
 
 -- Statements.

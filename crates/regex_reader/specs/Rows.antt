@@ -1,5 +1,5 @@
 -- Rows, an item and what follows it, written as tokens and read from them. Nothing here knows what a token is.
-use Rattle.std.specs.Prelude.{ℕ, zero, suc, Bool, List, [], ◌∷◌, length, map, if◌then◌else◌, Option, Some, None}
+use Rattle.std.specs.Prelude.{ℕ, zero, suc, Bool, List, [], ◌∷◌, length, map, if◌then◌else◌, Option, Some}
 use Rattle.std.specs.Option.{option_map, option_and_then}
 use Rattle.regex_reader.specs.Bytes.{begins}
 

@@ -1,4 +1,3 @@
-use Rattle.std.proofs.Common.{refl}
 use Rattle.regex_reader.specs.Bytes.{is_braced_byte}
 use Rattle.regex_reader.proofs.Lists.{list_all-taken}
 use Rattle.regex_reader.proofs.lexer.braced.Goals as goal

@@ -1,4 +1,3 @@
-use Rattle.std.proofs.Common.{length, ap}
 use Rattle.regex_reader.proofs.Rows.{term-row, not_none}
 use Rattle.regex_reader.proofs.parser.side_by_side.Goals as goal
 

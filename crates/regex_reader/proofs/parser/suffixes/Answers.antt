@@ -1,7 +1,6 @@
-use Rattle.std.proofs.Common.{◌≡◌, true, None, Some, length, sym, rules}
+use Rattle.std.proofs.Common.{◌≡◌, true, Some, rules}
 use Rattle.regex_reader.specs.Bytes.{begins}
 use Rattle.regex_reader.specs.Reading.{is_level, suffix_at}
-use Rattle.regex_reader.proofs.Exact.{exact_shorter}
 use Rattle.regex_reader.proofs.Levels.{suffix_exact}
 use Rattle.regex_reader.proofs.Loops.{item_found}
 use Rattle.regex_reader.proofs.parser.suffixes.Goals as goal

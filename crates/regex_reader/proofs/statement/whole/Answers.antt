@@ -1,4 +1,4 @@
-use Rattle.std.proofs.Common.{◌≡◌, true, false, None, Some, sym, rules}
+use Rattle.std.proofs.Common.{◌≡◌, true, false, None, Some, rules}
 use Rattle.regex_ast.specs.Terms.{term}
 use Rattle.regex_reader.specs.Reading.{chain_at, expression_at, ends}
 use Rattle.regex_reader.proofs.Parsing.{whole_none, whole_open, whole_found}

@@ -1,4 +1,4 @@
-use Rattle.std.proofs.Common.{◌≡◌, [], ◌∷◌, map, None, Some, refl, rules}
+use Rattle.std.proofs.Common.{◌≡◌, [], ◌∷◌, map, None, Some, refl}
 use Rattle.std.specs.Option.{option_map}
 use Rattle.regex_reader.specs.Form.{Statement, statement_of}
 use Rattle.regex_reader.specs.Reading.{read}
