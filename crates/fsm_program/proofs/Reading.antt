@@ -1,5 +1,5 @@
--- What a plain definition's text gives: a plain expression of few symbols, and the text is ASCII.
-use Rattle.std.proofs.Common.{◌≡◌, ℕ, ◌+◌, ◌<◌, ◌≤◌, Bool, true, false, cond, List, [], ◌∷◌, ◌++◌, length, map, take, Some, None, refl, sym, ap, subst, ◌∙◌, inl, inr, arith, All, IsTrue, get_or, length-append, append-nil, suc, codes, slice_get}
+-- What a text of the form gives: an expression whose network is built, of few symbols, and the text is ASCII.
+use Rattle.std.proofs.Common.{◌≡◌, ℕ, zero, suc, ◌+◌, ◌<◌, ◌≤◌, Bool, true, false, cond, List, [], ◌∷◌, ◌++◌, length, map, take, Some, None, refl, sym, ap, subst, ◌∙◌, inl, inr, arith, All, IsTrue, get_or, length-append, append-nil, append_assoc, codes, slice_get}
 use Rattle.std.proofs.lemmas.Bool.Decides.{nat_tests}
 use Rattle.std.proofs.lemmas.Bool.{cases_lt}
 use Rattle.std.proofs.lemmas.List.{get_or_past, take_all, length-take}
@@ -9,20 +9,25 @@ use Rattle.std.specs.List.{list_all}
 use Rattle.std.specs.Str.{IsUtf8, bytes_eq}
 use Rattle.fsm_base.specs.Symbols.{IsSymbol}
 use Rattle.regex_ast.specs.Terms.{Term, empty, atom, letters, cross}
+use Rattle.regex_ast.specs.declared.expr.Suffix.{Suffix}
 use Rattle.regex_ast.specs.declared.expr.Raw.{Raw}
 use Rattle.regex_ast.specs.declared.expr.Define.{Define}
 use Rattle.regex_ast.specs.declared.expr.Raw.TheVariants.{Run as run_symbol, Quoted as quoted_symbol}
 use Rattle.regex_reader.specs.Bytes.{is_blank, is_printable, is_run_byte, is_quoted_byte, is_braced_byte}
-use Rattle.regex_reader.specs.Form.{Statement, ReadsAs, Placed, IsPlaced, statement_of, Part, single, pair, spelling, is_token, text_of, parts_then, statement_tokens, leaf_term, part_term, row_term, terms_of}
+use Rattle.regex_reader.specs.Rows.{Row, put_more, put_row}
+use Rattle.regex_reader.specs.Form.{Statement, ReadsAs, Placed, IsPlaced, statement_of, byte_of, spelling, is_token, text_of, Operand, Primary, single, blank, grouped, optional, Crossed, alone, pair, SuffixForm, star, plus, power, Suffixed, Concatenated, Linked, or_else, Chained, Expression, most_open, put_operand, put_primary, put_crossed, put_suffix, put_suffixed, put_concat, put_linked, put_chain, put_expression, statement_tokens, leaf_term, operand_term, primary_term, crossed_term, suffix_of, with_suffixes, suffixed_term, terms_of, side_by_side, concat_term, LinkTerm, or_term, and_term, less_term, linked_value, links_of, with_links, chain_term, expression_term}
 use Rattle.regex_reader.specs.declared.token.Leaf.{Leaf}
 use Rattle.regex_reader.specs.declared.token.Leaf.TheVariants.{Run, Quoted, Braced}
+use Rattle.regex_reader.specs.declared.token.Operator.{Operator}
+use Rattle.regex_reader.specs.declared.token.Operator.TheVariants.{Colon, Semicolon, OpenSquare, CloseSquare, OpenRound, CloseRound, Bar, Star, Plus, Caret}
 use Rattle.regex_reader.specs.declared.token.Token.{Token}
-use Rattle.regex_reader.specs.declared.token.Token.TheVariants.{Leaf as leaf, Colon, Semicolon}
+use Rattle.regex_reader.specs.declared.token.Token.TheVariants.{Leaf as leaf, Operator as operator}
 use Rattle.regex_reader.proofs.Lists.{and_left, and_right, list_all_weaker, printable_is_text}
-use Rattle.fsm_meaning.specs.OnePair.{IsLeaf, IsPart, AreParts, IsPlain}
-use Rattle.fsm_meaning.specs.Projects.{symbol_of, symbols_in, symbols_in_each}
+use Rattle.fsm_meaning.specs.Built.{IsRepeating, IsBuilt, AreBuilt, AreBuiltLinks}
+use Rattle.fsm_meaning.specs.OnePair.{IsLeaf}
+use Rattle.fsm_meaning.specs.Projects.{symbol_of, symbols_in, symbols_in_each, symbols_in_links}
 
--- ---- the expression is plain
+-- ---- the expression's network is built
 
 leaf_plain : (a : Leaf) → IsLeaf (leaf_term a)
 leaf_plain (Run cs) = by (bytes_eq cs (codes "0"))
@@ -35,33 +40,63 @@ leaf_plain (Quoted (c ∷ cs)) = tt
 leaf_plain (Braced []) = tt
 leaf_plain (Braced (c ∷ cs)) = tt
 
-leaf_part : (t : Term Raw) → IsLeaf t → IsPart t
-leaf_part empty h = h
-leaf_part (atom a) h = h
-leaf_part (letters all) h = h
-leaf_part _ h = absurd h
+plain_built : (t : Term Raw) → IsLeaf t → IsBuilt t
+plain_built empty h = tt
+plain_built (atom a) h = tt
+plain_built (letters all) h = tt
+plain_built _ h = absurd h
 
-part_plain : (p : Part) → IsPart (part_term p)
-part_plain (single a) = leaf_part (leaf_term a) (leaf_plain a)
-part_plain (pair a b) = (leaf_plain a, leaf_plain b)
+crossed_built : {E : Type 0} (name : List ℕ) (says : E → Term Raw) → ((e : E) → IsBuilt (says e)) → (c : Crossed name E) → IsBuilt (crossed_term says c)
+crossed_built name says h (alone (single o)) = plain_built (leaf_term o.leaf) (leaf_plain o.leaf)
+crossed_built name says h (alone blank) = tt
+crossed_built name says h (alone (grouped e)) = h e
+crossed_built name says h (alone (optional e)) = h e
+crossed_built name says h (pair a b) = (leaf_plain a.leaf, leaf_plain b.leaf)
 
-parts_plain : (ps : List Part) → AreParts (terms_of (map part_term ps))
-parts_plain [] = tt
-parts_plain (p ∷ ps) = (part_plain p, parts_plain ps)
+suffix_repeats : (s : SuffixForm) → IsRepeating (suffix_of s)
+suffix_repeats star = tt
+suffix_repeats plus = tt
+suffix_repeats (power n) = tt
 
-plain_part : (t : Term Raw) → IsPart t → IsPlain t
-plain_part empty h = h
-plain_part (atom a) h = h
-plain_part (letters all) h = h
-plain_part (cross e f) h = h
-plain_part _ h = absurd h
+suffixes_repeat : (ss : List SuffixForm) → All IsRepeating (map suffix_of ss)
+suffixes_repeat [] = All-nil IsRepeating
+suffixes_repeat (s ∷ ss) = All-cons IsRepeating (suffix_of s) (map suffix_of ss) (suffix_repeats s) (suffixes_repeat ss)
 
-row_plain : (p : Part) (ps : List Part) → IsPlain (row_term (part_term p) (map part_term ps))
-row_plain p [] = plain_part (part_term p) (part_plain p)
-row_plain p (q ∷ ps) = (part_plain p, (part_plain q, parts_plain ps))
+suffixes_built : (t : Term Raw) (ss : List Suffix) → IsBuilt t → All IsRepeating ss → IsBuilt (with_suffixes t ss)
+suffixes_built t [] h all = h
+suffixes_built t (s ∷ ss) h all = (h, all)
 
-pub statement_plain : (text : List ℕ) (s : Statement) → ReadsAs text s → IsPlain s.term
-statement_plain text s r = subst IsPlain (sym r.means) (row_plain r.first r.more)
+suffixed_built : {E : Type 0} (name : List ℕ) (says : E → Term Raw) → ((e : E) → IsBuilt (says e)) → (row : Suffixed name E) → IsBuilt (suffixed_term says row)
+suffixed_built name says h row = suffixes_built (crossed_term says row.first) (map suffix_of row.more) (crossed_built name says h row.first) (suffixes_repeat row.more)
+
+terms_built : {A : Type 0} (says : A → Term Raw) → ((a : A) → IsBuilt (says a)) → (items : List A) → AreBuilt (terms_of (map says items))
+terms_built says h [] = tt
+terms_built says h (a ∷ items) = (h a, terms_built says h items)
+
+row_built : {A : Type 0} (says : A → Term Raw) → ((a : A) → IsBuilt (says a)) → (t : Term Raw) → IsBuilt t → (items : List A) → IsBuilt (side_by_side t (map says items))
+row_built says h t first [] = first
+row_built says h t first (a ∷ items) = (first, (h a, terms_built says h items))
+
+concat_built : {E : Type 0} (name : List ℕ) (says : E → Term Raw) → ((e : E) → IsBuilt (says e)) → (row : Concatenated name E) → IsBuilt (concat_term says row)
+concat_built name says h row = row_built (suffixed_term says) (suffixed_built name says h) (suffixed_term says row.first) (suffixed_built name says h row.first) row.more
+
+links_built : {C : Type 0} (says : C → Term Raw) → ((c : C) → IsBuilt (says c)) → (ls : List (Linked C)) → AreBuiltLinks (links_of (map (linked_value says) ls))
+links_built says h [] = tt
+links_built says h (or_else c ∷ ls) = (h c, links_built says h ls)
+
+joined_built : {C : Type 0} (says : C → Term Raw) → ((c : C) → IsBuilt (says c)) → (t : Term Raw) → IsBuilt t → (ls : List (Linked C)) → IsBuilt (with_links t (map (linked_value says) ls))
+joined_built says h t first [] = first
+joined_built says h t first (or_else c ∷ ls) = (first, (h c, links_built says h ls))
+
+chain_built : {E : Type 0} (name : List ℕ) (says : E → Term Raw) → ((e : E) → IsBuilt (says e)) → (row : Chained name E) → IsBuilt (chain_term says row)
+chain_built name says h row = joined_built (concat_term says) (concat_built name says h) (concat_term says row.first) (concat_built name says h row.first) row.more
+
+expression_built : (name : List ℕ) (n : ℕ) (e : Expression name n) → IsBuilt (expression_term name n e)
+expression_built name zero e = absurd e
+expression_built name (suc n) e = chain_built name (expression_term name n) (expression_built name n) e
+
+pub statement_built : (text : List ℕ) (s : Statement) → ReadsAs text s → IsBuilt s.term
+statement_built text s r = subst IsBuilt (sym r.means) (expression_built s.name (suc most_open) r.tree)
 
 -- ---- it has few symbols, each of them a text that isn't empty
 
@@ -112,27 +147,138 @@ few_leaf (Braced (c ∷ cs)) h = (bytes_are (c ∷ cs), omega (arith, counted (c
     counted [] = refl
     counted (c ∷ cs) = ap suc (counted cs)
 
-few_parts : (ps : List Part) (rest : List Token) → AreTokens (parts_then ps rest) → Few (symbols_in_each (terms_of (map part_term ps))) (size (parts_then ps rest))
-few_parts [] rest h = few_none (size rest)
-few_parts (single a ∷ ps) rest h = few_both (symbols_in (leaf_term a)) (symbols_in_each (terms_of (map part_term ps))) (length (spelling (leaf a))) (size (parts_then ps rest)) (few_leaf a h.0) (few_parts ps rest h.1)
-few_parts (pair a b ∷ ps) rest h =
-    let two = few_both (symbols_in (leaf_term a)) (symbols_in (leaf_term b)) (length (spelling (leaf a))) (length (spelling (leaf b))) (few_leaf a h.0) (few_leaf b h.1.1.0) in
-    let all = few_both (symbols_in (leaf_term a) ++ symbols_in (leaf_term b)) (symbols_in_each (terms_of (map part_term ps))) (length (spelling (leaf a)) + length (spelling (leaf b))) (size (parts_then ps rest)) two (few_parts ps rest h.1.1.1) in
-    (all.0, omega (arith, all.1))
+-- The tokens of a part: what they cost, so many symbols of the part at most, and the tokens behind it.
+record Fits {A : Type 0} (put : A → List Token → List Token) (symbols : A → List (List ℕ)) (a : A) (rest : List Token) : Type 0 where
+  cost : ℕ
+  few : Few (symbols a) cost
+  sizes : size (put a rest) ≡ cost + size rest
+  behind : AreTokens rest
 
-row_symbols : (p : Part) (ps : List Part) → symbols_in_each (terms_of (map part_term (p ∷ ps))) ≡ symbols_in (row_term (part_term p) (map part_term ps))
-row_symbols p [] = append-nil (symbols_in (part_term p))
-row_symbols p (q ∷ ps) = refl
+abbrev EachFits : {A : Type 0} → (A → List Token → List Token) → (A → List (List ℕ)) → Type 0
+EachFits {A} put symbols = (a : A) (rest : List Token) → AreTokens (put a rest) → Fits put symbols a rest
 
-pub statement_few : (text : List ℕ) (s : Statement) → ReadsAs text s → All IsSymbol (symbols_in s.term) × (length (symbols_in s.term) ≤ 4096)
+fits_as : {A : Type 0} (put : A → List Token → List Token) (symbols others : A → List (List ℕ)) → EachFits put symbols → ((a : A) → symbols a ≡ others a) → EachFits put others
+fits_as put symbols others h same a rest fine =
+    let f : Fits put symbols a rest = h a rest fine in
+    record { cost = f.cost; few = subst (λ (z : List (List ℕ)). Few z f.cost) (same a) f.few; sizes = f.sizes; behind = f.behind }
+
+-- the symbols of the parts, one behind the other
+abbrev each : {A : Type 0} → (A → List (List ℕ)) → List A → List (List ℕ)
+each symbols [] = []
+each symbols (a ∷ items) = symbols a ++ each symbols items
+
+more_fits : {B : Type 0} (put : B → List Token → List Token) (symbols : B → List (List ℕ)) → EachFits put symbols → EachFits (put_more put) (each symbols)
+more_fits put symbols h [] rest fine = record { cost = 0; few = few_none 0; sizes = omega arith; behind = fine }
+more_fits put symbols h (b ∷ bs) rest fine =
+    let first : Fits put symbols b (put_more put bs rest) = h b (put_more put bs rest) fine in
+    let more : Fits (put_more put) (each symbols) bs rest = more_fits put symbols h bs rest first.behind in
+    record {
+      cost = first.cost + more.cost;
+      few = few_both (symbols b) (each symbols bs) first.cost more.cost first.few more.few;
+      sizes = omega (arith, first.sizes, more.sizes);
+      behind = more.behind;
+    }
+
+row_fits : {A B : Type 0} (put_first : A → List Token → List Token) (put_next : B → List Token → List Token) (first_symbols : A → List (List ℕ)) (next_symbols : B → List (List ℕ)) → EachFits put_first first_symbols → EachFits put_next next_symbols
+    → EachFits (put_row put_first put_next) (λ (row : Row A B). first_symbols row.first ++ each next_symbols row.more)
+row_fits put_first put_next first_symbols next_symbols h g row rest fine =
+    let first : Fits put_first first_symbols row.first (put_more put_next row.more rest) = h row.first (put_more put_next row.more rest) fine in
+    let more : Fits (put_more put_next) (each next_symbols) row.more rest = more_fits put_next next_symbols g row.more rest first.behind in
+    record {
+      cost = first.cost + more.cost;
+      few = few_both (first_symbols row.first) (each next_symbols row.more) first.cost more.cost first.few more.few;
+      sizes = omega (arith, first.sizes, more.sizes);
+      behind = more.behind;
+    }
+
+crossed_fits : {E : Type 0} (name : List ℕ) (put : E → List Token → List Token) (says : E → Term Raw) → EachFits put (λ e. symbols_in (says e)) → EachFits (put_crossed {name = name} put) (λ c. symbols_in (crossed_term says c))
+crossed_fits name put says h (alone (single o)) rest fine = record { cost = length (spelling (leaf o.leaf)); few = few_leaf o.leaf fine.0; sizes = refl; behind = fine.1 }
+crossed_fits name put says h (alone blank) rest fine = record { cost = 2; few = few_none 2; sizes = omega arith; behind = fine.1.1 }
+crossed_fits name put says h (alone (grouped e)) rest fine =
+    let inner : Fits put (λ e. symbols_in (says e)) e (operator CloseSquare ∷ rest) = h e (operator CloseSquare ∷ rest) fine.1 in
+    record { cost = inner.cost + 2; few = (inner.few.0, omega (arith, inner.few.1)); sizes = omega (arith, inner.sizes); behind = inner.behind.1 }
+crossed_fits name put says h (alone (optional e)) rest fine =
+    let inner : Fits put (λ e. symbols_in (says e)) e (operator CloseRound ∷ rest) = h e (operator CloseRound ∷ rest) fine.1 in
+    record { cost = inner.cost + 2; few = (inner.few.0, omega (arith, inner.few.1)); sizes = omega (arith, inner.sizes); behind = inner.behind.1 }
+crossed_fits name put says h (pair a b) rest fine =
+    let two = few_both (symbols_in (operand_term a)) (symbols_in (operand_term b)) (length (spelling (leaf a.leaf))) (length (spelling (leaf b.leaf))) (few_leaf a.leaf fine.0) (few_leaf b.leaf fine.1.1.0) in
+    record { cost = length (spelling (leaf a.leaf)) + length (spelling (leaf b.leaf)) + 1; few = (two.0, omega (arith, two.1)); sizes = omega arith; behind = fine.1.1.1 }
+
+suffix_fits : EachFits put_suffix (λ s. [])
+suffix_fits star rest fine = record { cost = 1; few = few_none 1; sizes = refl; behind = fine.1 }
+suffix_fits plus rest fine = record { cost = 1; few = few_none 1; sizes = refl; behind = fine.1 }
+suffix_fits (power n) rest fine = record { cost = length n.digits + 1; few = few_none (length n.digits + 1); sizes = sized n.digits fine.1.0; behind = fine.1.1 }
+  where
+    sized : (digits : List ℕ) → IsTrue (is_token (leaf (Run digits))) → size (operator Caret ∷ leaf (Run digits) ∷ rest) ≡ length digits + 1 + size rest
+    sized digits h = omega arith
+
+no_symbols : (ss : List SuffixForm) → each (λ (s : SuffixForm). []) ss ≡ []
+no_symbols [] = refl
+no_symbols (s ∷ ss) = no_symbols ss
+
+suffixes_symbols : (t : Term Raw) (ss : List Suffix) → symbols_in t ≡ symbols_in (with_suffixes t ss)
+suffixes_symbols t [] = refl
+suffixes_symbols t (s ∷ ss) = refl
+
+suffixed_fits : {E : Type 0} (name : List ℕ) (put : E → List Token → List Token) (says : E → Term Raw) → EachFits put (λ e. symbols_in (says e)) → EachFits (put_suffixed {name = name} put) (λ row. symbols_in (suffixed_term says row))
+suffixed_fits {E} name put says h = fits_as (put_suffixed {name = name} put) _ _ (row_fits (put_crossed {name = name} put) put_suffix (λ c. symbols_in (crossed_term says c)) (λ s. []) (crossed_fits name put says h) suffix_fits) same
+  where
+    same : (row : Suffixed name E) → symbols_in (crossed_term says row.first) ++ each (λ (s : SuffixForm). []) row.more ≡ symbols_in (suffixed_term says row)
+    same row = ap (λ more. symbols_in (crossed_term says row.first) ++ more) (no_symbols row.more) ∙ append-nil (symbols_in (crossed_term says row.first)) ∙ suffixes_symbols (crossed_term says row.first) (map suffix_of row.more)
+
+terms_symbols : {A : Type 0} (says : A → Term Raw) (items : List A) → each (λ a. symbols_in (says a)) items ≡ symbols_in_each (terms_of (map says items))
+terms_symbols says [] = refl
+terms_symbols says (a ∷ items) = ap (λ more. symbols_in (says a) ++ more) (terms_symbols says items)
+
+row_symbols : {A : Type 0} (says : A → Term Raw) (t : Term Raw) (items : List A) → symbols_in t ++ each (λ a. symbols_in (says a)) items ≡ symbols_in (side_by_side t (map says items))
+row_symbols says t [] = append-nil (symbols_in t)
+row_symbols says t (a ∷ items) = ap (λ more. symbols_in t ++ more) (terms_symbols says (a ∷ items))
+
+concat_fits : {E : Type 0} (name : List ℕ) (put : E → List Token → List Token) (says : E → Term Raw) → EachFits put (λ e. symbols_in (says e)) → EachFits (put_concat {name = name} put) (λ row. symbols_in (concat_term says row))
+concat_fits {E} name put says h = fits_as (put_concat {name = name} put) _ _ (row_fits (put_suffixed {name = name} put) (put_suffixed {name = name} put) (λ c. symbols_in (suffixed_term says c)) (λ c. symbols_in (suffixed_term says c)) (suffixed_fits name put says h) (suffixed_fits name put says h)) same
+  where
+    same : (row : Concatenated name E) → symbols_in (suffixed_term says row.first) ++ each (λ c. symbols_in (suffixed_term says c)) row.more ≡ symbols_in (concat_term says row)
+    same row = row_symbols (suffixed_term says) (suffixed_term says row.first) row.more
+
+abbrev linked_symbols : {C : Type 0} → (C → Term Raw) → Linked C → List (List ℕ)
+linked_symbols says (or_else c) = symbols_in (says c)
+
+linked_fits : {C : Type 0} (put : C → List Token → List Token) (says : C → Term Raw) → EachFits put (λ c. symbols_in (says c)) → EachFits (put_linked put) (linked_symbols says)
+linked_fits put says h (or_else c) rest fine =
+    let inner : Fits put (λ c. symbols_in (says c)) c rest = h c rest fine.1 in
+    record { cost = inner.cost + 1; few = (inner.few.0, omega (arith, inner.few.1)); sizes = omega (arith, inner.sizes); behind = inner.behind }
+
+links_symbols : {C : Type 0} (says : C → Term Raw) (ls : List (Linked C)) → each (linked_symbols says) ls ≡ symbols_in_links (links_of (map (linked_value says) ls))
+links_symbols says [] = refl
+links_symbols says (or_else c ∷ ls) = ap (λ more. symbols_in (says c) ++ more) (links_symbols says ls)
+
+joined_symbols : {C : Type 0} (says : C → Term Raw) (t : Term Raw) (ls : List (Linked C)) → symbols_in t ++ each (linked_symbols says) ls ≡ symbols_in (with_links t (map (linked_value says) ls))
+joined_symbols says t [] = append-nil (symbols_in t)
+joined_symbols says t (or_else c ∷ ls) = ap (λ more. symbols_in t ++ more) (links_symbols says (or_else c ∷ ls))
+
+chain_fits : {E : Type 0} (name : List ℕ) (put : E → List Token → List Token) (says : E → Term Raw) → EachFits put (λ e. symbols_in (says e)) → EachFits (put_chain {name = name} put) (λ row. symbols_in (chain_term says row))
+chain_fits {E} name put says h = fits_as (put_chain {name = name} put) _ _ (row_fits (put_concat {name = name} put) (put_linked (put_concat {name = name} put)) (λ c. symbols_in (concat_term says c)) (linked_symbols (concat_term says)) (concat_fits name put says h) (linked_fits (put_concat {name = name} put) (concat_term says) (concat_fits name put says h))) same
+  where
+    same : (row : Chained name E) → symbols_in (concat_term says row.first) ++ each (linked_symbols (concat_term says)) row.more ≡ symbols_in (chain_term says row)
+    same row = joined_symbols (concat_term says) (concat_term says row.first) row.more
+
+expression_fits : (name : List ℕ) (n : ℕ) → EachFits (put_expression name n) (λ e. symbols_in (expression_term name n e))
+expression_fits name zero e rest fine = absurd e
+expression_fits name (suc n) e rest fine = chain_fits name (put_expression name n) (expression_term name n) (expression_fits name n) e rest fine
+
+pub statement_few : (text : List ℕ) (s : Statement) → ReadsAs text s → All IsSymbol (symbols_in s.term) × (length (symbols_in s.term) ≤ length text)
 statement_few text s r =
-    let tokens = subst AreTokens r.told (placed_tokens r.placed r.tokens) in
-    let few = few_parts (r.first ∷ r.more) (Semicolon ∷ []) tokens.1.1 in
-    let whole = row_symbols r.first r.more ∙ ap symbols_in (sym r.means) in
-    let sizes : size (statement_tokens s.name (r.first ∷ r.more)) ≤ length (text_of r.placed) = subst (λ ts. size ts ≤ length (text_of r.placed)) r.told (size_within r.placed) in (
-      subst (λ (z : List (List ℕ)). All IsSymbol z) whole few.0,
-      omega (arith, ap length whole, few.1, sizes, ap length r.spelled, length-append r.front (text_of r.placed), r.short),
+    let tokens : AreTokens (statement_tokens s.name r.tree) = subst AreTokens r.told (placed_tokens r.placed r.tokens) in
+    let whole : Fits (put_expression s.name (suc most_open)) (λ e. symbols_in (expression_term s.name (suc most_open) e)) r.tree (operator Semicolon ∷ []) = expression_fits s.name (suc most_open) r.tree (operator Semicolon ∷ []) tokens.1.1 in
+    let same : symbols_in (expression_term s.name (suc most_open) r.tree) ≡ symbols_in s.term = ap symbols_in (sym r.means) in
+    let sizes : size (statement_tokens s.name r.tree) ≤ length (text_of r.placed) = subst (λ ts. size ts ≤ length (text_of r.placed)) r.told (size_within r.placed) in (
+      subst (λ (z : List (List ℕ)). All IsSymbol z) same whole.few.0,
+      omega (arith, ap length same, whole.few.1, whole.sizes, sizes, ap length r.spelled, length-append r.front (text_of r.placed)),
     )
+
+-- so few that a table has room for them
+pub statement_within : (text : List ℕ) (s : Statement) → ReadsAs text s → length (symbols_in s.term) ≤ 4096
+statement_within text s r = omega (arith, (statement_few text s r).1, r.short)
 
 -- ---- the text is ASCII
 
@@ -157,8 +303,19 @@ token_ascii (leaf (Run [])) h = cc
 token_ascii (leaf (Run (c ∷ cs))) h = printable_by is_run_byte is_run_byte (λ b is. and_left (is_printable b) _ is) (c ∷ cs) h
 token_ascii (leaf (Quoted cs)) h = between 34 34 cs (omega arith) (omega arith) (printable_by is_quoted_byte is_quoted_byte (λ b is. and_left (is_printable b) _ is) cs h)
 token_ascii (leaf (Braced cs)) h = between 123 125 cs (omega arith) (omega arith) (printable_by is_braced_byte is_braced_byte (λ b is. and_left (is_printable b) _ is) cs h)
-token_ascii Colon h = All-cons (λ b. b < 128) 58 [] (omega arith) (All-nil (λ b. b < 128))
-token_ascii Semicolon h = All-cons (λ b. b < 128) 59 [] (omega arith) (All-nil (λ b. b < 128))
+token_ascii (operator o) h = All-cons (λ b. b < 128) (byte_of o) [] (below o) (All-nil (λ b. b < 128))
+  where
+    below : (o : Operator) → byte_of o < 128
+    below Colon = omega arith
+    below Semicolon = omega arith
+    below OpenSquare = omega arith
+    below CloseSquare = omega arith
+    below OpenRound = omega arith
+    below CloseRound = omega arith
+    below Bar = omega arith
+    below Star = omega arith
+    below Plus = omega arith
+    below Caret = omega arith
 
 placed_ascii : (ps : List Placed) → IsPlaced ps → Ascii (text_of ps)
 placed_ascii [] h = All-nil (λ b. b < 128)

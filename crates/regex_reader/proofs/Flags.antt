@@ -7,7 +7,7 @@ use Rattle.regex_ast.specs.Flags.{IsFeatureByte, IsFeature, HasValue, sets, unif
 use Rattle.regex_reader.specs.Bytes.{is_feature_byte}
 use Rattle.regex_reader.specs.Reading.{taken, left, has_value, has_no_value, is_at, is_value, is_behind_feature, is_behind_kind, is_flag}
 use Rattle.regex_reader.proofs.Lists.{and_left, and_right, and_true, taken-left, list_all-taken, taken-front, left-front}
-use Rattle.regex_reader.proofs.Tokens.{false_by}
+use Rattle.regex_reader.proofs.Lists.{false_by}
 
 or_cases : {P : Type 0} (a b : Bool) → (a || b) ≡ true → (a ≡ true → P) → (b ≡ true → P) → P
 or_cases true b e l r = l refl

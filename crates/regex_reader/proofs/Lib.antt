@@ -1,7 +1,12 @@
 pub mod Lists
-pub mod Rows
+pub mod Cases
+pub mod Exact
+pub mod Loops
+pub mod Flags
+pub mod Levels
 pub mod Tokens
 pub mod Texts
-pub mod Parts
-pub mod Flags
 pub mod Whole
+pub mod Rows
+pub mod Numbers
+pub mod Parsing

@@ -99,3 +99,7 @@ left-front p (x ∷ xs) rest e stop =
     let here : p x ≡ true = and_left _ _ e in
     let deeper : left p (xs ++ rest) ≡ rest = left-front p xs rest (and_right (p x) _ e) stop in
     rw (here, deeper) refl
+
+pub false_by : (b : Bool) → (b ≡ true → true ≡ false) → b ≡ false
+false_by true clash = let e : true ≡ false = clash refl in absurd cc
+false_by false clash = refl

@@ -3,13 +3,16 @@ use Rattle.std.proofs.Common.{◌≡◌, ℕ, zero, suc, ◌<◌, ◌≤◌, Boo
 use Rattle.std.specs.List.{list_all}
 use Rattle.std.specs.Option.{option_map, option_and_then}
 use Rattle.regex_reader.specs.Bytes.{begins, is_blank, is_run_byte}
-use Rattle.regex_reader.specs.Form.{spelling, is_token, is_run, Placed, IsPlaced, begins_with_run, text_of}
+use Rattle.regex_reader.specs.Form.{byte_of, spelling, is_token, is_run, Placed, IsPlaced, begins_with_run, text_of}
 use Rattle.regex_reader.specs.Reading.{taken, left, token_at, tokens_in, tokens_of}
 use Rattle.regex_reader.specs.declared.token.Leaf.TheVariants.{Run, Quoted, Braced}
 use Rattle.regex_reader.specs.declared.token.Token.{Token}
-use Rattle.regex_reader.specs.declared.token.Token.TheVariants.{Leaf as leaf, Colon, Semicolon}
+use Rattle.regex_reader.specs.declared.token.Token.TheVariants.{Leaf as leaf, Operator as operator}
+use Rattle.regex_reader.specs.declared.token.Operator.{Operator}
+use Rattle.regex_reader.specs.declared.token.Operator.TheVariants.{Colon, Semicolon, OpenSquare, CloseSquare, OpenRound, CloseRound, Bar, Star, Plus, Caret}
 use Rattle.regex_reader.proofs.Lists.{and_left, taken-left, list_all-taken, left-front}
-use Rattle.regex_reader.proofs.Tokens.{map_some, then_some, same_some, run_is_no_blank, blank_is_no_run, TokenAt, token_takes, token_again}
+use Rattle.regex_reader.proofs.Cases.{map_some, then_some, same_some, map_map}
+use Rattle.regex_reader.proofs.Tokens.{run_is_no_blank, blank_is_no_run, TokenAt, token_takes, token_again}
 
 -- How the text of a token and of tokens begins.
 
@@ -18,24 +21,45 @@ spelling_begins_no_blank (leaf (Run [])) rest fine = cc
 spelling_begins_no_blank (leaf (Run (c ∷ cs))) rest fine = run_is_no_blank c (and_left _ _ fine)
 spelling_begins_no_blank (leaf (Quoted cs)) rest fine = refl
 spelling_begins_no_blank (leaf (Braced cs)) rest fine = refl
-spelling_begins_no_blank Colon rest fine = refl
-spelling_begins_no_blank Semicolon rest fine = refl
+spelling_begins_no_blank (operator o) rest fine = no_blank o
+  where
+    no_blank : (o : Operator) → is_blank (byte_of o) ≡ false
+    no_blank Colon = refl
+    no_blank Semicolon = refl
+    no_blank OpenSquare = refl
+    no_blank CloseSquare = refl
+    no_blank OpenRound = refl
+    no_blank CloseRound = refl
+    no_blank Bar = refl
+    no_blank Star = refl
+    no_blank Plus = refl
+    no_blank Caret = refl
 
 spelling_begins_run : (t : Token) (rest : List ℕ) → is_token t ≡ true → begins is_run_byte (spelling t ++ rest) ≡ is_run t
 spelling_begins_run (leaf (Run [])) rest fine = cc
 spelling_begins_run (leaf (Run (c ∷ cs))) rest fine = and_left _ _ fine
 spelling_begins_run (leaf (Quoted cs)) rest fine = refl
 spelling_begins_run (leaf (Braced cs)) rest fine = refl
-spelling_begins_run Colon rest fine = refl
-spelling_begins_run Semicolon rest fine = refl
+spelling_begins_run (operator o) rest fine = no_run o
+  where
+    no_run : (o : Operator) → is_run_byte (byte_of o) ≡ false
+    no_run Colon = refl
+    no_run Semicolon = refl
+    no_run OpenSquare = refl
+    no_run CloseSquare = refl
+    no_run OpenRound = refl
+    no_run CloseRound = refl
+    no_run Bar = refl
+    no_run Star = refl
+    no_run Plus = refl
+    no_run Caret = refl
 
 spelling_grows : (t : Token) (rest : List ℕ) → is_token t ≡ true → length rest < length (spelling t ++ rest)
 spelling_grows (leaf (Run [])) rest fine = absurd cc
 spelling_grows (leaf (Run (c ∷ cs))) rest fine = omega (arith, length-append cs rest)
 spelling_grows (leaf (Quoted cs)) rest fine = omega (arith, length-append (cs ++ 34 ∷ []) rest)
 spelling_grows (leaf (Braced cs)) rest fine = omega (arith, length-append (cs ++ 125 ∷ []) rest)
-spelling_grows Colon rest fine = omega arith
-spelling_grows Semicolon rest fine = omega arith
+spelling_grows (operator o) rest fine = omega arith
 
 pub text_begins_no_blank : (ps : List Placed) → IsPlaced ps → begins is_blank (text_of ps) ≡ false
 text_begins_no_blank [] h = refl
@@ -107,10 +131,6 @@ pub record TokensSoFar (text : List ℕ) (found : List Token) (rest : List ℕ) 
   pub count : ℕ
   pub enough : length rest ≤ count
   pub so_far : tokens_of text ≡ option_map (λ ts. found ++ ts) (tokens_in count rest)
-
-pub map_map : {A B C : Type 0} (f : B → C) (g : A → B) (h : A → C) (o : Option A) → ((x : A) → f (g x) ≡ h x) → option_map f (option_map g o) ≡ option_map h o
-map_map f g h None e = refl
-map_map f g h (Some x) e = ap Some (e x)
 
 pub tokens_begin : (text : List ℕ) → TokensSoFar text [] text
 tokens_begin text = record { count = length text; enough = omega arith; so_far = same (tokens_of text) } where

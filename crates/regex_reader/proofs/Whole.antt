@@ -1,161 +1,91 @@
 -- The reader reads exactly the texts of the form.
-use Rattle.std.proofs.Common.{◌≡◌, ℕ, zero, suc, ◌≤◌, ◌+◌, ◌==◌, nat_le, true, false, cond, Option, Some, None, List, [], ◌∷◌, ◌++◌, length, map, All, refl, sym, ap, subst, ◌∙◌, arith}
+use Rattle.std.proofs.Common.{◌≡◌, ℕ, suc, ◌≤◌, ◌+◌, nat_le, true, false, cond, Option, Some, None, List, [], ◌∷◌, ◌++◌, length, map, refl, sym, ap, subst, ◌∙◌, arith}
 use Rattle.std.specs.Prelude.{codes}
-use Rattle.std.specs.Bool.{Decides}
 use Rattle.std.specs.Option.{option_map, option_and_then}
 use Rattle.std.specs.Str.{bytes_eq}
-use Rattle.std.proofs.lemmas.Bool.Decides.{Decides-and, Decides-not, Decides-eqb, nat_tests}
+use Rattle.std.proofs.lemmas.Bool.Decides.{nat_tests}
 use Rattle.std.proofs.lemmas.Slice.Eq.{bytes_eq-Decides}
-use Rattle.regex_ast.specs.Terms.{Term, cross}
+use Rattle.regex_ast.specs.Terms.{Term}
 use Rattle.regex_ast.specs.declared.expr.Raw.{Raw}
 use Rattle.regex_reader.specs.Bytes.{begins, is_blank, is_name}
-use Rattle.regex_reader.specs.Form.{Statement, text_of, Part, single, pair, parts_then, statement_tokens, IsLeaf, IsPart, leaf_term, part_term, row_term, newlines, ReadsAs}
-use Rattle.regex_reader.specs.Reading.{taken, left, tokens_of, is_leaf, leaf_at, pair_at, parts_at, before_all, run_of, run_before, row_at, definition_at, statement_at, read}
-use Rattle.regex_reader.specs.declared.token.Leaf.{Leaf}
-use Rattle.regex_reader.specs.declared.token.Leaf.TheVariants.{Run, Quoted, Braced}
+use Rattle.regex_reader.specs.Form.{Statement, text_of, Expression, most_open, put_expression, statement_tokens, expression_term, newlines, ReadsAs}
+use Rattle.regex_reader.specs.Reading.{taken, left, tokens_of, run_before, chain_at, expression_at, ends, whole_at, definition_at, statement_at, read}
+use Rattle.regex_reader.specs.declared.token.Leaf.TheVariants.{Run}
+use Rattle.regex_reader.specs.declared.token.Operator.TheVariants.{Colon, Semicolon, OpenSquare, CloseSquare, OpenRound, CloseRound, Bar, Star, Plus, Caret}
 use Rattle.regex_reader.specs.declared.token.Token.{Token}
-use Rattle.regex_reader.specs.declared.token.Token.TheVariants.{Leaf as leaf, Colon, Semicolon}
+use Rattle.regex_reader.specs.declared.token.Token.TheVariants.{Leaf as leaf, Operator as operator}
 use Rattle.regex_reader.proofs.Lists.{taken-left, list_all-taken, taken-front, left-front}
-use Rattle.regex_reader.proofs.Tokens.{if_cases, map_some, then_some, same_some}
+use Rattle.regex_reader.proofs.Cases.{if_cases, map_some, then_some, same_some}
+use Rattle.regex_reader.proofs.Levels.{run_before_takes, chain_exact, expression_exact}
 use Rattle.regex_reader.proofs.Texts.{TextOf, tokens_take, tokens_again, text_begins_no_blank}
-use Rattle.regex_reader.proofs.Flags.{no_flag}
-
--- Leaves.
-
-leaf_decides : (name : List ℕ) (a : Leaf) → Decides (is_leaf name a) (IsLeaf name a)
-leaf_decides name (Run cs) = Decides-and _ _ ((λ e. e), (λ e. e)) (Decides-not (bytes_eq cs name) (bytes_eq-Decides cs name))
-leaf_decides name (Quoted cs) = no_flag cs
-leaf_decides name (Braced cs) = ((λ e. tt), (λ h. refl))
-
-leaf_takes : {P : Type 0} (name : List ℕ) (a : Leaf) (t : Term Raw) → leaf_at name a ≡ Some t → (IsLeaf name a → leaf_term a ≡ t → P) → P
-leaf_takes name a t e k = if_cases (is_leaf name a) _ _ _ e (λ is some. k ((leaf_decides name a).0 is) (same_some _ _ some)) (λ _ none. absurd cc)
-
-leaf_again : (name : List ℕ) (a : Leaf) → IsLeaf name a → leaf_at name a ≡ Some (leaf_term a)
-leaf_again name a h = let is : is_leaf name a ≡ true = (leaf_decides name a).1 h in rw is refl
-
-pair_takes : {P : Type 0} (name : List ℕ) (a b : Leaf) (t : Term Raw) → pair_at name a b ≡ Some t → (IsPart name (pair a b) → part_term (pair a b) ≡ t → P) → P
-pair_takes name a b t e k = then_some _ (leaf_at name a) t e (λ u first rest. map_some _ (leaf_at name b) t rest (λ v second same.
-    leaf_takes name a u first (λ ha ea. leaf_takes name b v second (λ hb eb. k (ha, hb) (ap (λ x. cross x (leaf_term b)) ea ∙ ap (λ x. cross u x) eb ∙ same)))))
-
-pair_again : (name : List ℕ) (a b : Leaf) → IsPart name (pair a b) → pair_at name a b ≡ Some (part_term (pair a b))
-pair_again name a b h = let first : leaf_at name a ≡ Some (leaf_term a) = leaf_again name a h.0 in let second : leaf_at name b ≡ Some (leaf_term b) = leaf_again name b h.1 in rw (first, second) refl
-
--- Parts.
-
-pub record PartsOf (name : List ℕ) (tokens : List Token) (terms : List (Term Raw)) : Type 0 where
-  pub parts : List Part
-  pub spelled : tokens ≡ parts_then parts (Semicolon ∷ [])
-  pub fine : All (IsPart name) parts
-  pub told : map part_term parts ≡ terms
-
-all_first : (name : List ℕ) (p : Part) (ps : List Part) → IsPart name p → All (IsPart name) ps → All (IsPart name) (p ∷ ps)
-all_first name p ps h hs zero d low = h
-all_first name p ps h hs (suc k) d low = hs k d (omega arith)
-
-all_rest : (name : List ℕ) (p : Part) (ps : List Part) → All (IsPart name) (p ∷ ps) → All (IsPart name) ps
-all_rest name p ps h k d low = h (suc k) d (omega arith)
-
-before_takes : {P : Type 0} (o : Option (Term Raw)) (more : Option (List (Term Raw))) (all : List (Term Raw)) → before_all o more ≡ Some all → ((t : Term Raw) (ts : List (Term Raw)) → o ≡ Some t → more ≡ Some ts → t ∷ ts ≡ all → P) → P
-before_takes o more all e k = then_some _ o all e (λ t first rest. map_some _ more all rest (λ ts found same. k t ts first found same))
-
-add_part : (name : List ℕ) (p : Part) (rest : List Token) (t : Term Raw) (ts all : List (Term Raw)) → IsPart name p → part_term p ≡ t → PartsOf name rest ts → t ∷ ts ≡ all → PartsOf name (parts_then (p ∷ []) rest) all
-add_part name (single a) rest t ts all h e more same = record {
-  parts = single a ∷ more.parts;
-  spelled = ap (λ z. leaf a ∷ z) more.spelled;
-  fine = all_first name (single a) more.parts h more.fine;
-  told = ap (λ x. x ∷ map part_term more.parts) e ∙ ap (λ xs. t ∷ xs) more.told ∙ same;
-}
-add_part name (pair a b) rest t ts all h e more same = record {
-  parts = pair a b ∷ more.parts;
-  spelled = ap (λ z. leaf a ∷ Colon ∷ leaf b ∷ z) more.spelled;
-  fine = all_first name (pair a b) more.parts h more.fine;
-  told = ap (λ x. x ∷ map part_term more.parts) e ∙ ap (λ xs. t ∷ xs) more.told ∙ same;
-}
-
-no_tokens : (ts : List Token) → (length ts == 0) ≡ true → ts ≡ []
-no_tokens [] e = refl
-no_tokens (t ∷ ts) e = let none : length (t ∷ ts) ≡ 0 = (Decides-eqb (length (t ∷ ts)) 0).0 e in absurd (omega arith)
-
-ended_takes : (name : List ℕ) (rest : List Token) (terms : List (Term Raw)) → parts_at name (Semicolon ∷ rest) ≡ Some terms → PartsOf name (Semicolon ∷ rest) terms
-ended_takes name rest terms e = if_cases (length rest == 0) _ _ _ e
-    (λ is some. record { parts = []; spelled = ap (λ z. Semicolon ∷ z) (no_tokens rest is); fine = λ k d low. absurd (omega arith); told = same_some _ _ some })
-    (λ _ none. absurd cc)
-
-single_takes : (name : List ℕ) (a : Leaf) (rest : List Token) (terms : List (Term Raw)) → before_all (leaf_at name a) (parts_at name rest) ≡ Some terms → ((ts : List (Term Raw)) → parts_at name rest ≡ Some ts → PartsOf name rest ts) → PartsOf name (leaf a ∷ rest) terms
-single_takes name a rest terms e deeper = before_takes _ _ terms e (λ t ts first found same. leaf_takes name a t first (λ h told. add_part name (single a) rest t ts terms h told (deeper ts found) same))
-
-parts_take : (name : List ℕ) (tokens : List Token) (terms : List (Term Raw)) → parts_at name tokens ≡ Some terms → PartsOf name tokens terms
-parts_take name [] terms e = absurd cc
-parts_take name (Colon ∷ rest) terms e = absurd cc
-parts_take name (Semicolon ∷ rest) terms e = ended_takes name rest terms e
-parts_take name (leaf a ∷ Colon ∷ leaf b ∷ rest) terms e = before_takes _ _ terms e (λ t ts first found same. pair_takes name a b t first (λ h told. add_part name (pair a b) rest t ts terms h told (parts_take name rest ts found) same))
-parts_take name (leaf a ∷ Colon ∷ []) terms e = absurd cc
-parts_take name (leaf a ∷ Colon ∷ Colon ∷ rest) terms e = absurd cc
-parts_take name (leaf a ∷ Colon ∷ Semicolon ∷ rest) terms e = absurd cc
-parts_take name (leaf a ∷ []) terms e = single_takes name a [] terms e (λ ts found. parts_take name [] ts found)
-parts_take name (leaf a ∷ Semicolon ∷ rest) terms e = single_takes name a (Semicolon ∷ rest) terms e (λ ts found. parts_take name (Semicolon ∷ rest) ts found)
-parts_take name (leaf a ∷ leaf b ∷ rest) terms e = single_takes name a (leaf b ∷ rest) terms e (λ ts found. parts_take name (leaf b ∷ rest) ts found)
-
-single_first : (name : List ℕ) (a : Leaf) (ps : List Part) → parts_at name (leaf a ∷ parts_then ps (Semicolon ∷ [])) ≡ before_all (leaf_at name a) (parts_at name (parts_then ps (Semicolon ∷ [])))
-single_first name a [] = refl
-single_first name a (single b ∷ ps) = refl
-single_first name a (pair b c ∷ ps) = refl
-
-parts_again : (name : List ℕ) (ps : List Part) → All (IsPart name) ps → parts_at name (parts_then ps (Semicolon ∷ [])) ≡ Some (map part_term ps)
-parts_again name [] h = refl
-parts_again name (single a ∷ ps) h =
-    let first : leaf_at name a ≡ Some (leaf_term a) = leaf_again name a (h 0 (single a) (omega arith)) in
-    let more : parts_at name (parts_then ps (Semicolon ∷ [])) ≡ Some (map part_term ps) = parts_again name ps (all_rest name (single a) ps h) in
-    single_first name a ps ∙ ap (λ o. before_all o (parts_at name (parts_then ps (Semicolon ∷ [])))) first ∙ ap (before_all (Some (leaf_term a))) more
-parts_again name (pair a b ∷ ps) h =
-    let first : pair_at name a b ≡ Some (part_term (pair a b)) = pair_again name a b (h 0 (pair a b) (omega arith)) in
-    let more : parts_at name (parts_then ps (Semicolon ∷ [])) ≡ Some (map part_term ps) = parts_again name ps (all_rest name (pair a b) ps h) in
-    ap (λ o. before_all o (parts_at name (parts_then ps (Semicolon ∷ [])))) first ∙ ap (before_all (Some (part_term (pair a b)))) more
 
 -- Statements.
 
-run_of_takes : (t : Token) (cs : List ℕ) → run_of t ≡ Some cs → t ≡ leaf (Run cs)
-run_of_takes (leaf (Run ds)) cs e = cc
-run_of_takes (leaf (Quoted ds)) cs e = absurd cc
-run_of_takes (leaf (Braced ds)) cs e = absurd cc
-run_of_takes Colon cs e = absurd cc
-run_of_takes Semicolon cs e = absurd cc
+ends_takes : (tokens : List Token) → ends tokens ≡ true → tokens ≡ operator Semicolon ∷ []
+ends_takes [] e = absurd cc
+ends_takes (leaf a ∷ rest) e = absurd cc
+ends_takes (operator Semicolon ∷ []) e = refl
+ends_takes (operator Semicolon ∷ t ∷ rest) e = absurd cc
+ends_takes (operator Colon ∷ rest) e = absurd cc
+ends_takes (operator OpenSquare ∷ rest) e = absurd cc
+ends_takes (operator CloseSquare ∷ rest) e = absurd cc
+ends_takes (operator OpenRound ∷ rest) e = absurd cc
+ends_takes (operator CloseRound ∷ rest) e = absurd cc
+ends_takes (operator Bar ∷ rest) e = absurd cc
+ends_takes (operator Star ∷ rest) e = absurd cc
+ends_takes (operator Plus ∷ rest) e = absurd cc
+ends_takes (operator Caret ∷ rest) e = absurd cc
 
-run_before_takes : (tokens : List Token) (x : List ℕ × List Token) → run_before tokens ≡ Some x → tokens ≡ leaf (Run x.0) ∷ x.1
-run_before_takes [] x e = absurd cc
-run_before_takes (t ∷ rest) x e = map_some _ (run_of t) x e (λ cs found same.
-    ap (λ z. z ∷ rest) (run_of_takes t cs found) ∙ ap (λ (y : List ℕ × List Token). leaf (Run y.0) ∷ y.1) same)
+abbrev Tree : List ℕ → Type 0
+Tree name = Expression name (suc most_open)
+
+abbrev put_tree : (name : List ℕ) → Tree name → List Token → List Token
+put_tree name tree rest = put_expression name (suc most_open) tree rest
+
+abbrev tree_term : (name : List ℕ) → Tree name → Term Raw
+tree_term name tree = expression_term name (suc most_open) tree
+
+tree_takes : (name : List ℕ) (tokens : List Token) (x : Term Raw × List Token) → chain_at name (expression_at name most_open) tokens ≡ Some x → (tree : Tree name) × (tokens ≡ put_tree name tree x.1) × (tree_term name tree ≡ x.0)
+tree_takes name tokens x e = (chain_exact name (put_expression name most_open) (expression_term name most_open) (expression_at name most_open) (expression_exact name most_open)).takes tokens x e
+
+tree_again : (name : List ℕ) (tree : Tree name) → chain_at name (expression_at name most_open) (put_tree name tree (operator Semicolon ∷ [])) ≡ Some (tree_term name tree, operator Semicolon ∷ [])
+tree_again name tree = (chain_exact name (put_expression name most_open) (expression_term name most_open) (expression_at name most_open) (expression_exact name most_open)).again tree (operator Semicolon ∷ []) refl
+
+-- the tree whose tokens these are, with `;` behind it
+abbrev WholeOf : List ℕ → List Token → Term Raw → Type 0
+WholeOf name tokens t = (tree : Tree name) × (tokens ≡ put_tree name tree (operator Semicolon ∷ [])) × (tree_term name tree ≡ t)
+
+whole_takes : (name : List ℕ) (tokens : List Token) (t : Term Raw) → whole_at name tokens ≡ Some t → WholeOf name tokens t
+whole_takes name tokens t e = then_some _ (chain_at name (expression_at name most_open) tokens) t e (λ x first rest. if_cases (ends x.1) _ _ _ rest
+    (λ is some. found x (ends_takes x.1 is) (same_some _ _ some) (tree_takes name tokens x first))
+    (λ _ none. absurd cc))
+  where
+    found : (x : Term Raw × List Token) → x.1 ≡ operator Semicolon ∷ [] → x.0 ≡ t → (tree : Tree name) × (tokens ≡ put_tree name tree x.1) × (tree_term name tree ≡ x.0) → WholeOf name tokens t
+    found x last same (tree, spelled, value) = (tree, spelled ∙ ap (put_tree name tree) last, value ∙ same)
+
+whole_again : (name : List ℕ) (tree : Tree name) → whole_at name (put_tree name tree (operator Semicolon ∷ [])) ≡ Some (tree_term name tree)
+whole_again name tree = ap (option_and_then (λ (x : Term Raw × List Token). cond (ends x.1) (Some x.0) None)) (tree_again name tree)
 
 record StatementOf (line : ℕ) (tokens : List Token) (s : Statement) : Type 0 where
-  first : Part
-  more : List Part
-  told : tokens ≡ statement_tokens s.name (first ∷ more)
+  tree : Tree s.name
+  told : tokens ≡ statement_tokens s.name tree
   name : is_name s.name ≡ true
-  leaves : All (IsPart s.name) (first ∷ more)
-  means : s.term ≡ row_term (part_term first) (map part_term more)
+  means : s.term ≡ tree_term s.name tree
   line_is : s.line ≡ line
 
-definition_is : (line : ℕ) (name : List ℕ) (parts : List Part) (terms : List (Term Raw)) (t : Term Raw) → is_name name ≡ true → All (IsPart name) parts → map part_term parts ≡ terms → row_at terms ≡ Some t
-    → StatementOf line (statement_tokens name parts) (record { line = line; name = name; term = t })
-definition_is line name [] terms t h fine told row = let none : None ≡ Some t = ap row_at told ∙ row in absurd cc
-definition_is line name (p ∷ ps) terms t h fine told row = record {
-  first = p;
-  more = ps;
-  told = refl;
-  name = h;
-  leaves = fine;
-  means = sym (same_some _ _ (ap row_at told ∙ row));
+definition_is : (line : ℕ) (name : List ℕ) (rest : List Token) (t : Term Raw) → is_name name ≡ true → WholeOf name rest t → StatementOf line (leaf (Run (codes "define")) ∷ leaf (Run name) ∷ rest) (record { line = line; name = name; term = t })
+definition_is line name rest t is (tree, spelled, value) = record {
+  tree = tree;
+  told = ap (λ us. leaf (Run (codes "define")) ∷ leaf (Run name) ∷ us) spelled;
+  name = is;
+  means = sym value;
   line_is = refl;
 }
 
 definition_takes : (line : ℕ) (name : List ℕ) (rest : List Token) (s : Statement) → definition_at line name rest ≡ Some s → StatementOf line (leaf (Run (codes "define")) ∷ leaf (Run name) ∷ rest) s
 definition_takes line name rest s e = if_cases (is_name name) _ _ _ e
-    (λ is some. map_some _ (option_and_then row_at (parts_at name rest)) s some (λ t found same. then_some row_at (parts_at name rest) t found (λ terms parsed row.
-    let parts : PartsOf name rest terms = parts_take name rest terms parsed in
-    let made : StatementOf line (statement_tokens name parts.parts) (record { line = line; name = name; term = t }) = definition_is line name parts.parts terms t is parts.fine parts.told row in
-    let here : StatementOf line (leaf (Run (codes "define")) ∷ leaf (Run name) ∷ rest) (record { line = line; name = name; term = t }) =
-    subst (λ (z : List Token). StatementOf line (leaf (Run (codes "define")) ∷ leaf (Run name) ∷ z) (record { line = line; name = name; term = t })) (sym parts.spelled) made in
-    subst (λ (z : Statement). StatementOf line (leaf (Run (codes "define")) ∷ leaf (Run name) ∷ rest) z) same here)))
+    (λ is some. map_some _ (whole_at name rest) s some (λ t found same.
+    subst (λ (z : Statement). StatementOf line (leaf (Run (codes "define")) ∷ leaf (Run name) ∷ rest) z) same (definition_is line name rest t is (whole_takes name rest t found))))
     (λ _ none. absurd cc)
 
 statement_takes : (line : ℕ) (tokens : List Token) (s : Statement) → statement_at line tokens ≡ Some s → StatementOf line tokens s
@@ -166,18 +96,12 @@ statement_takes line tokens s e = then_some _ (run_before tokens) s e (λ x firs
     subst (λ (z : List Token). StatementOf line z s) (sym spelled) (definition_takes line y.0 y.1 s last)))
     (λ _ none. absurd cc))
 
-definition_again : (line : ℕ) (s : Statement) (first : Part) (more : List Part) → is_name s.name ≡ true → All (IsPart s.name) (first ∷ more) → s.term ≡ row_term (part_term first) (map part_term more) → s.line ≡ line
-    → definition_at line s.name (parts_then (first ∷ more) (Semicolon ∷ [])) ≡ Some s
-definition_again line s first more name leaves means line_is =
-    let parts : parts_at s.name (parts_then (first ∷ more) (Semicolon ∷ [])) ≡ Some (map part_term (first ∷ more)) = parts_again s.name (first ∷ more) leaves in
-    ap (λ b. cond b (option_map (λ t. record { line = line; name = s.name; term = t }) (option_and_then row_at (parts_at s.name (parts_then (first ∷ more) (Semicolon ∷ []))))) None) name
-    ∙ ap (λ o. option_map (λ t. record { line = line; name = s.name; term = t }) (option_and_then row_at o)) parts
+statement_again : (line : ℕ) (s : Statement) (tree : Tree s.name) → is_name s.name ≡ true → s.term ≡ tree_term s.name tree → s.line ≡ line → statement_at line (statement_tokens s.name tree) ≡ Some s
+statement_again line s tree name means line_is =
+    ap (λ b. cond b (option_map (λ t. record { line = line; name = s.name; term = t }) (whole_at s.name (put_tree s.name tree (operator Semicolon ∷ [])))) None) name
+    ∙ ap (option_map (λ t. record { line = line; name = s.name; term = t })) (whole_again s.name tree)
     ∙ ap (λ t. Some (record { line = line; name = s.name; term = t })) (sym means)
     ∙ ap (λ l. Some (record { line = l; name = s.name; term = s.term })) (sym line_is)
-
-statement_again : (line : ℕ) (s : Statement) (first : Part) (more : List Part) → is_name s.name ≡ true → All (IsPart s.name) (first ∷ more) → s.term ≡ row_term (part_term first) (map part_term more) → s.line ≡ line
-    → statement_at line (statement_tokens s.name (first ∷ more)) ≡ Some s
-statement_again line s first more name leaves means line_is = definition_again line s first more name leaves means line_is
 
 -- Texts.
 
@@ -200,11 +124,9 @@ read_takes text s e = if_cases (nat_le (length text) 4096) _ _ _ e
       short = short_enough text is;
       blanks = list_all-taken is_blank text;
       tokens = whole.apart;
-      first = told.first;
-      more = told.more;
+      tree = told.tree;
       told = whole.told ∙ told.told;
       name = told.name;
-      leaves = told.leaves;
       means = told.means;
       line = told.line_is;
     }))
@@ -221,7 +143,7 @@ read_again text s r =
     ap (λ b. cond b (option_and_then (statement_at (newlines (taken is_blank text) + 1)) (tokens_of (left is_blank text))) None) (is_short text r.short)
     ∙ ap (λ rest. option_and_then (statement_at (newlines (taken is_blank text) + 1)) (tokens_of rest)) behind
     ∙ ap (option_and_then (statement_at (newlines (taken is_blank text) + 1))) (tokens ∙ ap Some r.told)
-    ∙ statement_again (newlines (taken is_blank text) + 1) s r.first r.more r.name r.leaves r.means line
+    ∙ statement_again (newlines (taken is_blank text) + 1) s r.tree r.name r.means line
 
 -- a text is read as one statement at most
 pub one_statement : (text : List ℕ) (s t : Statement) → ReadsAs text s → ReadsAs text t → s ≡ t

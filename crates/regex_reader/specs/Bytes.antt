@@ -1,6 +1,6 @@
 -- Bytes of a text and what they may stand in (Beesley and Karttunen, Finite State Morphology, 2003,
 -- chapter 2). A text is the list of its bytes.
-use Rattle.std.specs.Prelude.{ℕ, Bool, false, not, ◌&&◌, ◌||◌, ◌==◌, nat_lt, nat_le, List, [], ◌∷◌, length, codes}
+use Rattle.std.specs.Prelude.{ℕ, Bool, false, not, ◌&&◌, ◌||◌, ◌==◌, ◌+◌, ◌-◌, ◌*◌, nat_lt, nat_le, List, [], ◌∷◌, length, codes}
 use Rattle.std.specs.List.{list_any, list_all}
 use Rattle.regex_reader.specs.declared.bytes.ByteClass.{ByteClass}
 use Rattle.regex_reader.specs.declared.bytes.ByteClass.TheVariants.{Blank, Run, Quoted, Braced, Feature}
@@ -44,6 +44,19 @@ is_of Run = is_run_byte
 is_of Quoted = is_quoted_byte
 is_of Braced = is_braced_byte
 is_of Feature = is_feature_byte
+
+-- digits, one at least
+abbrev pub is_number : List ℕ → Bool
+is_number [] = false
+is_number (c ∷ cs) = list_all is_digit (c ∷ cs)
+
+-- the number that decimal digits say, where those before them said n
+abbrev pub number_behind : ℕ → List ℕ → ℕ
+number_behind n [] = n
+number_behind n (c ∷ cs) = number_behind (10 * n + (c - 48)) cs
+
+abbrev pub number_of : List ℕ → ℕ
+number_of digits = number_behind 0 digits
 
 -- the list has a first element, and it passes
 abbrev pub begins : {X : Type 0} → (X → Bool) → List X → Bool

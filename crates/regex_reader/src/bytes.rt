@@ -1,6 +1,6 @@
 ghost use Rattle.std.specs.Prelude.{◌≡◌, IfOk, IsTrue, not, ◌||◌};
 ghost use Rattle.std.specs.List.{list_all, prefix_len};
-ghost use Rattle.regex_reader.specs.Bytes.{is_of, is_run_byte, is_digit, is_letter, is_name, is_printable, begins};
+ghost use Rattle.regex_reader.specs.Bytes.{is_of, is_run_byte, is_digit, is_letter, is_name, is_number, is_printable, begins};
 ghost use Rattle.regex_reader.specs.Reading.{taken, left};
 
 use fsm_base::Text;
@@ -105,6 +105,19 @@ pub fn has_no_digit(text: &[u8]) -> bool
     ensures { result ≡ list_all (λ c. not (is_digit c)) text.now }
 {
     text.iter().all(|byte| !byte.is_ascii_digit())
+}
+
+/// Whether the text is digits, one at least.
+pub fn is_number(text: &[u8]) -> bool
+    ensures { result ≡ is_number text.now }
+{
+    !text.is_empty() && has_only_digits(text)
+}
+
+fn has_only_digits(text: &[u8]) -> bool
+    ensures { result ≡ list_all is_digit text.now }
+{
+    text.iter().all(|byte| byte.is_ascii_digit())
 }
 
 /// The text of printable bytes.

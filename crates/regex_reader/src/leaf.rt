@@ -3,9 +3,8 @@ ghost use Rattle.std.specs.List.{list_all};
 ghost use Rattle.regex_ast.specs.Terms.{term};
 ghost use Rattle.regex_ast.specs.declared.expr.Raw.TheVariants.{Quoted as quoted_symbol};
 ghost use Rattle.regex_reader.specs.Bytes.{is_braced_byte};
-ghost use Rattle.regex_reader.specs.Form.{is_token, leaf_term};
+ghost use Rattle.regex_reader.specs.Form.{leaf_term};
 ghost use Rattle.regex_reader.specs.Reading.{is_leaf};
-ghost use Rattle.regex_reader.specs.declared.token.Token.TheVariants.{Leaf as leaf_token};
 
 use crate::bytes::{has_no_digit, text_of};
 use crate::flag::is_flag;
@@ -32,43 +31,42 @@ fn is_letter_run(name: &str, run: &str) -> bool
 }
 
 /// The expression of a leaf.
-pub fn leaf_expr(alloc: Global, leaf: Leaf) -> Result<Expr<Raw>, AllocError>
-    requires { IsTrue (is_token (leaf_token leaf)) }
-    ensures { IfOk result (λ expr. term expr ≡ leaf_term leaf) }
+pub fn leaf_expr(alloc: Global, leaf: &Leaf) -> Result<Expr<Raw>, AllocError>
+    ensures { IfOk result (λ expr. term expr ≡ leaf_term leaf.now) }
 {
     match leaf {
-        Leaf::Run(run) => Ok(run_expr(run)),
-        Leaf::Quoted(symbol) => Ok(quoted_expr(symbol)),
-        Leaf::Braced(text) => braced_expr(alloc, text.as_str()),
+        Leaf::Run(run) => run_expr(run),
+        Leaf::Quoted(symbol) => quoted_expr(symbol),
+        Leaf::Braced(text) => braced_expr(alloc, text.as_bytes()),
     }
 }
 
-fn run_expr(run: Text) -> Expr<Raw>
-    ensures { term result ≡ leaf_term (Leaf.Run run) }
+fn run_expr(run: &Text) -> Result<Expr<Raw>, AllocError>
+    ensures { IfOk result (λ expr. term expr ≡ leaf_term (Leaf.Run run.now)) }
 {
     if run.as_str() == "0" {
-        return Expr::Empty;
+        return Ok(Expr::Empty);
     }
-    Expr::Atom(Raw::Run(run))
+    Ok(Expr::Atom(Raw::Run(run.clone()?)))
 }
 
-fn quoted_expr(symbol: Text) -> Expr<Raw>
-    ensures { term result ≡ leaf_term (Leaf.Quoted symbol) }
+fn quoted_expr(symbol: &Text) -> Result<Expr<Raw>, AllocError>
+    ensures { IfOk result (λ expr. term expr ≡ leaf_term (Leaf.Quoted symbol.now)) }
 {
     if symbol.as_str().is_empty() {
-        return Expr::Empty;
+        return Ok(Expr::Empty);
     }
-    Expr::Atom(Raw::Quoted(symbol))
+    Ok(Expr::Atom(Raw::Quoted(symbol.clone()?)))
 }
 
-fn braced_expr(alloc: Global, text: &str) -> Result<Expr<Raw>, AllocError>
+fn braced_expr(alloc: Global, text: &[u8]) -> Result<Expr<Raw>, AllocError>
     requires { IsTrue (list_all is_braced_byte text.now) }
     ensures { IfOk result (λ expr. term expr ≡ leaf_term (Leaf.Braced text.now)) }
 {
     if text.is_empty() {
         return Ok(Expr::Empty);
     }
-    Ok(Expr::Letters(letters(alloc, text.as_bytes())?))
+    Ok(Expr::Letters(letters(alloc, text)?))
 }
 
 /// Each byte as a symbol.

@@ -5,14 +5,14 @@ ghost use Rattle.regex_reader.specs.Reading.{token_at, tokens_of, run_at, closed
 ghost use Rattle.regex_reader.specs.declared.token.Leaf.TheVariants.{Quoted, Braced};
 
 use crate::bytes::{ByteClass, split, text_of};
-use crate::token::{Leaf, Token, Tokens};
+use crate::token::{BracedText, Leaf, Token, operator_of};
 use std::alloc::{AllocError, Global};
 
 /// The tokens of a text that begins with none of the blanks; `None` where at some place no token begins.
-pub fn tokens(alloc: Global, text: &[u8]) -> Result<Option<Tokens>, AllocError>
-    ensures { IfOk result (λ found. found ≡ tokens_of text.now) }
+pub fn tokens(alloc: Global, text: &[u8]) -> Result<Option<Vec<Token>>, AllocError>
+    ensures { IfOk result (λ found. option_map (λ tokens. tokens.items) found ≡ tokens_of text.now) }
 {
-    let mut found = Tokens::new(alloc);
+    let mut found = Vec::new(alloc);
     let mut rest = text;
     'tokens: while !rest.is_empty() {
         let Some((token, behind)) = token(alloc, rest)? else {
@@ -31,9 +31,10 @@ fn token(alloc: Global, text: &[u8]) -> Result<Option<(Token, &[u8])>, AllocErro
     let Some((first, behind)) = text.split_first() else {
         return Ok(None);
     };
+    if let Some(operator) = operator_of(*first) {
+        return Ok(Some((Token::Operator(operator), behind)));
+    }
     match *first {
-        b':' => Ok(Some((Token::Colon, behind))),
-        b';' => Ok(Some((Token::Semicolon, behind))),
         b'"' => quoted(alloc, behind),
         b'{' => braced(alloc, behind),
         _ => run(alloc, text),
@@ -58,7 +59,7 @@ fn braced(alloc: Global, text: &[u8]) -> Result<Option<(Token, &[u8])>, AllocErr
     let Some(behind) = behind_byte(end, b'}') else {
         return Ok(None);
     };
-    let text = text_of(alloc, inner)?;
+    let text = BracedText::of(alloc, inner)?;
     Ok(Some((Token::Leaf(Leaf::Braced(text)), behind)))
 }
 

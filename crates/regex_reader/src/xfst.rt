@@ -16,8 +16,16 @@ const MOST_BYTES: usize = 4096;
 /// chapters 2 and 3).
 ///
 /// The text has at most 4,096 bytes, each a tab, a newline or a printable ASCII character, and no comment. NAME is
-/// a letter and at most 63 more letters and digits. E is one or more parts side by side, each a leaf or two leaves
-/// with `:` between. A leaf is a run of characters other than blanks, digits, operators and brackets, or the run
+/// a letter and at most 63 more letters and digits. E is built by these levels, tightest first:
+///
+/// - a leaf, `[ ]` (the empty string), `[E]`, `(E)`;
+/// - `A:B` of two leaves;
+/// - suffixes `*`, `+` and `^n`, where n is a run of digits of at most 255;
+/// - concatenation, by standing side by side;
+/// - `|`.
+///
+/// Operators of one level in a row form one node, and a row of one operand is its operand. At most 16 brackets are
+/// open round a token. A leaf is a run of characters other than blanks, digits, operators and brackets, or the run
 /// `0`; or a text in quotes; or a text in braces. No leaf has a `%`, no run in E is NAME and no quoted text is a
 /// flag.
 ///
@@ -65,7 +73,7 @@ fn definition(alloc: Global, text: &[u8]) -> Result<Option<Define<Raw>>, AllocEr
     let Some(tokens) = tokens(alloc, behind)? else {
         return Ok(None);
     };
-    statement(alloc, line, tokens)
+    statement(alloc, line, &tokens)
 }
 
 /// The line that is reached behind a text, counted from 1.
@@ -79,42 +87,6 @@ fn line_behind(text: &[u8]) -> u32
 #[cfg(test)]
 mod tests {
     use super::*;
-    use regex_ast::Expr;
-
-    fn leaf(alloc: Global, expr: &Expr<Raw>) -> Result<String, AllocError> {
-        match expr {
-            Expr::Empty => format!(in alloc; "empty"),
-            Expr::Atom(Raw::Run(run)) => format!(in alloc; "run {}", run.as_str()),
-            Expr::Atom(Raw::Quoted(symbol)) => format!(in alloc; "quoted {}", symbol.as_str()),
-            Expr::Letters(letters) => format!(in alloc; "letters {}", letters.len()),
-            _ => format!(in alloc; "other"),
-        }
-    }
-
-    fn part(alloc: Global, expr: &Expr<Raw>) -> Result<String, AllocError> {
-        match expr {
-            Expr::Cross(upper, lower) => {
-                let upper = leaf(alloc, upper)?;
-                let lower = leaf(alloc, lower)?;
-                format!(in alloc; "({upper} : {lower})")
-            }
-            other => leaf(alloc, other),
-        }
-    }
-
-    fn whole(alloc: Global, expr: &Expr<Raw>) -> Result<String, AllocError> {
-        let mut shown = String::new(alloc);
-        match expr {
-            Expr::Concat(parts) => {
-                for each in parts.iter() {
-                    shown.push_str(&part(alloc, each)?)?;
-                    shown.push_str(", ")?;
-                }
-            }
-            other => shown.push_str(&part(alloc, other)?)?,
-        }
-        Ok(shown)
-    }
 
     /// The definition's name, line and expression, or the fault.
     fn shown(alloc: Global, text: &str) -> Result<String, AllocError> {
@@ -122,11 +94,11 @@ mod tests {
             Ok(defines) => {
                 let mut shown = String::new(alloc);
                 for define in defines.iter() {
-                    let expr = whole(alloc, &define.expr)?;
                     shown.push_str(&format!(in alloc;
-                        "{} {} = {expr}",
+                        "{} {} = {:?}",
                         define.line,
-                        define.name.as_str()
+                        define.name.as_str(),
+                        define.expr
                     )?)?;
                 }
                 Ok(shown)
@@ -141,20 +113,21 @@ mod tests {
         let alloc = rt.alloc();
         for (text, want) in [
             (
-                "define N {cat} \"+N\":0 ;",
-                "1 N = letters 3, (quoted +N : empty), ",
+                "define N a \"+N\":{} ;",
+                "1 N = Concat([Atom(Run(Text { inner: \"a\" })), Cross(Atom(Quoted(Text { inner: \"+N\" })), Empty)])",
             ),
-            ("define N a:b c ;", "1 N = (run a : run b), run c, "),
-            ("\n\t \ndefine\tN\na ;\n", "3 N = run a"),
             (
-                "define N\"a\"{}\"\":0;",
-                "1 N = quoted a, empty, (empty : empty), ",
+                "\n\t \ndefine\tN\n{a};\n",
+                "3 N = Letters([Quoted(Text { inner: \"a\" })])",
             ),
-            ("define define0 define;", "1 define0 = run define"),
-            ("define N 0 ;", "1 N = empty"),
+            ("define N [ ] ;", "1 N = Empty"),
             (
-                "define N \"@P.a@\" {@P.a.b@};",
-                "1 N = quoted @P.a@, letters 7, ",
+                "define N 0:0* {}+^007|(0 0)|[0];",
+                "1 N = Chain(Concat([Suffixed(Cross(Empty, Empty), [Star]), Suffixed(Empty, [Plus, Power(7)])]), [Or(Maybe(Concat([Empty, Empty]))), Or(Group(Empty))])",
+            ),
+            (
+                "define N [0|0]0*;",
+                "1 N = Concat([Group(Chain(Empty, [Or(Empty)])), Suffixed(Empty, [Star])])",
             ),
         ] {
             let got = shown(alloc, text)?;
@@ -170,37 +143,29 @@ mod tests {
             "",
             "define N a",
             "define N ;",
-            "define ;",
-            "defineN a ;",
-            "Define N a ;",
             "define N N ;",
-            "define N a N ;",
             "define N a1 ;",
-            "define N 00 ;",
             "define N %a ;",
-            "define N \"%\" ;",
-            "define N {a%b} ;",
             "define N a:b:c ;",
-            "define N a: ;",
             "define N :a ;",
-            "define N a : ;",
+            "define N [a]:b ;",
             "define N \"@P.a.b@\" ;",
-            "define N a \"@D.a@\" ;",
             "define N \"@N.a.b@\" ;",
-            "define N a ; ! end",
             "define N a ; b",
-            "define N a ;;",
-            "define N a ; define M b ;",
-            "define 1 a ;",
-            "define \"N\" a ;",
             "define N' a ;",
-            "define N \"a ;",
-            "define N {a ;",
             "define N {a\tb} ;",
-            "define N \"a\\\" ;",
-            "define N [a] ;",
             "define N é ;",
-            "define N a\r;",
+            "define N () ;",
+            "define N [a ;",
+            "define N a] ;",
+            "define N [a) ;",
+            "define N *a ;",
+            "define N a|;",
+            "define N a||b ;",
+            "define N a^256 ;",
+            "define N a^2b ;",
+            "define N a^ b ;",
+            "define N a^{2} ;",
         ] {
             let got = shown(alloc, text)?;
             assert_eq!(rt; got.as_str(), "0 NotBuilt", "at {text}");
@@ -208,27 +173,52 @@ mod tests {
         Ok(())
     }
 
+    /// Whether a text of these parts is read: so many `n` in its name, so many blanks at its end.
+    fn is_read(alloc: Global, name: u32, blanks: u32) -> Result<bool, AllocError> {
+        let mut text = String::from_str(alloc, "define ")?;
+        for _ in 0..name {
+            text.push('n')?;
+        }
+        text.push_str(" b ;")?;
+        for _ in 0..blanks {
+            text.push('\n')?;
+        }
+        Ok(read_xfst(alloc, &text).is_ok())
+    }
+
     #[test]
     fn keeps_the_limits(rt: HostRuntime) -> Result<(), AllocError> {
         let alloc = rt.alloc();
-        for (name, blanks, want) in [
-            (64, 4021, true),
-            (64, 4022, false),
-            (65, 0, false),
-            (1, 4084, true),
-            (1, 4085, false),
-        ] {
-            let mut text = String::from_str(alloc, "define ")?;
-            for _ in 0..name {
-                text.push('n')?;
-            }
-            text.push_str(" b ;")?;
-            for _ in 0..blanks {
-                text.push('\n')?;
-            }
-            let read = read_xfst(alloc, &text).is_ok();
-            assert_eq!(rt; read, want, "at {name} and {blanks}");
+        assert!(rt; is_read(alloc, 64, 4021)?);
+        assert!(rt; !is_read(alloc, 64, 4022)?);
+        assert!(rt; !is_read(alloc, 65, 0)?);
+        assert!(rt; is_read(alloc, 1, 4084)?);
+        assert!(rt; !is_read(alloc, 1, 4085)?);
+        Ok(())
+    }
+
+    /// Whether a text is read, of so many opening and closing brackets with this between.
+    fn is_nested(alloc: Global, depth: u32, inner: &str) -> Result<bool, AllocError> {
+        let mut text = String::from_str(alloc, "define N ")?;
+        for _ in 0..depth {
+            text.push('[')?;
         }
+        text.push_str(inner)?;
+        for _ in 0..depth {
+            text.push(']')?;
+        }
+        text.push(';')?;
+        Ok(read_xfst(alloc, &text).is_ok())
+    }
+
+    #[test]
+    fn opens_16_brackets(rt: HostRuntime) -> Result<(), AllocError> {
+        let alloc = rt.alloc();
+        assert!(rt; is_nested(alloc, 16, "a")?);
+        assert!(rt; !is_nested(alloc, 17, "a")?);
+        assert!(rt; is_nested(alloc, 17, "")?);
+        assert!(rt; !is_nested(alloc, 18, "")?);
+        assert!(rt; !is_nested(alloc, 16, "(a)")?);
         Ok(())
     }
 }

@@ -1,5 +1,6 @@
-use Rattle.regex_reader.proofs.Tokens.{printable_braced}
+use Rattle.regex_reader.specs.Bytes.{is_braced_byte}
+use Rattle.regex_reader.proofs.Lists.{list_all-taken}
 use Rattle.regex_reader.proofs.lexer.braced.Goals as goal
 
-pub text_of-requires : goal.text_of-requires
-text_of-requires c = rw c.split.ensures.front (printable_braced c.args.text.now)
+pub of-requires : goal.of-requires
+of-requires c = rw c.split.ensures.front (list_all-taken is_braced_byte c.args.text.now)

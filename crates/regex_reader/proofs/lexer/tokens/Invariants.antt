@@ -3,7 +3,7 @@ use Rattle.regex_reader.proofs.Texts.{TokensSoFar}
 use Rattle.regex_reader.proofs.lexer.tokens.Given as goal
 
 abbrev pub invariant-tokens : goal.invariant-tokens
-invariant-tokens l = TokensSoFar l.text l.found l.rest
+invariant-tokens l = TokensSoFar l.text l.found.items l.rest
 
 abbrev pub decreases-tokens : goal.decreases-tokens
 decreases-tokens l = length l.rest
