@@ -28,10 +28,10 @@ module _ (way : Way) where
     ],
   )
 
-  pub AreMoves-more : (edges : List (Edge Pair)) (i : ℕ) (e : Edge Pair) (moves : List Move) (move : Move) → i < length edges → e ≡ get_or edges i e → move ≡ move_of way e → AreMoves way (take i edges) moves → AreMoves way (take (i + 1) edges) (moves ++ move ∷ [])
-  AreMoves-more edges i e moves move within at is are =
-      subst (λ es. AreMoves way es (moves ++ move ∷ [])) (sym (take_more edges i e within ∙ ap (λ y. take i edges ++ y ∷ []) (sym at)))
-      (AreMoves-push (take i edges) moves e move is are)
+  pub AreMoves-more : (edges : List (Edge Pair)) (i : ℕ) (d : Edge Pair) (moves : List Move) (move : Move) → i < length edges → move ≡ move_of way (get_or edges i d) → AreMoves way (take i edges) moves → AreMoves way (take (i + 1) edges) (moves ++ move ∷ [])
+  AreMoves-more edges i d moves move within is are =
+      subst (λ es. AreMoves way es (moves ++ move ∷ [])) (sym (take_more edges i d within))
+      (AreMoves-push (take i edges) moves (get_or edges i d) move is are)
 
   pub AreMoves-all : (edges : List (Edge Pair)) (i : ℕ) (moves : List Move) → length edges ≤ i → AreMoves way (take i edges) moves → AreMoves way edges moves
   AreMoves-all edges i moves past are = subst (λ es. AreMoves way es moves) (take_all i edges past) are

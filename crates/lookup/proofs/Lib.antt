@@ -1,2 +1,4 @@
 pub mod Spots
 pub mod Along
+pub mod Adding
+pub mod Stepping

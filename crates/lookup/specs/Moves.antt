@@ -1,10 +1,10 @@
 -- The moves of a transducer: an edge read on one side and written on the other (Beesley and Karttunen, Finite State
 -- Morphology, 2003, section 1.6, on looking up and looking down).
-use Rattle.std.specs.Prelude.{◌≡◌, ◌↔◌, ◌<◌, ℕ, List, Option, Contains, length}
+use Rattle.std.specs.Prelude.{◌≡◌, ◌↔◌, List, Option, Some, Contains}
 use Rattle.std.specs.Option.{option_and_then}
 use Rattle.fsm_base.specs.declared.letters.Sym.{Sym}
 use Rattle.fsm_base.specs.declared.letters.Pair.{Pair}
-use Rattle.fsa.specs.Automaton.{Automaton}
+use Rattle.fsa.specs.Automaton.{Automaton, UsesLetter}
 use Rattle.fsa.specs.declared.automaton.Edge.{Edge}
 use Rattle.lookup.specs.Relation.{IsRelated}
 use Rattle.lookup.specs.declared.moves.Way.{Way}
@@ -36,3 +36,7 @@ move_of way e = record {
 -- the moves along these edges, and no others
 abbrev pub AreMoves : Way → List (Edge Pair) → List Move → Type 0
 AreMoves way edges moves = (move : Move) → Contains moves move ↔ ((e : Edge Pair) × Contains edges e × (move ≡ move_of way e))
+
+-- the network may write the symbol
+abbrev pub IsWritten : Way → Automaton Pair → Sym → Type 0
+IsWritten way m symbol = (pair : Pair) × UsesLetter m pair × (written_on way pair ≡ Some symbol)
