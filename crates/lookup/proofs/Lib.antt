@@ -2,3 +2,5 @@ pub mod Spots
 pub mod Along
 pub mod Adding
 pub mod Stepping
+pub mod Exploring
+pub mod Paths

@@ -1,4 +1,4 @@
-ghost use Rattle.std.specs.Prelude.{◌≡◌, ◌<◌, ◌↔◌, List, Some, Contains, IfOk, OnOk, length};
+ghost use Rattle.std.specs.Prelude.{◌≡◌, ◌<◌, ◌↔◌, List, Some, true, Contains, IfOk, OnOk, IsTrue, length, slice_get};
 ghost use Rattle.fsm_base.specs.declared.letters.Sym.{Sym};
 ghost use Rattle.fsa.specs.declared.automaton.Edge.{Edge};
 ghost use Rattle.lookup_graph.specs.Graph.{IsWithin, Writes};
@@ -76,10 +76,12 @@ fn visit(
     let state = config.state;
     follow(table.out(Spot { state, read: None }), config.place, node, explored)?;
     let Some(symbol) = word.get(config.place) else {
-        return end(finals, state, node, explored);
+        end(finals, state, node, explored)?;
+        return Ok(());
     };
     let read = Some(*symbol);
-    follow(table.out(Spot { state, read }), config.place + 1, node, explored)
+    follow(table.out(Spot { state, read }), config.place + 1, node, explored)?;
+    Ok(())
 }
 
 /// Adds the steps along these moves, which lead to a place of the word.
@@ -107,8 +109,15 @@ fn end(
 ) -> Result<(), AllocError>
     ensures { OnOk result (AddsSteps (Ends finals.now state) node explored.old explored.new) }
 {
-    if let Some(true) = finals.get(state) {
+    if is_final(finals, state) {
         explored.add(node, None, None)?;
     }
     Ok(())
+}
+
+/// Whether a state is final.
+fn is_final(finals: &[bool], state: usize) -> bool
+    ensures { IsTrue result ↔ (slice_get finals.now state ≡ Some true) }
+{
+    finals.get(state).copied().unwrap_or(false)
 }

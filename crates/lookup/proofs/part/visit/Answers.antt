@@ -1,0 +1,14 @@
+use Rattle.std.proofs.Common.{◌≡◌, ◌≤◌, Some, length, rules}
+use Rattle.std.specs.List.{slice_get}
+use Rattle.lookup.proofs.Stepping.{visits_inside, visits_past}
+use Rattle.lookup.proofs.part.visit.Goals as goal
+
+pub returns-in_default : goal.returns-in_default
+returns-in_default c =
+    let past : length c.args.word.now ≤ c.args.config.place = search (rules, c.in_default.ensures.lookup) in
+    visits_past c.args.table.now c.args.finals.now c.args.word.now c.args.config c.out.result.now past c.out.ensures c.args.node c.args.explored.now c.follow.new.explored c.end.new.explored c.in_ok-follow.ensures c.in_ok-end.ensures
+
+pub returns : goal.returns
+returns c =
+    let at : slice_get c.args.word.now c.args.config.place ≡ Some c.in-Some.symbol.now = search (rules, c.in-Some.ensures.lookup) in
+    visits_inside c.args.table.now c.args.finals.now c.args.word.now c.args.config c.in-Some.symbol.now c.out.result.now c.out-2.result.now at c.out.ensures c.out-2.ensures c.args.node c.args.explored.now c.follow.new.explored c.follow-2.new.explored c.in_ok-follow.ensures c.in_ok-follow-2.ensures
