@@ -26,12 +26,17 @@ drop_first : (word : List Sym) (i : ℕ) (s : Sym) (rest : List Sym) → s ∷ r
 drop_first [] zero s rest e = cc
 drop_first [] (suc i) s rest e = cc
 drop_first (x ∷ word) zero s rest e = (let h : x ≡ s = cc in ap Some h, cc)
-drop_first (x ∷ word) (suc i) s rest e = drop_first word i s rest e
+drop_first (x ∷ word) (suc i) s rest e =
+    let n : suc i + 1 ≡ suc (i + 1) = omega arith in
+    let r = drop_first word i s rest e in
+    (r.0, r.1 ∙ ap (λ k. drop k (x ∷ word)) (sym n))
 
 first_drop : (word : List Sym) (i : ℕ) (s : Sym) → slice_get word i ≡ Some s → s ∷ drop (i + 1) word ≡ drop i word
 first_drop [] i s e = cc
 first_drop (x ∷ word) zero s e = let h : x ≡ s = same_Some x s e in ap (λ y. y ∷ word) (sym h)
-first_drop (x ∷ word) (suc i) s e = first_drop word i s e
+first_drop (x ∷ word) (suc i) s e =
+    let n : suc i + 1 ≡ suc (i + 1) = omega arith in
+    ap (λ k. s ∷ drop k (x ∷ word)) n ∙ first_drop word i s e
 
 -- the relation in either way, in the words of what is read and written
 pub related_by : (way : Way) (m : Automaton Pair) (word written : List Sym) → IsRelatedBy way m word written ↔ ((pairs : List Pair) × Accepts m pairs × (symbols_on (read_on way) pairs ≡ word) × (symbols_on (written_on way) pairs ≡ written))
@@ -60,25 +65,23 @@ module _ (way : Way) (m : Automaton Pair) (moves : List Move) (are : AreMoves wa
       let past : length word ≤ i = let e : 0 ≡ length (drop i word) = ap length is in let d = length-drop i word in omega arith in
       let r = explored.all k (record { place = i; state = q }) None None (slice_get_within reached.configs k _ at) at (refl, past, final) in
       (record { from = k + 1; letter = None; to = r.0 } ∷ [], (r.2, refl, r.1), refl)
-  writes {p} (read {q = q} {x = x} {w = w} held rest) k i at is = by (read_on way x) refl is (λ j place there e. writes rest j place there e)
+  writes {q = p} (read {q = q} {x = x} {w = w} held rest) k i at is = by (read_on way x) refl is (λ j place there e. writes rest j place there e)
     where
-      edge : Edge Pair
-      edge = record { from = p; letter = Some x; to = q }
-
       by : (r : Option Sym) → read_on way x ≡ r → option_to_list r ++ symbols_on (read_on way) w ≡ drop i word
           → ((j place : ℕ) → IsAt j place q → symbols_on (read_on way) w ≡ drop place word → Connects edges (j + 1) (symbols_on (written_on way) w) end)
           → Connects edges (k + 1) (option_to_list (written_on way x) ++ symbols_on (written_on way) w) end
-      unfolding edge
       by None none e on =
+          let edge : Edge Pair = record { from = p; letter = Some x; to = q } in
           step k i p (written_on way x) (record { place = i; state = q }) (symbols_on (written_on way) w) at
           (move_of way edge, (are (move_of way edge)).1 (edge, held, refl), refl, subst (λ r. Reads word r i i) (sym none) refl, refl, refl)
           (λ j there. on j i there e)
       by (Some s) some e on =
+          let edge : Edge Pair = record { from = p; letter = Some x; to = q } in
           let r = drop_first word i s (symbols_on (read_on way) w) e in
           step k i p (written_on way x) (record { place = i + 1; state = q }) (symbols_on (written_on way) w) at
           (move_of way edge, (are (move_of way edge)).1 (edge, held, refl), refl, subst (λ r. Reads word r i (i + 1)) (sym some) (r.0, refl), refl, refl)
           (λ j there. on j (i + 1) there r.1)
-  writes {p} (skip {q = q} {w = w} held rest) k i at is =
+  writes {q = p} (skip {q = q} {w = w} held rest) k i at is =
       let edge : Edge Pair = record { from = p; letter = None; to = q } in
       step k i p None (record { place = i; state = q }) (symbols_on (written_on way) w) at
       (move_of way edge, (are (move_of way edge)).1 (edge, held, refl), refl, refl, refl, refl)

@@ -1,4 +1,5 @@
-use Rattle.std.proofs.Common.{◌≡◌, ◌≤◌, Some, length, rules}
+use Rattle.std.proofs.Common.{◌≡◌, ◌≤◌, Some, length, rules, ap, sym, ◌∙◌}
+use Rattle.std.proofs.lemmas.Option.{slice_get-get_or}
 use Rattle.std.specs.List.{slice_get}
 use Rattle.lookup.proofs.Stepping.{visits_inside, visits_past}
 use Rattle.lookup.proofs.part.visit.Goals as goal
@@ -10,5 +11,6 @@ returns-in_default c =
 
 pub returns : goal.returns
 returns c =
-    let at : slice_get c.args.word.now c.args.config.place ≡ Some c.in-Some.symbol.now = search (rules, c.in-Some.ensures.lookup) in
+    let found = c.in-Some.ensures.lookup in
+    let at : slice_get c.args.word.now c.args.config.place ≡ Some c.in-Some.symbol.now = slice_get-get_or c.args.word.now c.args.config.place c.in-Some.symbol.now found.3.0 ∙ ap Some (sym found.1) in
     visits_inside c.args.table.now c.args.finals.now c.args.word.now c.args.config c.in-Some.symbol.now c.out.result.now c.out-2.result.now at c.out.ensures c.out-2.ensures c.args.node c.args.explored.now c.follow.new.explored c.follow-2.new.explored c.in_ok-follow.ensures c.in_ok-follow-2.ensures
