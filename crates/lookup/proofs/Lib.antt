@@ -4,3 +4,5 @@ pub mod Adding
 pub mod Stepping
 pub mod Exploring
 pub mod Paths
+pub mod AnswerKinds
+pub mod Rounds

@@ -1,4 +1,6 @@
 pub mod Relation
+pub mod Answering
+pub mod OneKind
 pub mod Moves
 pub mod Sorted
 pub mod Nets
