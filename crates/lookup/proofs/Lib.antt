@@ -6,3 +6,4 @@ pub mod Exploring
 pub mod Paths
 pub mod AnswerKinds
 pub mod Rounds
+pub mod Over

@@ -48,11 +48,9 @@ fn network(
 ) -> Result<Net, AllocError>
     ensures { IfOk result (IsOverAlphabet alphabet.now) }
 {
-    let mut fsa = Fsa::new(alloc)?;
-    while fsa.states() <= last {
-        fsa.add_state()?;
-    }
-    fsa.set_final(last);
+    let mut finals = vec![in alloc; false; last]?;
+    finals.push(true)?;
+    let mut fsa = Fsa::of_states(alloc, finals);
     for (from, up, low, to) in rows {
         let pair = Pair { up: *up, low: *low };
         let edge = Edge {
