@@ -11,7 +11,7 @@ pub grow-requires-clause-within : goal.grow-requires-clause-within
 grow-requires-clause-within g c = within_turned c.args.edges.now c.in_ok-rows.rows c.in_ok-rows.ensures c.args.count c.requires.within
 
 pub loop-edge-preserved : goal.loop-edge-preserved
-loop-edge-preserved g c = ?
+loop-edge-preserved g c = free_more c.args.edges.now c.loop-edge.edge-index c.edge-item.result c.loop-edge-test.true c.edge-item.is c.loop-edge.invariant (rw c.in_default-3.is at c.in_ok-turn-2.ensures.none)
 
 pub returns-clause-none : goal.returns-clause-none
 returns-clause-none g c = free_all c.args.edges.now c.loop-edge.edge-index c.loop-edge-test.false c.loop-edge.invariant
