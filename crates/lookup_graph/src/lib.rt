@@ -10,6 +10,8 @@
 #![tactic(auto)]
 
 mod kept;
+mod levels;
+mod tree;
 mod turns;
 
 pub use kept::useful;
