@@ -14,7 +14,8 @@ use Rattle.fsm_words.proofs.Members.{Contains-map, Contains-map_cases}
 use Rattle.fsm_meaning.specs.Answers.{Answers, Found, IsLoop, Texts, times}
 use Rattle.fsa.specs.declared.automaton.Edge.{Edge}
 use Rattle.lookup_graph.specs.Graph.{Connects, IsPath, Writes, end, letters_of, start}
-use Rattle.lookup_graph.specs.Turns.{IsTurn}
+use Rattle.lookup_graph.specs.Turns.{IsTurn, rounds}
+use Rattle.lookup_graph.proofs.Turning.{goes_round}
 use Rattle.lookup_texts.specs.GraphTexts.{AreOf, GraphTexts}
 use Rattle.lookup.proofs.AnswerKinds.{Answers-same}
 
@@ -59,45 +60,20 @@ module _ (alphabet : List (Sym × List ℕ)) (edges : List (Edge Sym)) where
   pub connects_over : AreOf alphabet edges → (a b : ℕ) (w : List Sym) → Connects edges a w b → IsOver (symbols_of alphabet) w
   connects_over are a b w (path, is, letters) = subst (IsOver (symbols_of alphabet)) letters (path_over are path a b is)
 
-  path-append : (a b c : ℕ) (p q : List (Edge Sym)) → IsPath edges a p b → IsPath edges b q c → IsPath edges a (p ++ q) c
-  path-append a b c [] q h k = subst (λ x. IsPath edges x q c) (sym h) k
-  path-append a b c (e ∷ p) q (held, from, rest) k = (held, from, path-append e.to b c p q rest k)
-
-  letters-append : (p q : List (Edge Sym)) → letters_of (p ++ q) ≡ letters_of p ++ letters_of q
-  letters-append [] q = refl
-  letters-append (e ∷ p) q =
-      ap (λ w. option_to_list e.letter ++ w) (letters-append p q) ∙ sym (append_assoc (option_to_list e.letter) (letters_of p) (letters_of q))
-
-  connects-append : (a b c : ℕ) (u v : List Sym) → Connects edges a u b → Connects edges b v c → Connects edges a (u ++ v) c
-  connects-append a b c u v (p, hp, is) (q, hq, js) =
-      (p ++ q, path-append a b c p q hp hq, letters-append p q ∙ ap (λ w. w ++ letters_of q) is ∙ ap (λ w. u ++ w) js)
-
-  -- a word, so many times
-  rounds : ℕ → List Sym → List Sym
-  rounds zero w = []
-  rounds (suc m) w = w ++ rounds m w
-
   text-rounds : (m : ℕ) (w : List Sym) → text alphabet (rounds m w) ≡ times m (text alphabet w)
-  unfolding rounds
   text-rounds zero w = refl
   text-rounds (suc m) w = text-append alphabet w (rounds m w) ∙ ap (λ t. text alphabet w ++ t) (text-rounds m w)
-
-  goes : (node : ℕ) (w : List Sym) → Connects edges node w node → (m : ℕ) → Connects edges node (rounds m w) node
-  unfolding rounds
-  goes node w round zero = ([], refl, refl)
-  goes node w round (suc m) = connects-append node node node w (rounds m w) round (goes node w round m)
 
   pub turn_loops : IsAlphabet alphabet → AreOf alphabet edges → (before round after : List Sym) → IsTurn edges before round after → IsLoop (GraphTexts alphabet edges) (text alphabet before) (text alphabet round) (text alphabet after)
   turn_loops formed are before round after turn = record {
     goes_round = text_some alphabet formed round (connects_over are turn.node turn.node round turn.goes_round) turn.some;
     related = λ m.
-        let w : List Sym = before ++ rounds m round ++ after in
-        let writes : Writes edges w = connects-append start turn.node end (before ++ rounds m round) after
-            (connects-append start turn.node turn.node before (rounds m round) turn.comes (goes turn.node round turn.goes_round m)) turn.leaves in
+        let w : List Sym = before ++ (rounds m round ++ after) in
         let is : text alphabet w ≡ text alphabet before ++ times m (text alphabet round) ++ text alphabet after =
-            text-append alphabet (before ++ rounds m round) after
-            ∙ ap (λ t. t ++ text alphabet after) (text-append alphabet before (rounds m round) ∙ ap (λ t. text alphabet before ++ t) (text-rounds m round)) in
-        (spelled alphabet w, (w, writes, refl), sym is);
+            text-append alphabet before (rounds m round ++ after)
+            ∙ ap (λ t. text alphabet before ++ t) (text-append alphabet (rounds m round) after ∙ ap (λ t. t ++ text alphabet after) (text-rounds m round))
+            ∙ sym (append_assoc (text alphabet before) (times m (text alphabet round)) (text alphabet after)) in
+        (spelled alphabet w, (w, goes_round edges before round after turn m, refl), sym is);
   }
 
 -- an answer for a graph is one for the set of words that it writes

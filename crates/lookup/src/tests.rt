@@ -1,7 +1,6 @@
-ghost use Rattle.std.specs.Prelude.{◌≡◌, ◌⊎◌, Some, Contains, IfOk, IsTrue};
+ghost use Rattle.std.specs.Prelude.{◌≡◌, Some, Contains, IfOk, OnOk, IsTrue};
 ghost use Rattle.fsm_base.specs.Alphabet.{symbols_of};
 ghost use Rattle.fsm_base.specs.declared.letters.Sym.{Sym};
-ghost use Rattle.fsm_base.specs.declared.letters.Pair.{Pair};
 ghost use Rattle.lookup.specs.Answering.{IsOverAlphabet};
 
 use crate::{Answer, Net, down, one_kind, up};
@@ -39,7 +38,20 @@ fn has(alphabet: &Alphabet, side: Option<Sym>) -> bool
     }
 }
 
-// The network of these edges, of which the last state is final. Rows of other symbols or states are left out.
+// Adds an edge. One of other symbols or states is left out.
+fn add_row(fsa: &mut Fsa<Pair>, alphabet: &Alphabet, row: Row) -> Result<(), AllocError>
+    ensures { OnOk result (IsOverAlphabet alphabet.now fsa.old → IsOverAlphabet alphabet.now fsa.new) }
+{
+    let (from, up, low, to) = row;
+    if from.max(to) >= fsa.states() || !has(alphabet, up) || !has(alphabet, low) {
+        return Ok(());
+    }
+    let letter = Some(Pair { up, low });
+    fsa.add_edge(Edge { from, letter, to })?;
+    Ok(())
+}
+
+// The network of these edges, of which the last state is final.
 fn network(
     alloc: Global,
     alphabet: &Alphabet,
@@ -51,18 +63,11 @@ fn network(
     let mut finals = vec![in alloc; false; last]?;
     finals.push(true)?;
     let mut fsa = Fsa::of_states(alloc, finals);
-    for (from, up, low, to) in rows {
-        let pair = Pair { up: *up, low: *low };
-        let edge = Edge {
-            from: *from,
-            letter: Some(pair),
-            to: *to,
-        };
-        if has(alphabet, *up) && has(alphabet, *low) && edge.from <= last && edge.to <= last {
-            fsa.add_edge(edge)?;
-        }
+    'rows: for row in rows {
+        add_row(&mut fsa, alphabet, *row)?;
     }
-    Net::of(alloc, &fsa)
+    let net = Net::of(alloc, &fsa)?;
+    Ok(net)
 }
 
 // The answer in short: its texts with a bar behind each, or `+` for more, or a loop with its round in brackets.
