@@ -1,7 +1,7 @@
 -- Steps that are added, one call after another.
 use Rattle.std.proofs.Common.{◌≡◌, ℕ, ◌+◌, ◌<◌, ◌≤◌, ◌⊎◌, List, [], ◌∷◌, ◌++◌, Option, None, Some, length, get_or, take, refl, subst, sym, ap, inl, inr, ◌∙◌, append_assoc}
 use Rattle.std.specs.List.{Contains, slice_get}
-use Rattle.std.proofs.lemmas.List.{append-nil, take_more, take_all, take-append-drop}
+use Rattle.std.proofs.lemmas.List.{append-nil, take_more, take_all}
 use Rattle.std.proofs.lemmas.List.Elements.{Contains-push_cases, Contains-push, Contains-append_left}
 use Rattle.std.proofs.lemmas.Option.{slice_get_within}
 use Rattle.fsm_base.specs.declared.letters.Sym.{Sym}
@@ -44,9 +44,9 @@ AddsSteps-then P Q R node a b c split f g first second =
       kept = λ e h. second.kept e (first.kept e h);
       only = λ e h. elim (second.only e h) [
         | inl was ↦ elim (first.only e was) [
-            | inl earlier ↦ inl earlier
-            | inr r ↦ inr (r.0, (r.1.0, IsNode-more b.configs c.configs more is e.to r.1.0 r.1.1, f e.letter r.1.0 r.1.2))
-          ]
+          | inl earlier ↦ inl earlier
+          | inr r ↦ inr (r.0, (r.1.0, IsNode-more b.configs c.configs more is e.to r.1.0 r.1.1, f e.letter r.1.0 r.1.2))
+        ]
         | inr r ↦ inr (r.0, (r.1.0, r.1.1, g e.letter r.1.0 r.1.2))
       ];
       all = λ l t p. elim (split l t p) [
@@ -66,9 +66,9 @@ AddsSteps-one old new node to letter target found is_node is =
       only = λ e h. elim (Contains-push_cases old.edges edge e (subst (λ es. Contains es e) is h)) [
         | inl was ↦ inl was
         | inr same ↦ inr (
-            sym (ap (λ x. x.from) same),
-            (target, subst (λ n. IsNode new.configs n target) (ap (λ (x : Edge Sym). x.to) same) is_node, (sym (ap (λ x. x.letter) same), refl)),
-          )
+          sym (ap (λ x. x.from) same),
+          (target, subst (λ n. IsNode new.configs n target) (ap (λ (x : Edge Sym). x.to) same) is_node, (sym (ap (λ x. x.letter) same), refl)),
+        )
       ];
       all = λ l t (same_letter, same_target). (
         to,

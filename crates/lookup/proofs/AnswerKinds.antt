@@ -1,7 +1,7 @@
 -- Kinds of answers: a list that has all texts is shorter than no list of different ones, and a loop has texts that
 -- are longer than any bound. Sets that are the same have the same lawful answers.
-use Rattle.std.proofs.Common.{◌≡◌, ℕ, zero, suc, ◌+◌, ◌*◌, ◌<◌, ◌≤◌, ◌↔◌, List, [], ◌∷◌, ◌++◌, Bool, true, false, Some, All, length, get_or, refl, subst, sym, ap, inl, inr, arith, ◌∙◌, length-append, nat_eq, sum_by}
-use Rattle.std.specs.List.{Contains, slice_get}
+use Rattle.std.proofs.Common.{◌≡◌, ℕ, zero, suc, ◌+◌, ◌<◌, ◌≤◌, ◌↔◌, List, ◌++◌, Bool, true, false, Some, length, get_or, refl, subst, ap, arith, ◌∙◌, length-append, nat_eq, sum_by}
+use Rattle.std.specs.List.{Contains}
 use Rattle.std.specs.Cmp.Lexicographic.{pointwise, bytes_decides, nat_list_eq_equiv}
 use Rattle.std.proofs.lemmas.List.Elements.{All-get_or, All-weaker}
 use Rattle.std.proofs.lemmas.List.Sums.{get_or-le-sum_by}
@@ -9,7 +9,7 @@ use Rattle.std.proofs.lemmas.Map.Keys.{IsDistinct-from_apart}
 use Rattle.std.proofs.lemmas.Map.Made.{is_member-Decides, length-le_from_is_member}
 use Rattle.std.proofs.lemmas.Option.{slice_get-get_or}
 use Rattle.fsm_words.specs.Words.{IsDistinct}
-use Rattle.fsm_meaning.specs.Answers.{Answers, AreAll, AreMore, IsLoop, Found, strings, more, loop, most_answers, times}
+use Rattle.fsm_meaning.specs.Answers.{Answers, AreAll, AreMore, IsLoop, Found, strings, more, loop, times}
 use Rattle.lookup.specs.OneKind.{IsSameKind}
 
 -- different texts of a list are no more than its texts

@@ -1,14 +1,13 @@
 -- The search from the start: what each configuration that is looked at adds.
-use Rattle.std.proofs.Common.{◌≡◌, ℕ, ◌+◌, ◌<◌, ◌≤◌, ◌⊎◌, List, [], ◌∷◌, ◌++◌, Option, None, Some, length, refl, subst, sym, ap, inl, inr, arith, ◌∙◌}
+use Rattle.std.proofs.Common.{◌≡◌, ℕ, ◌+◌, ◌≤◌, List, [], ◌∷◌, ◌++◌, Option, Some, length, refl, subst, sym, ap, inl, inr, arith, ◌∙◌}
 use Rattle.std.specs.List.{Contains, slice_get}
 use Rattle.std.proofs.lemmas.Bool.{cases_lt}
 use Rattle.std.proofs.lemmas.Option.{slice_get_within}
 use Rattle.fsm_base.specs.declared.letters.Sym.{Sym}
 use Rattle.fsm_words.proofs.Members.{Contains-nil_cases}
 use Rattle.fsm_words.proofs.Places.{slice_get-append_left, same_at}
-use Rattle.fsa.specs.declared.automaton.Edge.{Edge}
 use Rattle.lookup.specs.declared.explored.Config.{Config}
-use Rattle.lookup.specs.Reached.{Reached, IsNode, AddsSteps, IsExplored}
+use Rattle.lookup.specs.Reached.{Reached, AddsSteps, IsExplored}
 use Rattle.lookup.proofs.Adding.{IsNode-more}
 
 module _ (P : Config → Option Sym → Option Config → Type 0) where

@@ -1,6 +1,6 @@
 -- The graph that was found writes just the words that the network relates to the word: its paths are the accepted
 -- lists of pairs that have the word on the side that is read.
-use Rattle.std.proofs.Common.{◌≡◌, ℕ, zero, suc, ◌+◌, ◌-◌, ◌<◌, ◌≤◌, ◌↔◌, List, [], ◌∷◌, ◌++◌, Bool, Option, None, Some, length, drop, refl, subst, sym, ap, arith, ◌∙◌, length-drop}
+use Rattle.std.proofs.Common.{◌≡◌, ℕ, zero, suc, ◌+◌, ◌<◌, ◌≤◌, ◌↔◌, List, [], ◌∷◌, ◌++◌, Option, None, Some, length, drop, refl, subst, sym, ap, arith, ◌∙◌, length-drop}
 use Rattle.std.specs.List.{Contains, slice_get}
 use Rattle.std.specs.Option.{option_to_list, option_and_then}
 use Rattle.std.proofs.lemmas.List.{drop_all}
@@ -9,14 +9,14 @@ use Rattle.fsm_base.specs.declared.letters.Sym.{Sym}
 use Rattle.fsm_base.specs.declared.letters.Pair.{Pair}
 use Rattle.fsm_words.proofs.Places.{same_at}
 use Rattle.fsa.specs.declared.automaton.Edge.{Edge}
-use Rattle.fsa.specs.Automaton.{Automaton, UsesLetter}
+use Rattle.fsa.specs.Automaton.{Automaton}
 use Rattle.fsa.specs.Language.{Accepts, AcceptsFrom, stop, read, skip}
 use Rattle.lookup_graph.specs.Graph.{Connects, IsPath, IsWithin, Writes, end, letters_of, start}
 use Rattle.lookup.specs.declared.explored.Config.{Config}
 use Rattle.lookup.specs.declared.moves.Move.{Move}
 use Rattle.lookup.specs.declared.moves.Way.{Way}
 use Rattle.lookup.specs.declared.moves.Way.TheVariants.{Up, Down}
-use Rattle.lookup.specs.Relation.{symbols_on, IsRelated}
+use Rattle.lookup.specs.Relation.{symbols_on}
 use Rattle.lookup.specs.Moves.{AreMoves, IsRelatedBy, IsWritten, move_of, read_on, written_on}
 use Rattle.lookup.specs.Reached.{Reached, IsNode, IsExplored}
 use Rattle.lookup.specs.Steps.{Reads, Steps}

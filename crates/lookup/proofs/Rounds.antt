@@ -1,6 +1,6 @@
 -- A turn of the graph is a loop of texts.
-use Rattle.std.proofs.Common.{◌≡◌, ℕ, zero, suc, ◌+◌, ◌<◌, ◌≤◌, ◌↔◌, List, [], ◌∷◌, ◌++◌, Option, None, Some, All, length, map, refl, subst, sym, ap, arith, ◌∙◌, append_assoc, length-append}
-use Rattle.std.specs.List.{Contains, slice_get}
+use Rattle.std.proofs.Common.{◌≡◌, ℕ, zero, suc, ◌<◌, ◌↔◌, List, [], ◌∷◌, ◌++◌, Option, None, Some, length, refl, subst, sym, ap, arith, ◌∙◌, append_assoc, length-append}
+use Rattle.std.specs.List.{Contains}
 use Rattle.std.specs.Option.{option_to_list}
 use Rattle.std.proofs.lemmas.List.{map-append}
 use Rattle.std.proofs.lemmas.List.Elements.{All-nil, All-cons, All-head, All-contains}
@@ -13,7 +13,7 @@ use Rattle.fsm_words.proofs.Laws.{joined-append}
 use Rattle.fsm_words.proofs.Members.{Contains-map, Contains-map_cases}
 use Rattle.fsm_meaning.specs.Answers.{Answers, Found, IsLoop, Texts, times}
 use Rattle.fsa.specs.declared.automaton.Edge.{Edge}
-use Rattle.lookup_graph.specs.Graph.{Connects, IsPath, Writes, end, letters_of, start}
+use Rattle.lookup_graph.specs.Graph.{Connects, IsPath, Writes, letters_of}
 use Rattle.lookup_graph.specs.Turns.{IsTurn, rounds}
 use Rattle.lookup_graph.proofs.Turning.{goes_round}
 use Rattle.lookup_texts.specs.GraphTexts.{AreOf, GraphTexts}
@@ -70,9 +70,9 @@ module _ (alphabet : List (Sym × List ℕ)) (edges : List (Edge Sym)) where
     related = λ m.
         let w : List Sym = before ++ (rounds m round ++ after) in
         let is : text alphabet w ≡ text alphabet before ++ times m (text alphabet round) ++ text alphabet after =
-            text-append alphabet before (rounds m round ++ after)
-            ∙ ap (λ t. text alphabet before ++ t) (text-append alphabet (rounds m round) after ∙ ap (λ t. t ++ text alphabet after) (text-rounds m round))
-            ∙ sym (append_assoc (text alphabet before) (times m (text alphabet round)) (text alphabet after)) in
+        text-append alphabet before (rounds m round ++ after)
+        ∙ ap (λ t. text alphabet before ++ t) (text-append alphabet (rounds m round) after ∙ ap (λ t. t ++ text alphabet after) (text-rounds m round))
+        ∙ sym (append_assoc (text alphabet before) (times m (text alphabet round)) (text alphabet after)) in
         (spelled alphabet w, (w, goes_round edges before round after turn m, refl), sym is);
   }
 

@@ -1,6 +1,6 @@
 -- The steps from a configuration: along the moves that read nothing, and along those that read the symbol at its
 -- place, or to the end.
-use Rattle.std.proofs.Common.{◌≡◌, ℕ, ◌+◌, ◌<◌, ◌≤◌, ◌↔◌, ◌⊎◌, List, Bool, true, Option, None, Some, length, refl, subst, sym, ap, inl, inr, arith, ◌∙◌}
+use Rattle.std.proofs.Common.{◌≡◌, ℕ, ◌+◌, ◌≤◌, ◌↔◌, ◌⊎◌, List, Bool, Option, None, Some, length, refl, subst, sym, ap, inl, inr, arith, ◌∙◌}
 use Rattle.std.specs.List.{Contains, slice_get}
 use Rattle.std.proofs.lemmas.Option.{slice_get_within, same_Some}
 use Rattle.fsm_base.specs.declared.letters.Sym.{Sym}

@@ -1,5 +1,5 @@
 -- How a network is kept for look-ups: its edges and final states, and its moves in each way.
-use Rattle.std.specs.Prelude.{List, Bool}
+use Rattle.std.specs.Prelude.{List}
 use Rattle.fsm_base.specs.declared.letters.Pair.{Pair}
 use Rattle.fsa.specs.Automaton.{Automaton, IsWellFormed}
 use Rattle.lookup.specs.Moves.{AreMoves}

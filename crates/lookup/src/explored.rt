@@ -50,7 +50,6 @@ impl Explored {
         ensures count { result ≡ length self.now.configs }
         ensures small { result < 2 ^ 63 }
     {
-        let _ = &self.edges;
         self.configs.len()
     }
 
@@ -59,7 +58,6 @@ impl Explored {
         requires { number < length self.now.configs }
         ensures { slice_get self.now.configs number ≡ Some result }
     {
-        let _ = &self.edges;
         self.configs[number]
     }
 
@@ -86,10 +84,7 @@ impl Explored {
 }
 
 /// The node of a configuration, which is added where it isn't there, or the end for None.
-fn node_of(
-    configs: &mut IndexSet<Config>,
-    target: Option<Config>,
-) -> Result<usize, AllocError>
+fn node_of(configs: &mut IndexSet<Config>, target: Option<Config>) -> Result<usize, AllocError>
     ensures node { IfOk result (λ node. IsNode configs.new.keys node target) }
     ensures kept { OnOk result ((more : List Config) × (configs.new.keys ≡ configs.old.keys ++ more)) }
 {

@@ -21,12 +21,7 @@ use std::alloc::{AllocError, Global};
 ///
 /// Only the part of the network that the word reaches is looked at (Beesley and Karttunen, Finite State
 /// Morphology, 2003, section 1.6).
-pub fn up(
-    alloc: Global,
-    net: &Net,
-    alphabet: &Alphabet,
-    word: &[Sym],
-) -> Result<Answer, AllocError>
+pub fn up(alloc: Global, net: &Net, alphabet: &Alphabet, word: &[Sym]) -> Result<Answer, AllocError>
     requires { IsOverAlphabet alphabet.now net.now }
     ensures { IfOk result (λ answer. Answers (UpperTexts net.now alphabet.now word.now) (found_of answer)) }
 {

@@ -4,10 +4,12 @@ ghost use Rattle.lookup.specs.Moves.{move_of};
 use fsa::Edge;
 use fsm_base::{Pair, Sym};
 
-/// The way of a look: up reads the lower side and writes the upper one, down the other way round.
+/// The way of a look-up: which side of the edges is read. The other one is written.
 #[derive(Clone, Copy, Debug)]
 pub(crate) enum Way {
+    /// From a lower word to its upper words.
     Up,
+    /// From an upper word to its lower words.
     Down,
 }
 
@@ -15,14 +17,18 @@ pub(crate) enum Way {
 /// before the others.
 #[derive(Clone, Copy, Debug, PartialEq, Eq, PartialOrd, Ord)]
 pub(crate) struct Spot {
+    /// The state.
     pub(crate) state: usize,
+    /// The symbol, or None.
     pub(crate) read: Option<Sym>,
 }
 
-/// An edge, as a look takes it.
+/// An edge, as a look-up takes it.
 #[derive(Clone, Copy, Debug)]
 pub(crate) struct Move {
+    /// The state that is left, and the symbol that is read there.
     pub(crate) at: Spot,
+    /// The symbol that is written, or None.
     pub(crate) write: Option<Sym>,
     /// The state that is entered.
     pub(crate) to: usize,

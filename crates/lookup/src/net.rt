@@ -12,11 +12,13 @@ use std::marker::Model;
 /// A network, ready for look-ups. Contracts see the automaton that it was made of.
 #[derive(Debug, Drop)]
 pub struct Net {
+    /// The edges of the automaton, in their order. A look-up reads the moves instead.
     edges: Vec<Edge<Pair>>,
+    /// Whether each state is final.
     finals: Vec<bool>,
-    /// What a look up takes.
+    /// The moves of a look up.
     upward: Table,
-    /// What a look down takes.
+    /// The moves of a look down.
     downward: Table,
 }
 
@@ -49,7 +51,6 @@ impl Net {
     pub(crate) fn table(&self, way: Way) -> &Table
         ensures { AreMoves way self.now.edges result.now }
     {
-        let _ = &self.edges;
         match way {
             Way::Up => &self.upward,
             Way::Down => &self.downward,
@@ -60,7 +61,6 @@ impl Net {
     pub(crate) fn finals(&self) -> &[bool]
         ensures { result.now ≡ self.now.finals }
     {
-        let _ = &self.edges;
         &self.finals
     }
 }

@@ -24,12 +24,7 @@ pub(crate) struct Part {
 
 /// The part of a network that a word reaches. The graph writes just the words that the network relates to the
 /// word.
-pub(crate) fn part_of(
-    alloc: Global,
-    net: &Net,
-    way: Way,
-    word: &[Sym],
-) -> Result<Part, AllocError>
+pub(crate) fn part_of(alloc: Global, net: &Net, way: Way, word: &[Sym]) -> Result<Part, AllocError>
     ensures within { IfOk result (λ part. IsWithin part.edges.items part.count) }
     ensures start { IfOk result (λ part. 1 < part.count) }
     ensures symbols { IfOk result (λ part. (e : Edge Sym) (symbol : Sym) → Contains part.edges.items e → e.letter ≡ Some symbol → IsWritten way net.now symbol) }
@@ -73,14 +68,16 @@ fn visit(
 ) -> Result<(), AllocError>
     ensures { OnOk result (AddsSteps (Steps table.now finals.now word.now config) node explored.old explored.new) }
 {
-    let state = config.state;
-    follow(table.out(Spot { state, read: None }), config.place, node, explored)?;
-    let Some(symbol) = word.get(config.place) else {
+    let Config { place, state } = config;
+    let silent = table.out(Spot { state, read: None });
+    follow(silent, place, node, explored)?;
+    let Some(symbol) = word.get(place) else {
         end(finals, state, node, explored)?;
         return Ok(());
     };
     let read = Some(*symbol);
-    follow(table.out(Spot { state, read }), config.place + 1, node, explored)?;
+    let reading = table.out(Spot { state, read });
+    follow(reading, place + 1, node, explored)?;
     Ok(())
 }
 

@@ -48,11 +48,7 @@ impl Table {
 }
 
 /// The moves along these edges, in their order.
-fn moves_along(
-    alloc: Global,
-    way: Way,
-    edges: &[Edge<Pair>],
-) -> Result<Vec<Move>, AllocError>
+fn moves_along(alloc: Global, way: Way, edges: &[Edge<Pair>]) -> Result<Vec<Move>, AllocError>
     ensures { IfOk result (λ moves. AreMoves way edges.now moves.items) }
 {
     let mut moves = Vec::new(alloc);

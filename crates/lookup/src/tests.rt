@@ -10,9 +10,13 @@ use std::alloc::{AllocError, Global};
 use std::test::Fail;
 
 const NONE: Option<Sym> = None;
+
 const A: Option<Sym> = Some(Sym(0));
+
 const B: Option<Sym> = Some(Sym(1));
+
 const AB: Option<Sym> = Some(Sym(2));
+
 const C: Option<Sym> = Some(Sym(3));
 
 // An edge of a network: the state that it leaves, its upper and its lower symbol, and the state that it enters.
@@ -52,12 +56,7 @@ fn add_row(fsa: &mut Fsa<Pair>, alphabet: &Alphabet, row: Row) -> Result<(), All
 }
 
 // The network of these edges, of which the last state is final.
-fn network(
-    alloc: Global,
-    alphabet: &Alphabet,
-    last: usize,
-    rows: &[Row],
-) -> Result<Net, AllocError>
+fn network(alloc: Global, alphabet: &Alphabet, last: usize, rows: &[Row]) -> Result<Net, AllocError>
     ensures { IfOk result (IsOverAlphabet alphabet.now) }
 {
     let mut finals = vec![in alloc; false; last]?;
@@ -135,7 +134,12 @@ fn a_deleted_letter_loops(rt: HostRuntime) -> Result<(), Fail> {
 
 #[test]
 fn a_loop_on_another_path_is_none(rt: HostRuntime) -> Result<(), Fail> {
-    let rows = [(0, B, B, 2), (0, NONE, NONE, 1), (1, A, NONE, 1), (1, C, C, 2)];
+    let rows = [
+        (0, B, B, 2),
+        (0, NONE, NONE, 1),
+        (1, A, NONE, 1),
+        (1, C, C, 2),
+    ];
     assert_eq!(rt; ups(rt.alloc(), 2, &rows, &[Sym(1)])?.as_str(), "b|");
     Ok(())
 }

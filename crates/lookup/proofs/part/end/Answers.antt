@@ -1,6 +1,6 @@
 use Rattle.std.proofs.Common.{◌≡◌, None}
 use Rattle.lookup.specs.Steps.{Ends}
-use Rattle.lookup.proofs.Adding.{AddsSteps-none, AddsSteps-same}
+use Rattle.lookup.proofs.Adding.{AddsSteps-same}
 use Rattle.lookup.proofs.part.end.Goals as goal
 
 pub returns-in_ok-add : goal.returns-in_ok-add

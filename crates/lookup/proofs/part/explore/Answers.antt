@@ -1,5 +1,5 @@
 use Rattle.lookup.specs.Steps.{Steps}
-use Rattle.lookup.proofs.Exploring.{explored_none, explored_more, explored_all}
+use Rattle.lookup.proofs.Exploring.{explored_more}
 use Rattle.lookup.proofs.part.explore.Goals as goal
 
 pub configs-preserved : goal.configs-preserved

@@ -1,4 +1,4 @@
-use Rattle.lookup.proofs.Adding.{follows_more, follows_none, follows_all}
+use Rattle.lookup.proofs.Adding.{follows_more}
 use Rattle.lookup.proofs.part.follow.Goals as goal
 
 pub loop-m-preserved : goal.loop-m-preserved

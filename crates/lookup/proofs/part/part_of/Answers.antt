@@ -1,4 +1,4 @@
-use Rattle.std.proofs.Common.{length, sym, subst}
+use Rattle.std.proofs.Common.{length, subst}
 use Rattle.lookup.specs.Reached.{IsExplored}
 use Rattle.lookup.specs.Steps.{Steps}
 use Rattle.lookup.proofs.Paths.{part_words, part_within, part_symbols, part_start}

@@ -1,5 +1,3 @@
-use Rattle.std.proofs.Common.{get_or, subst, sym}
-use Rattle.lookup.specs.Moves.{AreMoves}
 use Rattle.lookup.proofs.Along.{AreMoves-more, AreMoves-all}
 use Rattle.lookup.proofs.table.moves_along.Goals as goal
 

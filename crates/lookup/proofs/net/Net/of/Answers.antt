@@ -1,4 +1,4 @@
-use Rattle.std.proofs.Common.{ap, sym, subst, ◌∙◌}
+use Rattle.std.proofs.Common.{sym, subst, ◌∙◌}
 use Rattle.fsa.specs.Automaton.{IsWellFormed}
 use Rattle.lookup.specs.Moves.{AreMoves}
 use Rattle.lookup.specs.declared.moves.Way.TheVariants.{Up, Down}

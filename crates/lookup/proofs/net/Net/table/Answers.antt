@@ -1,4 +1,4 @@
-use Rattle.std.proofs.Common.{ap, sym, subst, ◌∙◌}
+use Rattle.std.proofs.Common.{ap, sym, subst}
 use Rattle.lookup.specs.Moves.{AreMoves}
 use Rattle.lookup.specs.declared.moves.Way.TheVariants.{Up, Down}
 use Rattle.lookup.proofs.net.Net.table.Goals as goal
