@@ -1,5 +1,5 @@
 -- The texts that a look-up answers: those of the words that a network relates to a word (Beesley and Karttunen,
--- Finite State Morphology, 2003, section 1.6, on looking up and looking down).
+-- Finite State Morphology, 2003, chapter 1, on looking up and looking down).
 use Rattle.std.specs.Prelude.{◌≡◌, ◌⊎◌, ℕ, List, Some, Contains}
 use Rattle.fsm_base.specs.Alphabet.{spelled, symbols_of}
 use Rattle.fsm_base.specs.declared.letters.Sym.{Sym}

@@ -1,5 +1,5 @@
 -- The moves of a transducer: an edge read on one side and written on the other (Beesley and Karttunen, Finite State
--- Morphology, 2003, section 1.6, on looking up and looking down).
+-- Morphology, 2003, chapter 1, on looking up and looking down).
 use Rattle.std.specs.Prelude.{◌≡◌, ◌↔◌, List, Option, Some, Contains}
 use Rattle.std.specs.Option.{option_and_then}
 use Rattle.fsm_base.specs.declared.letters.Sym.{Sym}

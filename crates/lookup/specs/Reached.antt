@@ -1,5 +1,6 @@
--- The part of a network that a word reaches, as a graph: the configurations in the order in which they were found,
--- and an edge for each step. The configuration with the number k is the node k + 1.
+-- The part of a network that a word reaches, as a graph: the configurations in the order in which a search from the
+-- start finds them (Cormen, Leiserson, Rivest and Stein, Introduction to Algorithms, section 22.2), and an edge for
+-- each step. The configuration with the number k is the node k + 1.
 use Rattle.std.specs.Prelude.{◌≡◌, ◌<◌, ◌+◌, ◌++◌, ◌⊎◌, ℕ, List, Option, None, Some, Contains, slice_get}
 use Rattle.fsa.specs.declared.automaton.Edge.{Edge}
 use Rattle.fsm_base.specs.declared.letters.Sym.{Sym}

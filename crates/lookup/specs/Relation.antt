@@ -1,4 +1,4 @@
--- The relation of a network (Beesley and Karttunen, Finite State Morphology, 2003, section 1.6): the two sides of
+-- The relation of a network (Beesley and Karttunen, Finite State Morphology, 2003, chapter 1): the two sides of
 -- each accepted list of pairs, without the missing symbols. The upper side is the lexical one, the lower side the
 -- surface.
 use Rattle.std.specs.Prelude.{◌≡◌, List, Option}

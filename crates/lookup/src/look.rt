@@ -20,7 +20,7 @@ use std::alloc::{AllocError, Global};
 /// The upper words that a network relates to a lower word, as texts of the alphabet.
 ///
 /// Only the part of the network that the word reaches is looked at (Beesley and Karttunen, Finite State
-/// Morphology, 2003, section 1.6).
+/// Morphology, 2003, chapter 1).
 pub fn up(alloc: Global, net: &Net, alphabet: &Alphabet, word: &[Sym]) -> Result<Answer, AllocError>
     requires { IsOverAlphabet alphabet.now net.now }
     ensures { IfOk result (λ answer. Answers (UpperTexts net.now alphabet.now word.now) (found_of answer)) }
@@ -31,7 +31,7 @@ pub fn up(alloc: Global, net: &Net, alphabet: &Alphabet, word: &[Sym]) -> Result
 /// The lower words that a network relates to an upper word, as texts of the alphabet.
 ///
 /// Only the part of the network that the word reaches is looked at (Beesley and Karttunen, Finite State
-/// Morphology, 2003, section 1.6).
+/// Morphology, 2003, chapter 1).
 pub fn down(
     alloc: Global,
     net: &Net,
