@@ -1,1 +1,2 @@
 pub mod GraphTexts
+pub mod Walks

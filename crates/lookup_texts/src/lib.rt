@@ -5,5 +5,6 @@
 #![tactic(auto)]
 
 mod texts;
+mod walk;
 
 pub use texts::texts_of;
