@@ -1,2 +1,4 @@
 pub mod Fronts
 pub mod Least
+pub mod OrderOfBytes
+pub mod ListingSteps

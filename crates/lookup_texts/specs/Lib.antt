@@ -1,2 +1,3 @@
 pub mod GraphTexts
+pub mod Listings
 pub mod Walks

@@ -46,6 +46,7 @@ impl Walk {
         ensures rows { IfOk result (λ walk. (e : Edge Byte) → Contains walk.rows e ↔ Contains edges.now e) }
         ensures text { IfOk result (λ walk. walk.text.items ≡ []) }
         ensures floor { IfOk result (λ walk. walk.floor ≡ 0) }
+        ensures bound { IfOk result (λ walk. walk.marked.bound ≡ count) }
         ensures walk { IfOk result IsWalk }
     {
         let rows = Rows::of(alloc, edges)?;
@@ -84,6 +85,7 @@ impl Walk {
         ensures rows { OnOk result (self.new.rows ≡ self.old.rows) }
         ensures text { OnOk result (self.new.text.items ≡ self.old.text.items ++ byte ∷ []) }
         ensures floor { OnOk result (self.new.floor ≡ 0) }
+        ensures bound { OnOk result (self.new.marked.bound ≡ self.old.marked.bound) }
         ensures walk { OnOk result (IsWalk self.new) }
     {
         let front = next_front(
@@ -103,6 +105,7 @@ impl Walk {
     pub(crate) fn leave(&mut self) -> bool
         requires { IsWalk self.old }
         ensures rows { self.new.rows ≡ self.old.rows }
+        ensures bound { self.new.marked.bound ≡ self.old.marked.bound }
         ensures left { MatchBool result ((byte : ℕ) × ((self.old.text.items ≡ self.new.text.items ++ byte ∷ []) × (self.new.floor ≡ byte + 1) × IsWalk self.new)) (self.old.text.items ≡ []) }
     {
         let Some(byte) = self.text.pop() else {
