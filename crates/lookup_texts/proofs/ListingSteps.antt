@@ -1,5 +1,5 @@
 -- How a listing grows with the moves of a walk, and what it has in the end.
-use Rattle.std.proofs.Common.{◌≡◌, ℕ, zero, suc, ◌+◌, ◌<◌, ◌≤◌, ◌⊎◌, ◌↔◌, List, [], ◌∷◌, ◌++◌, AllPairs, All, Some, length, get_or, refl, sym, subst, ap, inl, inr, arith, ◌∙◌, append_assoc, length-append}
+use Rattle.std.proofs.Common.{◌≡◌, ℕ, zero, suc, ◌+◌, ◌<◌, ◌≤◌, ◌⊎◌, ◌↔◌, List, [], ◌∷◌, ◌++◌, AllPairs, All, Bool, true, false, MatchBool, Some, length, get_or, refl, sym, subst, ap, inl, inr, arith, ◌∙◌, append_assoc, length-append}
 use Rattle.std.specs.List.{Contains, slice_get}
 use Rattle.std.proofs.lemmas.Bool.{cases_lt}
 use Rattle.std.proofs.lemmas.List.Elements.{Contains-push_cases, Contains-push, Contains-append_left, Contains-get_or}
@@ -57,6 +57,11 @@ word-unword (x ∷ w) = ap (λ v. x ∷ v) (word-unword w)
 
 all_from : {X : Type 0} {P : X → Type 0} (xs : List X) → ((x : X) → Contains xs x → P x) → All P xs
 all_from xs f k d within = f (get_or xs k d) (Contains-get_or xs k d within)
+
+-- the first of two facts, where the second can't hold
+pub first_holds : (b : Bool) (P Q : Type 0) → MatchBool b P Q → ¬ Q → P
+first_holds true P Q h never = h
+first_holds false P Q h never = absurd (never h)
 
 module _ (edges : List (Edge Byte)) where
   -- what goes on behind a text may follow it

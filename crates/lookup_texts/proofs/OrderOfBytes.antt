@@ -143,3 +143,23 @@ pub left_falls : (bound : ℕ) (u v : List ℕ) → length u ≤ suc bound → l
 left_falls bound u v lu lv su sv h =
     let r = value_rises (suc bound) u v lv lu su h in
     let b = value_below (suc bound) v sv in omega arith
+
+-- the moves of a walk leave less
+pub enter_left : (bound : ℕ) (text : List ℕ) (floor byte : ℕ) → length (text ++ byte ∷ []) ≤ bound → ((k b : ℕ) → slice_get text k ≡ Some b → b < 256) → floor ≤ 256
+    → ((k b : ℕ) → slice_get (text ++ byte ∷ []) k ≡ Some b → b < 256) → floor ≤ byte → left bound ((text ++ byte ∷ []) ++ 0 ∷ []) < left bound (text ++ floor ∷ [])
+enter_left bound text floor byte short small small_floor small_more low =
+    let l = length-append text (byte ∷ []) in
+    let m = length-append text (floor ∷ []) in
+    let n = length-append (text ++ byte ∷ []) (0 ∷ []) in
+    left_falls bound (text ++ floor ∷ []) ((text ++ byte ∷ []) ++ 0 ∷ []) (omega arith) (omega arith) (small_from text floor small small_floor)
+    (small_from (text ++ byte ∷ []) 0 small_more (omega arith)) (enter_rises text floor byte low)
+
+pub leave_left : (bound : ℕ) (text front : List ℕ) (floor byte : ℕ) → text ≡ front ++ byte ∷ [] → length text ≤ bound → ((k b : ℕ) → slice_get text k ≡ Some b → b < 256) → floor ≤ 256
+    → ((k b : ℕ) → slice_get front k ≡ Some b → b < 256) → byte + 1 ≤ 256 → left bound (front ++ (byte + 1) ∷ []) < left bound (text ++ floor ∷ [])
+leave_left bound text front floor byte is short small small_floor small_front small_byte =
+    let l = length-append front (byte ∷ []) in
+    let e = ap length is in
+    let m = length-append text (floor ∷ []) in
+    let n = length-append front ((byte + 1) ∷ []) in
+    left_falls bound (text ++ floor ∷ []) (front ++ (byte + 1) ∷ []) (omega arith) (omega arith) (small_from text floor small small_floor)
+    (small_from front (byte + 1) small_front small_byte) (subst (λ t. IsBefore (t ++ floor ∷ []) (front ++ (byte + 1) ∷ [])) (sym is) (leave_rises front floor byte))

@@ -4,6 +4,7 @@
 //!   finding that they are more than an answer lists.
 #![tactic(auto)]
 
+mod bytes;
 mod listing;
 mod texts;
 mod walk;

@@ -1,4 +1,4 @@
-ghost use Rattle.std.specs.Prelude.{◌≡◌, ◌<◌, ◌≤◌, ◌+◌, ◌++◌, ◌⊎◌, [], ◌∷◌, ℕ, List, Contains, IfOk, IfSome, IfNone, IsUtf8, MatchBool, length};
+ghost use Rattle.std.specs.Prelude.{◌≡◌, ◌<◌, ◌≤◌, ◌+◌, ◌++◌, ◌⊎◌, [], ◌∷◌, ℕ, List, Contains, IfOk, IfSome, IfNone, OnOk, IsUtf8, MatchBool, length};
 ghost use Rattle.fsa.specs.declared.automaton.Edge.{Edge};
 ghost use Rattle.fsm_meaning.specs.Answers.{AreAll, AreMore};
 ghost use Rattle.lookup_graph.specs.Graph.{Leads};
@@ -52,7 +52,8 @@ fn add(alloc: Global, walk: &Walk, found: &mut Vec<Text>) -> Result<bool, AllocE
     requires walk { IsWalk walk.now }
     requires utf8 { WritesText walk.now.rows walk.now.text.items → IsUtf8 walk.now.text.items }
     requires few { length found.old.items ≤ 4096 }
-    ensures { IfOk result (λ fits. MatchBool fits (AddsText walk.now.rows walk.now.text.items found.old.items found.new.items) (WritesText walk.now.rows walk.now.text.items × (found.new.items ≡ found.old.items) × (length found.old.items ≡ 4096))) }
+    ensures few { OnOk result (length found.new.items ≤ 4096) }
+    ensures added { IfOk result (λ fits. MatchBool fits (AddsText walk.now.rows walk.now.text.items found.old.items found.new.items) (WritesText walk.now.rows walk.now.text.items × (found.new.items ≡ found.old.items) × (length found.old.items ≡ 4096))) }
 {
     if walk.is_at_end() {
         if found.len() == MOST {
