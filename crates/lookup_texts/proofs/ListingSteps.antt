@@ -47,11 +47,11 @@ longer [] = tt
 longer (x ∷ xs) = inr (refl, longer xs)
 
 -- a word of bytes as a text
-abbrev unword : List Byte → List ℕ
+abbrev pub unword : List Byte → List ℕ
 unword [] = []
 unword (x ∷ w) = x.0 ∷ unword w
 
-word-unword : (w : List Byte) → word_of (unword w) ≡ w
+pub word-unword : (w : List Byte) → word_of (unword w) ≡ w
 word-unword [] = refl
 word-unword (x ∷ w) = ap (λ v. x ∷ v) (word-unword w)
 
