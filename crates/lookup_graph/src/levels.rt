@@ -3,7 +3,6 @@ ghost use Rattle.lookup_graph.specs.Graph.{IsWithin};
 
 use crate::START;
 use fsa::Edge;
-use fsa_walk::Rows;
 use fsm_base::Letter;
 use std::alloc::{AllocError, Global};
 
@@ -13,7 +12,7 @@ use std::alloc::{AllocError, Global};
 struct Search {
     /// How many nodes were entered.
     entered: usize,
-    /// As the which each node was entered, from 1 on.
+    /// The place of each node in the order in which they were entered, from 1 on.
     order: Vec<usize>,
     /// The least order among the nodes of open components that the node was seen to lead to.
     lowest: Vec<usize>,
@@ -21,7 +20,7 @@ struct Search {
     levels: Vec<usize>,
     /// How many components were closed.
     closed: usize,
-    /// The nodes on the path that is followed, each with how many of its edges were taken.
+    /// The nodes on the path that is followed, each with the number of its edge that is taken next, from 1 on.
     path: Vec<(usize, usize)>,
     /// The nodes whose component isn't closed.
     open: Vec<usize>,
@@ -37,14 +36,40 @@ pub(crate) fn levels<L: Letter>(
 ) -> Result<Vec<usize>, AllocError>
     ensures { IfOk result (λ levels. vec_len levels ≡ count) }
 {
-    let rows = Rows::of(alloc, edges)?;
+    let leaving = Leaving::of(alloc, edges, count)?;
     let mut search = Search::new(alloc, count)?;
-    search.enter(START)?;
+    search.enter(START, at(&leaving.first, START))?;
     // Each step takes an edge or leaves a node.
     'steps: for _ in 0..edges.len().saturating_add(count) {
-        search.step(&rows)?;
+        search.step(edges, &leaving)?;
     }
     Ok(search.levels)
+}
+
+/// The edges that leave each node, by their numbers from 1 on. An entry of 0 stands for none.
+#[derive(Drop)]
+struct Leaving {
+    /// The last of the edges that leave each node.
+    first: Vec<usize>,
+    /// The edge before each edge that leaves the same node.
+    next: Vec<usize>,
+}
+
+impl Leaving {
+    /// Chains the edges that leave the same node.
+    fn of<L: Letter>(
+        alloc: Global,
+        edges: &[Edge<L>],
+        count: usize,
+    ) -> Result<Leaving, AllocError> {
+        let mut first = vec![in alloc; 0; count]?;
+        let mut next = Vec::with_capacity(alloc, edges.len())?;
+        for (place, edge) in edges.iter().enumerate() {
+            next.push(at(&first, edge.from))?;
+            put(&mut first, edge.from, place.saturating_add(1));
+        }
+        Ok(Leaving { first, next })
+    }
 }
 
 impl Search {
@@ -63,45 +88,44 @@ impl Search {
         })
     }
 
-    /// Enters a node for the first time.
-    fn enter(&mut self, node: usize) -> Result<(), AllocError>
+    /// Enters a node for the first time. `edge` is the number of the first of its edges.
+    fn enter(&mut self, node: usize, edge: usize) -> Result<(), AllocError>
         ensures { self.new.levels ≡ self.old.levels }
     {
         self.entered = self.entered.saturating_add(1);
         put(&mut self.order, node, self.entered);
         put(&mut self.lowest, node, self.entered);
-        self.path.push((node, 0))?;
+        self.path.push((node, edge))?;
         self.open.push(node)?;
         Ok(())
     }
 
     /// Takes the next edge of the last node on the path, or leaves that node where there is none.
-    fn step<L: Letter>(&mut self, rows: &Rows<L>) -> Result<(), AllocError>
+    fn step<L: Letter>(&mut self, edges: &[Edge<L>], leaving: &Leaving) -> Result<(), AllocError>
         ensures { vec_len self.new.levels ≡ vec_len self.old.levels }
     {
-        let Some((node, taken)) = self.path.pop() else {
+        let Some((node, number)) = self.path.pop() else {
             return Ok(());
         };
-        match rows.out(node).get(taken) {
-            Some(edge) => {
-                self.path.push((node, taken.saturating_add(1)))?;
-                self.take(node, edge.to)
+        match number.checked_sub(1) {
+            Some(place) => {
+                self.path.push((node, at(&leaving.next, place)))?;
+                if let Some(edge) = edges.get(place) {
+                    self.take(node, edge.to, at(&leaving.first, edge.to))?;
+                }
             }
-            None => {
-                self.leave(node);
-                Ok(())
-            }
+            None => self.leave(node),
         }
+        Ok(())
     }
 
-    /// Takes an edge from the last node on the path.
-    fn take(&mut self, node: usize, to: usize) -> Result<(), AllocError>
+    /// Takes an edge from the last node on the path to a node. `edge` is the number of the first edge of that.
+    fn take(&mut self, node: usize, to: usize, edge: usize) -> Result<(), AllocError>
         ensures { vec_len self.new.levels ≡ vec_len self.old.levels }
     {
         if at(&self.order, to) == 0 {
-            return self.enter(to);
-        }
-        if at(&self.levels, to) == 0 {
+            self.enter(to, edge)?;
+        } else if at(&self.levels, to) == 0 {
             let lowest = at(&self.lowest, to);
             self.lower(node, lowest);
         }

@@ -4,6 +4,9 @@
 //!   finding that they are more than an answer lists.
 #![tactic(auto)]
 
+mod bytes;
+mod listing;
 mod texts;
+mod walk;
 
 pub use texts::texts_of;

@@ -4,12 +4,16 @@ ghost use Rattle.lookup_graph.specs.Graph.{IsWithin};
 ghost use Rattle.lookup_graph.specs.Turns.{HasNoTurn};
 ghost use Rattle.lookup_texts.specs.GraphTexts.{AreOf, GraphTexts};
 
+use crate::bytes::spelled;
+use crate::listing::listed;
+use crate::walk::Walk;
 use fsa::Edge;
 use fsm_base::{Alphabet, Sym, Text};
+use lookup_graph::useful;
 use std::alloc::{AllocError, Global};
 
 /// All texts of the graph, each once and in the order of their bytes, or None where they are more than 4,096.
-/// `count` is the count of the nodes.
+/// `count` is the count of the nodes. No text is tried that doesn't begin one that is listed.
 pub fn texts_of(
     alloc: Global,
     edges: &[Edge<Sym>],
@@ -23,6 +27,9 @@ pub fn texts_of(
     ensures all { IfOk result (λ found. IfSome found (λ texts. AreAll (GraphTexts alphabet.now edges.now) texts.items)) }
     ensures more { IfOk result (λ found. IfNone found (AreMore (GraphTexts alphabet.now edges.now))) }
 {
-    let _ = (edges, count, alphabet);
-    Ok(Some(Vec::new(alloc)))
+    let graph = spelled(alloc, edges, count, alphabet)?;
+    let kept = useful(alloc, &graph.edges, graph.count)?;
+    let mut walk = Walk::new(alloc, &kept, graph.count)?;
+    let found = listed(alloc, &mut walk)?;
+    Ok(found)
 }
