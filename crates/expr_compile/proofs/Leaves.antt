@@ -1,4 +1,5 @@
 -- Leaves: their symbols, and the one pair of words that two leaves relate.
+use Rattle.fsm_words.specs.Relations.{AreSame}
 use Rattle.std.proofs.Common.{◌≡◌, ◌↔◌, ◌⊎◌, ℕ, List, [], ◌∷◌, ◌++◌, Vec, Global, Result, Ok, Err, IfOk, sym, ap, subst, ◌∙◌, inl, inr}
 use Rattle.std.specs.List.{Contains}
 use Rattle.std.proofs.lemmas.List.Elements.{Contains-append_left, Contains-append_right, Contains-append_cases}
@@ -20,7 +21,7 @@ use Rattle.fsm_meaning.specs.OnePair.{IsLeaf, leaf_word}
 use Rattle.fsm_meaning.specs.Projects.{symbol_of, symbols_in}
 use Rattle.fsm_meaning.specs.Relation.{Relates, In, inner}
 use Rattle.fsm_meaning.proofs.OnePair.{leaf_has, leaf_only}
-use Rattle.expr_compile.specs.Compiled.{AreSame, StandFor, sym_in}
+use Rattle.expr_compile.specs.Compiled.{StandFor, sym_in}
 use Rattle.expr_compile.proofs.Sides.{stands_on}
 use Rattle.expr_compile.proofs.Related.{union_relates, alone_relates}
 

@@ -4,14 +4,14 @@ use Rattle.std.specs.List.{Contains}
 use Rattle.std.proofs.lemmas.List.Elements.{Contains-append_left, Contains-append_right}
 use Rattle.fsm_base.specs.declared.letters.Pair.{Pair}
 use Rattle.fsm_words.specs.Words.{IsConcatenation, IsRepetition}
-use Rattle.fsm_words.specs.Relations.{IsConcatenationOfPairs, IsRepetitionOfPairs}
+use Rattle.fsm_words.specs.Relations.{AreSame, IsConcatenationOfPairs, IsRepetitionOfPairs}
 use Rattle.fsm_words.proofs.Pairs.{concatenation_same, concatenation_assoc, concatenation_empty_left, same_trans, same_back, AreEmpty}
 use Rattle.fsm_words.proofs.Members.{Contains-nil_cases, Contains-head}
 use Rattle.fsa.specs.Automaton.{Automaton, UsesLetter}
 use Rattle.fsa.specs.Language.{Accepts, stop, read, skip}
 use Rattle.fst_relation.specs.Relation.{IsRelated, uppers, lowers}
 use Rattle.fst_relation.proofs.Languages.{RelatedIn, related_same, related_one, related_union, related_concatenation, related_repetition}
-use Rattle.expr_compile.specs.Compiled.{AreSame, RelatesInTurn, RelatesByAny, UsedByAny}
+use Rattle.expr_compile.specs.Compiled.{RelatesInTurn, RelatesByAny, UsedByAny}
 
 module _ (m a b : Automaton Pair) where
   pub concat_relates : ((w : List Pair) → Accepts m w ↔ IsConcatenation (Accepts a) (Accepts b) w) → AreSame (IsRelated m) (IsConcatenationOfPairs (IsRelated a) (IsRelated b))

@@ -3,14 +3,13 @@ use Rattle.std.proofs.Common.{◌≡◌, ◌↔◌, ◌⊎◌, ◌<◌, ◌+◌,
 use Rattle.fsm_base.specs.declared.letters.Sym.{Sym}
 use Rattle.fsm_base.specs.declared.letters.Pair.{Pair}
 use Rattle.fsm_words.specs.Words.{IsConcatenation, IsRepetition}
-use Rattle.fsm_words.specs.Relations.{IsConcatenationOfPairs, IsRepetitionOfPairs}
+use Rattle.fsm_words.specs.Relations.{AreSame, IsConcatenationOfPairs, IsRepetitionOfPairs}
 use Rattle.fsm_words.proofs.Pairs.{concatenation_same, repetition_same, repetition_zero, repetition_single, repetition_sum, repetition_some, same_trans, same_back, AreEmpty}
 use Rattle.fsa.specs.Automaton.{Automaton}
 use Rattle.fsa.specs.Language.{Accepts}
 use Rattle.fst_relation.specs.Relation.{IsRelated}
 use Rattle.regex_ast.specs.declared.expr.Suffix.{Suffix}
 use Rattle.fsm_meaning.specs.Relation.{IsSuffixed, Repeats}
-use Rattle.expr_compile.specs.Compiled.{AreSame}
 use Rattle.expr_compile.proofs.Related.{concat_relates, star_relates, alone_relates}
 
 -- a relation so many times

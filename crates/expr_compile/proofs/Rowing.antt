@@ -4,14 +4,14 @@ use Rattle.std.specs.List.{Contains}
 use Rattle.std.proofs.lemmas.List.Elements.{Contains-append_left, Contains-append_right, Contains-push_cases}
 use Rattle.fsm_base.specs.declared.letters.Sym.{Sym}
 use Rattle.fsm_base.specs.declared.letters.Pair.{Pair}
-use Rattle.fsm_words.specs.Relations.{IsConcatenationOfPairs}
+use Rattle.fsm_words.specs.Relations.{AreSame, IsConcatenationOfPairs}
 use Rattle.fsm_words.proofs.Pairs.{concatenation_same, concatenation_assoc, concatenation_empty_left, concatenation_empty_right, same_trans, same_back}
 use Rattle.fsa.specs.Automaton.{Automaton, UsesLetter}
 use Rattle.fst_relation.specs.Relation.{IsRelated}
 use Rattle.regex_ast.specs.Terms.{Term, Terms, Links, then_term, no_term, or, and, less, no_link}
 use Rattle.regex_ast.specs.declared.expr.Raw.{Raw}
 use Rattle.fsm_meaning.specs.Relation.{Relates, RelatesEach, RelatesAny}
-use Rattle.expr_compile.specs.Compiled.{AreSame, RelatesInTurn, RelatesByAny, StandFor, UsedByAny}
+use Rattle.expr_compile.specs.Compiled.{RelatesInTurn, RelatesByAny, StandFor, UsedByAny}
 use Rattle.expr_compile.proofs.Leaves.{IsNumbered}
 use Rattle.expr_compile.proofs.Related.{in_turn_append, by_any_append}
 

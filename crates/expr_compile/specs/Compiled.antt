@@ -1,6 +1,6 @@
 -- The automaton of an expression: its symbols are the numbers of a symbol table, and its relation is the one that
 -- the expression has over these numbers.
-use Rattle.std.specs.Prelude.{◌≡◌, ◌↔◌, ◌⊎◌, ◌+◌, ℕ, List, [], ◌∷◌, Some, Contains, slice_get}
+use Rattle.std.specs.Prelude.{◌≡◌, ◌⊎◌, ◌+◌, ℕ, List, [], ◌∷◌, Some, Contains, slice_get}
 use Rattle.fsm_base.specs.declared.letters.Sym.{Sym}
 use Rattle.fsm_base.specs.declared.letters.Pair.{Pair}
 use Rattle.fsm_base.specs.Symbols.{number_of}
@@ -14,10 +14,6 @@ use Rattle.fsm_meaning.specs.Projects.{symbol_of}
 -- the number of a leaf's symbol in the table
 abbrev pub sym_in : List (List ℕ) → Raw → Sym
 sym_in table leaf = record { 0 = number_of (symbol_of leaf) table }
-
--- the relations hold of the same words
-abbrev pub AreSame : {L : Type 0} → (List L → List L → Type 0) → (List L → List L → Type 0) → Type 0
-AreSame {L} P Q = (u w : List L) → P u w ↔ Q u w
 
 -- the symbol stands on one of the pair's sides
 abbrev pub StandsIn : Sym → Pair → Type 0

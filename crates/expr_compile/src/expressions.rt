@@ -1,3 +1,4 @@
+ghost use Rattle.fsm_words.specs.Relations.{AreSame};
 ghost use Rattle.std.specs.Prelude.{◌≡◌, ◌++◌, List, map, IfOk};
 ghost use Rattle.fsa.specs.Automaton.{UsesLetter};
 ghost use Rattle.regex_ast.specs.Terms.{term, terms_of, links_of};
@@ -7,7 +8,7 @@ ghost use Rattle.fsm_meaning.specs.OnePair.{IsLeaf, leaf_word};
 ghost use Rattle.fsm_meaning.specs.Projects.{symbols_in, symbols_in_each, symbols_in_links};
 ghost use Rattle.fsm_meaning.specs.Relation.{Relates, RelatesEach, RelatesAny};
 ghost use Rattle.fst_relation.specs.Relation.{IsRelated};
-ghost use Rattle.expr_compile.specs.Compiled.{AreSame, RelatesInTurn, RelatesByAny, StandFor, UsedByAny, sym_in};
+ghost use Rattle.expr_compile.specs.Compiled.{RelatesInTurn, RelatesByAny, StandFor, UsedByAny, sym_in};
 
 use crate::alone::{alone, paired};
 use crate::rows::{by_any, in_turn};

@@ -1,8 +1,9 @@
+ghost use Rattle.fsm_words.specs.Relations.{AreSame};
 ghost use Rattle.std.specs.Prelude.{◌≡◌, List, IfOk};
 ghost use Rattle.fsa.specs.Automaton.{UsesLetter};
 ghost use Rattle.fsm_base.specs.declared.letters.Pair.{Pair};
 ghost use Rattle.fst_relation.specs.Relation.{IsRelated};
-ghost use Rattle.expr_compile.specs.Compiled.{AreSame, RelatesInTurn, RelatesByAny, UsedByAny};
+ghost use Rattle.expr_compile.specs.Compiled.{RelatesInTurn, RelatesByAny, UsedByAny};
 
 use crate::alone::alone;
 use fsa::Fsa;

@@ -1,11 +1,10 @@
 ghost use Rattle.std.specs.Prelude.{◌≡◌, All, IfOk};
 ghost use Rattle.fsa.specs.Automaton.{UsesLetter};
 ghost use Rattle.fsm_base.specs.declared.letters.Pair.{Pair};
-ghost use Rattle.fsm_words.specs.Relations.{IsRepetitionOfPairs};
+ghost use Rattle.fsm_words.specs.Relations.{AreSame, IsRepetitionOfPairs};
 ghost use Rattle.fsm_meaning.specs.Built.{IsRepeating};
 ghost use Rattle.fsm_meaning.specs.Relation.{IsSuffixed, Repeats};
 ghost use Rattle.fst_relation.specs.Relation.{IsRelated};
-ghost use Rattle.expr_compile.specs.Compiled.{AreSame};
 
 use crate::alone::alone;
 use fsa::Fsa;

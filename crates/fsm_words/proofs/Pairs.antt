@@ -3,12 +3,8 @@ use Rattle.std.proofs.Common.{◌≡◌, ◌<◌, ◌+◌, ℕ, List, [], ◌∷
 use Rattle.std.proofs.lemmas.List.{map-append, take-append-drop, length-take, length-drop}
 use Rattle.std.proofs.lemmas.List.Elements.{All-nil, All-cons, All-head, All-tail, All-append, All-take, All-drop, All-weaker}
 use Rattle.fsm_words.specs.Words.{joined}
-use Rattle.fsm_words.specs.Relations.{IsConcatenationOfPairs, IsRepetitionOfPairs}
+use Rattle.fsm_words.specs.Relations.{AreSame, IsConcatenationOfPairs, IsRepetitionOfPairs}
 use Rattle.fsm_words.proofs.Laws.{joined-append}
-
--- relations that hold of the same words
-abbrev pub AreSame : {L : Type 0} → (List L → List L → Type 0) → (List L → List L → Type 0) → Type 0
-AreSame {L} P Q = (u w : List L) → P u w ↔ Q u w
 
 abbrev uppers_of : {L : Type 0} → List (List L × List L) → List L
 uppers_of {L} pairs = joined (map (λ (p : List L × List L). p.0) pairs)

@@ -1,7 +1,11 @@
 -- Relations between words: an upper word over one alphabet and a lower word over another, as a test on the two
 -- (Beesley and Karttunen, Finite State Morphology, 2003, section 2.3.3).
-use Rattle.std.specs.Prelude.{◌≡◌, ℕ, List, ◌++◌, All, length, map}
+use Rattle.std.specs.Prelude.{◌≡◌, ◌↔◌, ℕ, List, ◌++◌, All, length, map}
 use Rattle.fsm_words.specs.Words.{joined}
+
+-- relations that hold of the same words
+abbrev pub AreSame : {L : Type 0} → (List L → List L → Type 0) → (List L → List L → Type 0) → Type 0
+AreSame {L} P Q = (u w : List L) → P u w ↔ Q u w
 
 -- a pair of words of the first relation, and then one of the second
 abbrev pub IsConcatenationOfPairs : {L : Type 0} → (List L → List L → Type 0) → (List L → List L → Type 0) → List L → List L → Type 0

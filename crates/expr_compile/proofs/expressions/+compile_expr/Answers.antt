@@ -1,3 +1,4 @@
+use Rattle.fsm_words.specs.Relations.{AreSame}
 use Rattle.std.proofs.Common.{◌≡◌, ◌↔◌, ◌⊎◌, ◌∷◌, ◌++◌, ◌+◌, [], map, drop, List, IfOk, refl, subst, sym, ap, ◌∙◌, arith, inl, inr}
 use Rattle.std.proofs.lemmas.Result.{IfOk-weaker}
 use Rattle.std.proofs.lemmas.List.{drop_all}
@@ -13,7 +14,7 @@ use Rattle.regex_ast.proofs.Rows.{term-Concat, term-Chain}
 use Rattle.fsm_meaning.specs.Built.{IsBuilt, AreBuilt, AreBuiltLinks}
 use Rattle.fsm_meaning.specs.Projects.{symbols_in, symbols_in_each, symbols_in_links}
 use Rattle.fsm_meaning.specs.Relation.{Relates, RelatesEach, RelatesAny, IsSuffixed}
-use Rattle.expr_compile.specs.Compiled.{AreSame, RelatesInTurn, RelatesByAny, StandFor, UsedByAny, sym_in}
+use Rattle.expr_compile.specs.Compiled.{RelatesInTurn, RelatesByAny, StandFor, UsedByAny, sym_in}
 use Rattle.expr_compile.proofs.Leaves.{IsPairOf, leaf_of, leaf_relates, cross_relates, relates_too, rules_unbuilt, stand_once, stand_part, maybe_relates}
 use Rattle.expr_compile.proofs.Repeated.{suffixed_same, letters_of_one}
 use Rattle.expr_compile.proofs.Rowing.{turns_first, turn_done, turns_end, choices_first, choice_done, choices_end, Standing, standing_first, standing_more}

@@ -1,10 +1,11 @@
+use Rattle.fsm_words.specs.Relations.{AreSame}
 use Rattle.std.proofs.Common.{◌+◌, ◌++◌, List, map, drop, suc}
 use Rattle.fsm_base.specs.declared.letters.Sym.{Sym}
 use Rattle.regex_ast.specs.Terms.{term, terms_of, links_of}
 use Rattle.fsm_meaning.specs.Built.{AreBuilt, AreBuiltLinks}
 use Rattle.fsm_meaning.specs.Projects.{symbols_in, symbols_in_each, symbols_in_links}
 use Rattle.fsm_meaning.specs.Relation.{Relates, RelatesEach, RelatesAny}
-use Rattle.expr_compile.specs.Compiled.{AreSame, RelatesByAny, sym_in}
+use Rattle.expr_compile.specs.Compiled.{RelatesByAny, sym_in}
 use Rattle.expr_compile.proofs.Rowing.{TurnsThen, Standing}
 use Rattle.expr_compile.proofs.Weights.{weight, weight_each, weight_links}
 use Rattle.expr_compile.proofs.expressions.+compile_expr.Given as goal

@@ -1,10 +1,11 @@
+use Rattle.fsm_words.specs.Relations.{AreSame}
 use Rattle.std.proofs.Common.{◌≡◌, ◌++◌, ◌/◌, List, take, length, sym, subst, ◌∙◌, ap, arith}
 use Rattle.std.proofs.lemmas.Result.{IfOk-weaker}
 use Rattle.std.proofs.lemmas.List.{take-append-drop}
 use Rattle.fsa.specs.Automaton.{Automaton, UsesLetter}
 use Rattle.fsm_base.specs.declared.letters.Pair.{Pair}
 use Rattle.fst_relation.specs.Relation.{IsRelated}
-use Rattle.expr_compile.specs.Compiled.{AreSame, RelatesByAny, UsedByAny}
+use Rattle.expr_compile.specs.Compiled.{RelatesByAny, UsedByAny}
 use Rattle.expr_compile.proofs.Related.{one_item, none_accepted, no_edge, choice_alone, choices_joined, letters_alone, letters_joined}
 use Rattle.expr_compile.proofs.rows.+by_any.Goals as goal
 

@@ -1,3 +1,4 @@
+use Rattle.fsm_words.specs.Relations.{AreSame}
 use Rattle.std.proofs.Common.{◌≡◌, ◌++◌, ◌/◌, [], List, take, length, sym, subst, ◌∙◌, ap, arith}
 use Rattle.std.proofs.lemmas.Result.{IfOk-weaker}
 use Rattle.std.proofs.lemmas.List.{take-append-drop}
@@ -6,7 +7,7 @@ use Rattle.fsa.specs.Automaton.{Automaton, UsesLetter}
 use Rattle.fsm_base.specs.declared.letters.Pair.{Pair}
 use Rattle.fsm_words.proofs.Members.{Contains-nil_cases}
 use Rattle.fst_relation.specs.Relation.{IsRelated}
-use Rattle.expr_compile.specs.Compiled.{AreSame, RelatesInTurn, UsedByAny}
+use Rattle.expr_compile.specs.Compiled.{RelatesInTurn, UsedByAny}
 use Rattle.expr_compile.proofs.Related.{one_item, turn_alone, turns_joined, letters_alone, letters_joined}
 use Rattle.expr_compile.proofs.rows.+in_turn.Goals as goal
 

@@ -2,10 +2,9 @@ use Rattle.std.proofs.Common.{◌⊎◌, IfOk, sym, subst}
 use Rattle.std.proofs.lemmas.Result.{IfOk-weaker}
 use Rattle.fsa.specs.Automaton.{Automaton, UsesLetter}
 use Rattle.fsm_base.specs.declared.letters.Pair.{Pair}
-use Rattle.fsm_words.specs.Relations.{IsRepetitionOfPairs}
+use Rattle.fsm_words.specs.Relations.{AreSame, IsRepetitionOfPairs}
 use Rattle.fsm_meaning.specs.Relation.{Repeats}
 use Rattle.fst_relation.specs.Relation.{IsRelated}
-use Rattle.expr_compile.specs.Compiled.{AreSame}
 use Rattle.expr_compile.proofs.Related.{star_relates}
 use Rattle.expr_compile.proofs.Repeated.{some_times, letters_of_one}
 use Rattle.expr_compile.proofs.suffixes.with_suffix.Goals as goal

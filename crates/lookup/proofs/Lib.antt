@@ -1,0 +1,9 @@
+pub mod Spots
+pub mod Along
+pub mod Adding
+pub mod Stepping
+pub mod Exploring
+pub mod Paths
+pub mod AnswerKinds
+pub mod Rounds
+pub mod Over

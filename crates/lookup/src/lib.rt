@@ -1,0 +1,24 @@
+//! Look-up: the words that a network relates to a word.
+//!
+//! - [`Net`]: a network, ready for look-ups.
+//! - [`up`], [`down`]: the upper words of a lower word, and the lower words of an upper one, as an [`Answer`].
+//!   fst_relation says what a network relates, `specs/Answering.antt` and fsm_meaning's
+//!   `specs/Answers.antt` which answer is lawful.
+//! - [`one_kind`]: the law that no two kinds of answer are lawful for one word.
+#![tactic(auto)]
+
+mod answer;
+mod explored;
+mod laws;
+mod look;
+mod moves;
+mod net;
+mod part;
+mod table;
+#[cfg(test)]
+mod tests;
+
+pub use answer::Answer;
+pub use laws::one_kind;
+pub use look::{down, up};
+pub use net::Net;

@@ -1,0 +1,103 @@
+ghost use Rattle.std.specs.Prelude.{◌≡◌, ◌<◌, IfOk};
+ghost use Rattle.fsm_words.specs.Words.{IsOver, joined};
+ghost use Rattle.fsm_base.specs.Alphabet.{spelled, symbols_of};
+ghost use Rattle.fsm_meaning.specs.Answers.{Answers, IsLoop, loop};
+ghost use Rattle.lookup_graph.specs.Graph.{IsWithin};
+ghost use Rattle.lookup_graph.specs.Turns.{IsTurn};
+ghost use Rattle.lookup_texts.specs.GraphTexts.{AreOf, GraphTexts};
+ghost use Rattle.lookup.specs.Answering.{IsOverAlphabet, LowerTexts, TextsBy, UpperTexts, found_of};
+
+use crate::answer::Answer;
+use crate::moves::Way;
+use crate::net::Net;
+use crate::part::part_of;
+use fsa::Edge;
+use fsm_base::{Alphabet, Sym};
+use lookup_graph::{Turn, find_turn, useful};
+use lookup_texts::texts_of;
+use std::alloc::{AllocError, Global};
+
+/// The upper words that a network relates to a lower word, as texts of the alphabet.
+///
+/// Only the part of the network that the word reaches is looked at (Beesley and Karttunen, Finite State
+/// Morphology, 2003, chapter 1).
+pub fn up(alloc: Global, net: &Net, alphabet: &Alphabet, word: &[Sym]) -> Result<Answer, AllocError>
+    requires { IsOverAlphabet alphabet.now net.now }
+    ensures { IfOk result (λ answer. Answers (UpperTexts net.now alphabet.now word.now) (found_of answer)) }
+{
+    look(alloc, net, Way::Up, alphabet, word)
+}
+
+/// The lower words that a network relates to an upper word, as texts of the alphabet.
+///
+/// Only the part of the network that the word reaches is looked at (Beesley and Karttunen, Finite State
+/// Morphology, 2003, chapter 1).
+pub fn down(
+    alloc: Global,
+    net: &Net,
+    alphabet: &Alphabet,
+    word: &[Sym],
+) -> Result<Answer, AllocError>
+    requires { IsOverAlphabet alphabet.now net.now }
+    ensures { IfOk result (λ answer. Answers (LowerTexts net.now alphabet.now word.now) (found_of answer)) }
+{
+    look(alloc, net, Way::Down, alphabet, word)
+}
+
+/// The words that a network relates to a word, in one way or the other.
+fn look(
+    alloc: Global,
+    net: &Net,
+    way: Way,
+    alphabet: &Alphabet,
+    word: &[Sym],
+) -> Result<Answer, AllocError>
+    requires { IsOverAlphabet alphabet.now net.now }
+    ensures { IfOk result (λ answer. Answers (TextsBy way net.now alphabet.now word.now) (found_of answer)) }
+{
+    let part = part_of(alloc, net, way, word)?;
+    let edges = useful(alloc, &part.edges, part.count)?;
+    let answer = answer_of(alloc, alphabet, &edges, part.count)?;
+    Ok(answer)
+}
+
+/// The texts of a graph whose edges all stand on paths from its start to its end.
+fn answer_of(
+    alloc: Global,
+    alphabet: &Alphabet,
+    edges: &[Edge<Sym>],
+    count: usize,
+) -> Result<Answer, AllocError>
+    requires within { IsWithin edges.now count }
+    requires start { 1 < count }
+    requires symbols { AreOf alphabet.now edges.now }
+    ensures { IfOk result (λ answer. Answers (GraphTexts alphabet.now edges.now) (found_of answer)) }
+{
+    if let Some(turn) = find_turn(alloc, edges, count)? {
+        let found = loop_of(alloc, alphabet, edges, &turn)?;
+        return Ok(found);
+    }
+    match texts_of(alloc, edges, count, alphabet)? {
+        Some(texts) => Ok(Answer::Strings(texts)),
+        None => Ok(Answer::More),
+    }
+}
+
+/// The loop of a graph, as an answer.
+fn loop_of(
+    alloc: Global,
+    alphabet: &Alphabet,
+    edges: &[Edge<Sym>],
+    turn: &Turn<Sym>,
+) -> Result<Answer, AllocError>
+    requires symbols { AreOf alphabet.now edges.now }
+    requires turn { IsTurn edges.now turn.now.before.items turn.now.round.items turn.now.after.items }
+    ensures { IfOk result (λ answer. Answers (GraphTexts alphabet.now edges.now) (found_of answer)) }
+{
+    let _ = alphabet.symbols();
+    Ok(Answer::Loop {
+        before: alphabet.text(alloc, &turn.before)?,
+        round: alphabet.text(alloc, &turn.round)?,
+        after: alphabet.text(alloc, &turn.after)?,
+    })
+}

@@ -1,0 +1,12 @@
+use Rattle.std.proofs.Common.{◌≡◌, ◌-◌, length}
+use Rattle.lookup_graph.specs.Tree.{IsGrowing}
+use Rattle.lookup_graph.proofs.tree.grow.Given as goal
+
+abbrev pub invariant-loop-number : goal.invariant-loop-number
+invariant-loop-number g l = record {
+  bound : l.tree.reached.bound ≡ l.count;
+  grows : IsGrowing l.rows l.root l.number l.tree;
+}
+
+abbrev pub decreases-loop-number : goal.decreases-loop-number
+decreases-loop-number g l = l.count - l.number

@@ -1,0 +1,6 @@
+pub mod Fronts
+pub mod Least
+pub mod OrderOfBytes
+pub mod ListingSteps
+pub mod Spelled
+pub mod Whole

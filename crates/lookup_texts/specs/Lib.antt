@@ -1,0 +1,4 @@
+pub mod GraphTexts
+pub mod Listings
+pub mod Spelling
+pub mod Walks

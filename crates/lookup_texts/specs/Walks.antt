@@ -1,0 +1,72 @@
+-- A walk, in the order of bytes, over the texts that the paths of a graph of bytes begin with: depth first
+-- (Cormen, Leiserson, Rivest and Stein, Introduction to Algorithms, section 22.3), where a text leads to the
+-- set of all nodes that it may lead to (Hopcroft, Motwani and Ullman, Introduction to Automata Theory,
+-- section 2.5.5).
+use Rattle.std.specs.Prelude.{◌≡◌, ◌<◌, ◌≤◌, ◌+◌, ◌⊎◌, ◌↔◌, ◌++◌, ℕ, List, [], ◌∷◌, Option, Some, None, Contains, length, map, take, slice_get}
+use Rattle.fsa.specs.declared.automaton.Edge.{Edge}
+use Rattle.lookup_graph.specs.Graph.{Connects, Writes, start, end}
+use Rattle.lookup_texts.specs.declared.walk.Byte.{Byte}
+use Rattle.lookup_texts.specs.declared.walk.Walk.{Walk}
+
+-- a text as a word of bytes
+abbrev pub word_of : List ℕ → List Byte
+word_of text = map (λ byte. record { 0 = byte }) text
+
+-- the graph writes the text
+abbrev pub WritesText : List (Edge Byte) → List ℕ → Type 0
+WritesText edges text = Writes edges (word_of text)
+
+-- the first text stands before the second in the order of bytes
+abbrev pub IsBefore : List ℕ → List ℕ → Type 0
+IsBefore text [] = ⊥
+IsBefore [] (byte ∷ other) = Unit {0}
+IsBefore (a ∷ text) (b ∷ other) = (a < b) ⊎ ((a ≡ b) × IsBefore text other)
+
+-- the nodes are those that the text leads to
+abbrev pub IsFront : List (Edge Byte) → List ℕ → List ℕ → Type 0
+IsFront edges text front = (q : ℕ) → Contains front q ↔ Connects edges start (word_of text) q
+
+-- the byte may follow the text
+abbrev pub Follows : List (Edge Byte) → List ℕ → ℕ → Type 0
+Follows edges text byte =
+    (e : Edge Byte) × Contains edges e × (e.letter ≡ Some (record { 0 = byte })) × Connects edges start (word_of text) e.from
+
+-- an edge with the byte leads from one of the nodes to the node
+abbrev pub Enters : List (Edge Byte) → List ℕ → ℕ → ℕ → Type 0
+Enters edges front byte q =
+    (e : Edge Byte) × Contains edges e × Contains front e.from × (e.letter ≡ Some (record { 0 = byte })) × (e.to ≡ q)
+
+-- an edge with the byte leaves one of the nodes
+abbrev pub Carries : List (Edge Byte) → List ℕ → ℕ → Type 0
+Carries edges front byte = (e : Edge Byte) × Contains edges e × Contains front e.from × (e.letter ≡ Some (record { 0 = byte }))
+
+-- one of the edges has the byte
+abbrev pub HasByte : List (Edge Byte) → ℕ → Type 0
+HasByte edges byte = (e : Edge Byte) × Contains edges e × (e.letter ≡ Some (record { 0 = byte }))
+
+-- the least number that passes the test, or None where none does
+pub record IsLeast (P : ℕ → Type 0) (found : Option ℕ) : Type 0 where
+  pub passes : (least : ℕ) → found ≡ Some least → P least
+  pub least : (least other : ℕ) → found ≡ Some least → P other → least ≤ other
+  pub none : found ≡ None → (other : ℕ) → ¬ P other
+
+-- the nodes that each beginning of a text leads to, from the empty one on
+pub record AreFronts (edges : List (Edge Byte)) (text : List ℕ) (fronts : List (List ℕ)) : Type 0 where
+  pub count : length fronts ≡ length text + 1
+  pub each : (k : ℕ) (front : List ℕ) → slice_get fronts k ≡ Some front → IsFront edges (take k text) front
+
+abbrev pub fronts_of : Walk → List (List ℕ)
+fronts_of walk = map (λ front. front.items) walk.fronts.items
+
+-- how a walk is kept
+pub record IsWalk (walk : Walk) : Type 0 where
+  pub fronts : AreFronts walk.rows walk.text.items (fronts_of walk)
+  pub within : (e : Edge Byte) → Contains walk.rows e → e.to < walk.marked.bound
+  pub bytes : (k byte : ℕ) → slice_get walk.text.items k ≡ Some byte → byte < 256
+  pub floor_within : walk.floor ≤ 256
+
+-- the lesser of two numbers, where both are there
+abbrev pub IsLesser : Option ℕ → Option ℕ → Option ℕ → Type 0
+IsLesser None b found = found ≡ b
+IsLesser (Some x) None found = found ≡ Some x
+IsLesser (Some x) (Some y) found = (z : ℕ) × (found ≡ Some z) × (z ≤ x) × (z ≤ y) × ((z ≡ x) ⊎ (z ≡ y))
