@@ -9,36 +9,13 @@ import shutil
 import subprocess
 import sys
 import tempfile
-import time
+
+from measure import timed
 
 HERE = os.path.dirname(os.path.abspath(__file__))
 MORPH = os.path.join(HERE, '..', 'morph')
 EXPRESSION = '{caterpillar} "+N":0'
 WORDS = ['caterpillar', 'cat', 'pillar']
-
-
-def peak_of(process):
-    """The peak memory of a process so far, in bytes, or 0 where it has ended."""
-    try:
-        with open('/proc/%d/status' % process) as status:
-            return sum(int(line.split()[1]) * 1024 for line in status if line.startswith('VmHWM'))
-    except (OSError, ProcessLookupError):
-        return 0
-
-
-def timed(command, path):
-    """The seconds and the peak memory, in bytes, of a command that reads the file."""
-    with open(path, 'rb') as words:
-        start = time.monotonic()
-        child = subprocess.Popen(command, stdin=words, stdout=subprocess.DEVNULL)
-        memory = 0
-        while child.poll() is None:
-            memory = max(memory, peak_of(child.pid))
-            time.sleep(0.002)
-        seconds = time.monotonic() - start
-    if child.returncode != 0:
-        sys.exit('%s: status %d' % (command[0], child.returncode))
-    return seconds, memory
 
 
 def report(name, lines, seconds, memory):
@@ -57,7 +34,8 @@ def main():
         with open(words, 'w') as out:
             out.writelines(WORDS[k % len(WORDS)] + '\n' for k in range(lines))
         subprocess.run([morph, 'up', folder, 'N'], stdin=subprocess.DEVNULL, check=True)
-        ours, memory = timed([morph, 'up', folder, 'N'], words)
+        with open(words, 'rb') as source:
+            ours, memory = timed([morph, 'up', folder, 'N'], source)
         report('morph', lines, ours, memory)
         if not (shutil.which('foma') and shutil.which('flookup')):
             print('foma and flookup are not installed: nothing to compare with')
@@ -65,7 +43,8 @@ def main():
         network = os.path.join(folder, 'n.foma')
         script = 'regex %s ;\nsave stack %s\n' % (EXPRESSION, network)
         subprocess.run(['foma', '-p'], input=script.encode(), stdout=subprocess.DEVNULL, check=True)
-        theirs, memory = timed(['flookup', '-b', network], words)
+        with open(words, 'rb') as source:
+            theirs, memory = timed(['flookup', '-b', network], source)
         report('flookup', lines, theirs, memory)
         print('morph takes %.2f of the time of flookup' % (ours / theirs))
 

@@ -3,9 +3,8 @@
 //! it.
 #![tactic(auto)]
 
-ghost use Rattle.std.specs.Prelude.{◌≡◌, ◌<◌, Contains, IfOk, length};
+ghost use Rattle.std.specs.Prelude.{◌≡◌, ◌<◌, ℕ, Contains, IfOk, Some, length, slice_get};
 ghost use Rattle.fsa.specs.Automaton.{UsesLetter};
-ghost use Rattle.fsm_words.specs.Words.{IsDistinct};
 
 use fsa::{Edge, Fsa};
 use fsa_product::both;
@@ -18,9 +17,9 @@ use std::{env, io};
 /// How many letters the automata read.
 const LETTERS: u32 = 50;
 
-/// The letters of the numbers below this one.
+/// The letters of the numbers below this one, in their order.
 fn letters_below(alloc: Global, count: u32) -> Result<Vec<Sym>, AllocError>
-    ensures distinct { IfOk result (λ letters. IsDistinct letters.items) }
+    ensures numbers { IfOk result (λ letters. (place : ℕ) (x : Sym) → slice_get letters.items place ≡ Some x → x.0 ≡ place) }
     ensures count { IfOk result (λ letters. length letters.items ≡ count) }
 {
     let mut letters = Vec::new(alloc);
@@ -58,11 +57,11 @@ fn states_after(alloc: Global, operation: &str, edges: usize) -> Result<Option<u
     let m = chain(alloc, &letters, edges)?;
     let states = match operation {
         "chain" => m.states(),
-        "union" => union(&m, &m)?.states(),
-        "concat" => concat(&m, &m)?.states(),
-        "star" => star(&m)?.states(),
-        "reverse" => reverse(&m)?.states(),
-        "without_empty" => without_empty(&star(&m)?)?.states(),
+        "union" => union(alloc, &m, &m)?.states(),
+        "concat" => concat(alloc, &m, &m)?.states(),
+        "star" => star(alloc, &m)?.states(),
+        "reverse" => reverse(alloc, &m)?.states(),
+        "without_empty" => without_empty(alloc, &star(alloc, &m)?)?.states(),
         "determine" => determine(alloc, &m, &letters)?.states(),
         "both" => {
             let d = determine(alloc, &m, &letters)?;

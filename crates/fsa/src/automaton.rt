@@ -58,11 +58,6 @@ impl<L: Copy> Fsa<L> {
         }
     }
 
-    /// The allocator that the automaton grows by.
-    pub fn allocator(&self) -> Global {
-        *self.edges.allocator()
-    }
-
     /// Adds a state, which is not final, and gives its number.
     pub fn add_state(&mut self) -> Result<usize, AllocError>
         ensures number { IfOk result (λ state. state ≡ length self.old.finals) }

@@ -48,11 +48,6 @@ impl<L: Letter> Dfa<L> {
         }
     }
 
-    /// The allocator that the automaton was made by.
-    pub fn allocator(&self) -> Global {
-        *self.next.allocator()
-    }
-
     /// The letters, in the order of their places.
     pub fn letters(&self) -> &[L]
         ensures letters { result.now ≡ self.now.letters }
@@ -123,13 +118,13 @@ impl<L: Letter> Dfa<L> {
     }
 
     /// The same automaton with an edge for each state and letter.
-    pub fn to_fsa(&self) -> Result<Fsa<L>, AllocError>
+    pub fn to_fsa(&self, alloc: Global) -> Result<Fsa<L>, AllocError>
         ensures states { IfOk result (λ m. m.finals ≡ self.now.finals) }
         ensures letters { IfOk result (λ m. (x : L) → UsesLetter m x → Contains self.now.letters x) }
         ensures silent { IfOk result HasNoSilentEdge }
         ensures language { IfOk result (λ m. (w : List L) → language.Accepts m w ↔ Accepts self.now w) }
     {
-        let mut fsa = self.without_edges()?;
+        let mut fsa = self.without_edges(alloc)?;
         for state in 0..self.states() {
             self.add_row(&mut fsa, state)?;
         }
@@ -137,11 +132,11 @@ impl<L: Letter> Dfa<L> {
     }
 
     /// The states alone.
-    fn without_edges(&self) -> Result<Fsa<L>, AllocError>
+    fn without_edges(&self, alloc: Global) -> Result<Fsa<L>, AllocError>
         ensures { IfOk result (λ m. m ≡ record { edges = []; finals = self.now.finals }) }
     {
-        let finals = Vec::from_slice(self.allocator(), self.finals())?;
-        Ok(Fsa::of_states(self.allocator(), finals))
+        let finals = Vec::from_slice(alloc, self.finals())?;
+        Ok(Fsa::of_states(alloc, finals))
     }
 
     /// Adds the edges that leave a state.

@@ -19,10 +19,10 @@ fn only_a<L: Letter>(alloc: Global, a: L, b: L) -> Result<Dfa<L>, AllocError>
 }
 
 // Whether the empty word, a, aa and b are accepted.
-fn accepted<L: Letter>(d: &Dfa<L>, a: L, b: L) -> Result<[bool; 4], AllocError>
+fn accepted<L: Letter>(alloc: Global, d: &Dfa<L>, a: L, b: L) -> Result<[bool; 4], AllocError>
     requires { d.now.letters ≡ a ∷ b ∷ [] }
 {
-    let mut word = Vec::new(d.allocator());
+    let mut word = Vec::new(alloc);
     let empty = d.accepts(&word);
     word.push(a)?;
     let once = d.accepts(&word);
@@ -52,16 +52,16 @@ fn only_a_is_accepted(rt: HostRuntime) -> Result<(), Fail> {
     let alloc = rt.alloc();
     let (a, b) = (Sym(0), Sym(1));
     let d = only_a(alloc, a, b)?;
-    assert_eq!(rt; accepted(&d, a, b)?, want);
+    assert_eq!(rt; accepted(alloc, &d, a, b)?, want);
     assert_eq!(rt; place_of(d.letters(), b), Some(1));
     assert_eq!(rt; (d.states(), d.table().len(), d.finals().len()), (3, 6, 3));
     assert_eq!(rt; (d.next(0, 0), d.is_final(1)), (1, true));
-    let shown = d.to_fsa()?;
+    let shown = d.to_fsa(alloc)?;
     assert_eq!(rt; (shown.states(), shown.edges().len()), (3, 6));
     let (a, b) = (pair(0), pair(1));
-    assert_eq!(rt; accepted(&only_a(alloc, a, b)?, a, b)?, want);
+    assert_eq!(rt; accepted(alloc, &only_a(alloc, a, b)?, a, b)?, want);
     let (a, b) = (Bound::Edge, Bound::Inner(Sym(0)));
-    assert_eq!(rt; accepted(&only_a(alloc, a, b)?, a, b)?, want);
+    assert_eq!(rt; accepted(alloc, &only_a(alloc, a, b)?, a, b)?, want);
     Ok(())
 }
 
@@ -88,7 +88,7 @@ fn edges_are_read_back(rt: HostRuntime) -> Result<(), Fail> {
             to: 1
         })
     );
-    assert_eq!(rt; edge_a(fsa.allocator(), pair(0))?.edges().len(), 1);
+    assert_eq!(rt; edge_a(rt.alloc(), pair(0))?.edges().len(), 1);
     assert_eq!(rt; edge_a(rt.alloc(), Bound::Inner(Sym(0)))?.edges().len(), 1);
     Ok(())
 }

@@ -10,25 +10,26 @@ ghost use Rattle.fsa_rational.specs.Bypass.{TakesOver, IsBypassed};
 use fsa::{Edge, Fsa};
 use fsa_walk::{Marked, Rows, close};
 use fsm_base::Letter;
-use std::alloc::AllocError;
+use std::alloc::{AllocError, Global};
 
 /// An automaton of the same language with no silent edge, and with as many states. Takes time in proportion to
 /// the states that silent edges reach from each state that a lettered edge enters, and to their edges.
-pub fn without_empty<L: Letter>(a: &Fsa<L>) -> Result<Fsa<L>, AllocError>
+pub fn without_empty<L: Letter>(alloc: Global, a: &Fsa<L>) -> Result<Fsa<L>, AllocError>
     ensures silent { IfOk result HasNoSilentEdge }
     ensures letters { IfOk result (λ m. (x : L) → UsesLetter m x → UsesLetter a.now x) }
     ensures language { IfOk result (λ m. (w : List L) → Accepts m w ↔ Accepts a.now w) }
 {
-    let rows = Rows::of(a.allocator(), a.edges())?;
-    let entered = entered_states(a)?;
-    let mut m = Fsa::of_states(a.allocator(), vec![in a.allocator(); false; a.states()]?);
-    bypass(&mut m, a, &rows, entered.found())?;
+    let rows = Rows::of(alloc, a.edges())?;
+    let entered = entered_states(alloc, a)?;
+    let mut m = Fsa::of_states(alloc, vec![in alloc; false; a.states()]?);
+    bypass(alloc, &mut m, a, &rows, entered.found())?;
     Ok(m)
 }
 
 /// Gives each of the states the lettered edges of the states that silent edges reach from it, and makes it final
 /// where one of them is.
 fn bypass<L: Letter>(
+    alloc: Global,
     m: &mut Fsa<L>,
     a: &Fsa<L>,
     rows: &Rows<L>,
@@ -40,7 +41,7 @@ fn bypass<L: Letter>(
     requires states { All (λ q. q < length a.now.finals) states.now }
     ensures { OnOk result (IsBypassed rows.now a.now.finals (Contains states.now) m.new) }
 {
-    let mut reached = Marked::new(a.allocator(), a.states())?;
+    let mut reached = Marked::new(alloc, a.states())?;
     for state in states {
         reach(rows, *state, &mut reached)?;
         take_over(m, *state, a, rows, reached.found())?;
@@ -49,12 +50,12 @@ fn bypass<L: Letter>(
 }
 
 /// The start, and the states that an edge with a letter enters.
-fn entered_states<L: Letter>(a: &Fsa<L>) -> Result<Marked, AllocError>
+fn entered_states<L: Letter>(alloc: Global, a: &Fsa<L>) -> Result<Marked, AllocError>
     ensures bound { IfOk result (λ states. states.bound ≡ length a.now.finals) }
     ensures start { IfOk result (λ states. Contains states.found 0) }
     ensures targets { IfOk result (λ states. (e : Edge L) (x : L) → Contains a.now.edges e → e.letter ≡ Some x → Contains states.found e.to) }
 {
-    let mut states = Marked::new(a.allocator(), a.states())?;
+    let mut states = Marked::new(alloc, a.states())?;
     states.add(0)?;
     for edge in a.edges() {
         if edge.letter.is_some() {

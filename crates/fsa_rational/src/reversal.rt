@@ -6,15 +6,15 @@ use crate::extend::{add_turned, enter_finals};
 use crate::join::one_state_more;
 use fsa::Fsa;
 use fsm_base::Letter;
-use std::alloc::AllocError;
+use std::alloc::{AllocError, Global};
 
 /// The automaton of the words of `a` read backwards.
-pub fn reverse<L: Letter>(a: &Fsa<L>) -> Result<Fsa<L>, AllocError>
+pub fn reverse<L: Letter>(alloc: Global, a: &Fsa<L>) -> Result<Fsa<L>, AllocError>
     ensures letters { IfOk result (λ m. (x : L) → UsesLetter m x → UsesLetter a.now x) }
     ensures language { IfOk result (λ m. (w : List L) → Accepts m w ↔ Accepts a.now (reverse w)) }
 {
     let edges = a.edges();
-    let mut m = one_state_more(a)?;
+    let mut m = one_state_more(alloc, a)?;
     m.set_final(1);
     add_turned(&mut m, edges, 1)?;
     enter_finals(&mut m, 0, a.finals(), 1)?;

@@ -44,25 +44,29 @@ fn step<L: Letter>(fsa: &Fsa<L>, from: &[bool], letter: Option<L>, to: &mut [boo
 }
 
 // Marks what silent edges reach, by as many rounds as there are states.
-fn close<L: Letter>(fsa: &Fsa<L>, mut states: Vec<bool>) -> Result<Vec<bool>, AllocError> {
+fn close<L: Letter>(
+    alloc: Global,
+    fsa: &Fsa<L>,
+    mut states: Vec<bool>,
+) -> Result<Vec<bool>, AllocError> {
     for _ in 0..fsa.states() {
-        let from = Vec::from_slice(fsa.allocator(), &states)?;
+        let from = Vec::from_slice(alloc, &states)?;
         step(fsa, &from, None, &mut states);
     }
     Ok(states)
 }
 
 // Whether the word is accepted, by marking states letter by letter.
-fn accepts<L: Letter>(fsa: &Fsa<L>, word: &[L]) -> Result<bool, AllocError> {
-    let mut states = vec![in fsa.allocator(); false; fsa.states()]?;
+fn accepts<L: Letter>(alloc: Global, fsa: &Fsa<L>, word: &[L]) -> Result<bool, AllocError> {
+    let mut states = vec![in alloc; false; fsa.states()]?;
     if let Some(start) = states.first_mut() {
         *start = true;
     }
-    states = close(fsa, states)?;
+    states = close(alloc, fsa, states)?;
     for letter in word {
-        let mut next = vec![in fsa.allocator(); false; fsa.states()]?;
+        let mut next = vec![in alloc; false; fsa.states()]?;
         step(fsa, &states, Some(*letter), &mut next);
-        states = close(fsa, next)?;
+        states = close(alloc, fsa, next)?;
     }
     Ok(
         states
@@ -75,17 +79,18 @@ fn accepts<L: Letter>(fsa: &Fsa<L>, word: &[L]) -> Result<bool, AllocError> {
 // How many of the words are answered wrongly, with silent edges or once they are gone: the first are to be accepted,
 // the others not.
 fn wrong_words<L: Letter>(
+    alloc: Global,
     fsa: &Fsa<L>,
     letters: &[L],
     accepted: &[&str],
     others: &[&str],
 ) -> Result<usize, AllocError> {
-    let lettered = without_empty(fsa)?;
+    let lettered = without_empty(alloc, fsa)?;
     let mut wrong = 0usize;
     for (place, text) in accepted.iter().chain(others).enumerate() {
-        let word = word_of(fsa.allocator(), letters, text)?;
+        let word = word_of(alloc, letters, text)?;
         let want = place < accepted.len();
-        if accepts(fsa, &word)? != want || accepts(&lettered, &word)? != want {
+        if accepts(alloc, fsa, &word)? != want || accepts(alloc, &lettered, &word)? != want {
             wrong = wrong.saturating_add(1);
         }
     }
@@ -97,10 +102,28 @@ fn wrong_operations<L: Letter>(alloc: Global, letters: &[L]) -> Result<[usize; 4
     let ab = word_alone(alloc, letters, "ab")?;
     let c = word_alone(alloc, letters, "c")?;
     Ok([
-        wrong_words(&union(&ab, &c)?, letters, &["ab", "c"], &["", "a", "abc"])?,
-        wrong_words(&concat(&ab, &c)?, letters, &["abc"], &["ab", "c", ""])?,
-        wrong_words(&star(&c)?, letters, &["", "c", "cc"], &["ca"])?,
-        wrong_words(&reverse(&ab)?, letters, &["ba"], &["ab", "b", ""])?,
+        wrong_words(
+            alloc,
+            &union(alloc, &ab, &c)?,
+            letters,
+            &["ab", "c"],
+            &["", "a", "abc"],
+        )?,
+        wrong_words(
+            alloc,
+            &concat(alloc, &ab, &c)?,
+            letters,
+            &["abc"],
+            &["ab", "c", ""],
+        )?,
+        wrong_words(alloc, &star(alloc, &c)?, letters, &["", "c", "cc"], &["ca"])?,
+        wrong_words(
+            alloc,
+            &reverse(alloc, &ab)?,
+            letters,
+            &["ba"],
+            &["ab", "b", ""],
+        )?,
     ])
 }
 
@@ -113,9 +136,16 @@ fn wrong_translations<L: Letter>(
     let ab = word_alone(alloc, letters, "ab")?;
     let c = word_alone(alloc, letters, "c")?;
     Ok([
-        wrong_words(&image(&ab, table)?, letters, &["c"], &["", "ab"])?,
         wrong_words(
-            &preimage(&c, table)?,
+            alloc,
+            &image(alloc, &ab, table)?,
+            letters,
+            &["c"],
+            &["", "ab"],
+        )?,
+        wrong_words(
+            alloc,
+            &preimage(alloc, &c, table)?,
             letters,
             &["a", "ab", "ba"],
             &["aa", "c"],

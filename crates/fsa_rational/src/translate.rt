@@ -15,14 +15,15 @@ use std::alloc::{AllocError, Global};
 /// gives none is left out. A letter that has no row stands in no word for which the table gives one, and a letter
 /// that has several rows stands for each.
 pub fn image<L: Letter, M: Letter>(
+    alloc: Global,
     a: &Fsa<L>,
     table: &[(L, Option<M>)],
 ) -> Result<Fsa<M>, AllocError>
     ensures letters { IfOk result (λ m. (y : M) → UsesLetter m y → (x : L) × Contains table.now (x, Some y)) }
     ensures language { IfOk result (λ m. (w : List M) → Accepts m w ↔ ((v : List L) × Accepts a.now v × Translates table.now v w)) }
 {
-    let rows = sorted_rows(Vec::from_slice(a.allocator(), table)?);
-    let mut m = same_states(a)?;
+    let rows = sorted_rows(Vec::from_slice(alloc, table)?);
+    let mut m = same_states(alloc, a)?;
     for edge in a.edges() {
         add_image(&mut m, edge, &rows)?;
     }
@@ -30,11 +31,11 @@ pub fn image<L: Letter, M: Letter>(
 }
 
 /// The states of an automaton, and no edge.
-fn same_states<L: Letter, M: Letter>(a: &Fsa<L>) -> Result<Fsa<M>, AllocError>
+fn same_states<L: Letter, M: Letter>(alloc: Global, a: &Fsa<L>) -> Result<Fsa<M>, AllocError>
     ensures { IfOk result (λ m. m ≡ record { edges = []; finals = a.now.finals }) }
 {
-    let finals = Vec::from_slice(a.allocator(), a.finals())?;
-    Ok(Fsa::of_states(a.allocator(), finals))
+    let finals = Vec::from_slice(alloc, a.finals())?;
+    Ok(Fsa::of_states(alloc, finals))
 }
 
 /// Adds the edges that the rows give for an edge.
@@ -64,18 +65,19 @@ fn add_image<L: Letter, M: Letter>(
 /// The automaton of the words for which the table gives a word of `a`, letter by letter; a letter for which it
 /// gives none may stand anywhere. A letter that has no row stands in none of the words.
 pub fn preimage<L: Letter, M: Letter>(
+    alloc: Global,
     a: &Fsa<M>,
     table: &[(L, Option<M>)],
 ) -> Result<Fsa<L>, AllocError>
     ensures letters { IfOk result (λ m. (x : L) → UsesLetter m x → (y : Option M) × Contains table.now (x, y)) }
     ensures language { IfOk result (λ m. (v : List L) → Accepts m v ↔ ((w : List M) × Accepts a.now w × Translates table.now v w)) }
 {
-    let rows = sorted_rows(kept_rows(a.allocator(), table)?);
-    let mut m = same_states(a)?;
+    let rows = sorted_rows(kept_rows(alloc, table)?);
+    let mut m = same_states(alloc, a)?;
     for edge in a.edges() {
         add_preimage(&mut m, edge, &rows)?;
     }
-    add_loops(&mut m, &omitted_letters(a.allocator(), table)?)?;
+    add_loops(&mut m, &omitted_letters(alloc, table)?)?;
     Ok(m)
 }
 

@@ -54,7 +54,7 @@ fn determines<L: Letter>(
     let m = one_letter(alloc, letters[0])?;
     let d = determine(alloc, &m, letters)?;
     assert_eq!(rt; answers(&d, letters, twice), [false, true, false, false]);
-    let again = determine(alloc, &d.to_fsa()?, letters)?;
+    let again = determine(alloc, &d.to_fsa(alloc)?, letters)?;
     assert_eq!(rt;
         answers(&again, letters, twice),
         [false, true, false, false]

@@ -111,3 +111,14 @@ IsTable-with_text text texts t some room apart = record {
 -- where the test finds a text in a set of strings, the table stays
 pub with_text-held : {Y : Type 0} (text : List ℕ) (ks : List (String Y)) → list_any (λ k. bytes_eq text (string_bytes k)) ks ≡ true → map string_bytes ks ≡ with_text text (map string_bytes ks)
 with_text-held text ks held = sym (ap (λ b. cond b (map string_bytes ks) (map string_bytes ks ++ text ∷ [])) (sym (list_any-strings text ks) ∙ held))
+
+-- the number of a text that the test doesn't find is the next one
+pub number_of-new : (text : List ℕ) (texts : List (List ℕ)) → list_any (bytes_eq text) texts ≡ false → number_of text texts ≡ length texts
+number_of-new text [] new = refl
+number_of-new text (t ∷ texts) new = by (bytes_eq text t) refl (number_of-new text texts)
+  where
+    by : (b : Bool) → bytes_eq text t ≡ b → (list_any (bytes_eq text) texts ≡ false → number_of text texts ≡ length texts) → number_of text (t ∷ texts) ≡ length (t ∷ texts)
+    by true e rest = absurd (true≢false (subst (λ b. (b || list_any (bytes_eq text) texts) ≡ false) e new))
+    by false e rest =
+        let behind : number_of text texts ≡ length texts = rest (subst (λ b. (b || list_any (bytes_eq text) texts) ≡ false) e new) in
+        subst (λ b. cond (not b) (1 + number_of text texts) 0 ≡ length (t ∷ texts)) (sym e) (omega (arith, behind))

@@ -70,6 +70,17 @@ impl SymbolTable {
         Ok(Sym(place as u32))
     }
 
+    /// The symbol that [`SymbolTable::intern`] gives for this text: its own number where the table has it, and
+    /// else the next one.
+    pub fn number_of(&self, text: &str) -> Sym
+        ensures { result.0 ≡ number_of text.now self.now }
+    {
+        match self.texts.get_index_of(text) {
+            Some(place) => Sym(place as u32),
+            None => Sym(self.texts.len() as u32),
+        }
+    }
+
     /// Forgets the symbols from the number `len` on.
     pub fn keep(&mut self, len: usize)
         ensures { self.new ≡ take len self.old }

@@ -1,10 +1,11 @@
 -- The language and the relation of an expression (Beesley and Karttunen, Finite State Morphology, 2003,
 -- chapter 2). A leaf stands for one letter, which `symbol` gives. Words of a language may have the edge
 -- of the word as a letter, since contexts speak of it; related words have letters of the alphabet alone.
-use Rattle.std.specs.Prelude.{◌≡◌, ◌<◌, ◌++◌, ◌⊎◌, ℕ, List, [], ◌∷◌, length, map, All}
+use Rattle.std.specs.Prelude.{◌≡◌, ◌<◌, ◌⊎◌, ℕ, List, [], ◌∷◌, map}
 use Rattle.fsm_base.specs.declared.letters.Bound.{Bound}
 use Rattle.fsm_base.specs.declared.letters.Bound.TheVariants.{Edge, Inner}
-use Rattle.fsm_words.specs.Words.{IsConcatenation, joined}
+use Rattle.fsm_words.specs.Words.{IsConcatenation}
+use Rattle.fsm_words.specs.Relations.{IsConcatenationOfPairs, IsRepetitionOfPairs}
 use Rattle.regex_ast.specs.declared.expr.Suffix.{Suffix}
 use Rattle.regex_ast.specs.declared.expr.Suffix.TheVariants.{Star, Plus, Power}
 use Rattle.regex_ast.specs.Terms.{Term, empty, edge, atom, letters, group, maybe, cross, suffixed, concat, chain, Terms, no_term, then_term, Links, no_link, or}
@@ -12,14 +13,6 @@ use Rattle.regex_ast.specs.Terms.{Term, empty, edge, atom, letters, group, maybe
 -- a word without the edge, as one that might have it
 abbrev pub inner : {L : Type 0} → List L → List (Bound L)
 inner w = map Inner w
-
--- a pair of words of the first relation, and then one of the second
-abbrev pub IsConcatenationOfPairs : {L : Type 0} → (List L → List L → Type 0) → (List L → List L → Type 0) → List L → List L → Type 0
-IsConcatenationOfPairs {L} P Q u w = (u1 : List L) × (u2 : List L) × (w1 : List L) × (w2 : List L) × (u ≡ u1 ++ u2) × (w ≡ w1 ++ w2) × P u1 w1 × Q u2 w2
-
--- so many pairs of the relation as pass the test, one after another
-abbrev pub IsRepetitionOfPairs : {L : Type 0} → (ℕ → Type 0) → (List L → List L → Type 0) → List L → List L → Type 0
-IsRepetitionOfPairs {L} Counts P u w = (pairs : List (List L × List L)) × Counts (length pairs) × All (λ p. P p.0 p.1) pairs × (u ≡ joined (map (λ p. p.0) pairs)) × (w ≡ joined (map (λ p. p.1) pairs))
 
 -- how often a suffix lets its operand stand: any number of times, once or more, or just so often
 abbrev pub Repeats : Suffix → ℕ → Type 0

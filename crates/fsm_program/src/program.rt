@@ -217,7 +217,7 @@ fn look_up<F: Folder, I: Source, O: Sink>(
 ///   reply.
 /// - 4: the output couldn't be written.
 /// - 5: there was no memory for the project. Nothing was read or written.
-/// - 6: the input has more than 2^40 bytes. Every line that was read whole has its reply.
+/// - 6: 2^40 bytes were read and the input hasn't ended. Every line that was read whole has its reply.
 pub fn run<F: Folder, I: Source, O: Sink>(
     alloc: Global,
     words: &[String],

@@ -1,11 +1,11 @@
 -- Expressions as plain trees, without where they lie in memory. Definitions of reading and of meaning
 -- speak of these, and a clause sees an expression of the program as its `term`.
-use Rattle.std.specs.Prelude.{ℕ, Bool, List}
+use Rattle.std.specs.Prelude.{ℕ, Bool, List, [], ◌∷◌}
 use Rattle.regex_ast.specs.declared.expr.Suffix.{Suffix}
 use Rattle.regex_ast.specs.declared.expr.Prefix.{Prefix}
 use Rattle.regex_ast.specs.declared.expr.Side.{Side}
 use Rattle.regex_ast.specs.declared.expr.Expr.{Expr, Empty, Any, Edge, Atom, Letters, Group', Maybe', NotOne', Cross', Suffixed', Prefixed', Ignore', Concat', Chain', Only', Rules, Steps', Row_of-Expr, end_of-Expr, more_of-Expr, Row_of-Link, end_of-Link, more_of-Link, Row_of-Context, end_of-Context, more_of-Context, Row_of-Step, end_of-Step, more_of-Step}
-use Rattle.regex_ast.specs.declared.expr.Link.{Or, And, Less}
+use Rattle.regex_ast.specs.declared.expr.Link.{Link, Or, And, Less}
 use Rattle.regex_ast.specs.declared.expr.Step.{CrossWith, Then}
 use Rattle.regex_ast.specs.declared.expr.Mapping.{Plain, Markup, Insert}
 use Rattle.regex_ast.specs.declared.expr.RuleSet.{RuleSet', Row_of-Group, end_of-Group, more_of-Group}
@@ -114,3 +114,14 @@ abbrev mutual
   pub groups : {A : Type 0} {n : _} → Row_of-Group A n → Groups A
   groups end_of-Group = no_group
   groups (more_of-Group (Group_of shape maps side shape' all) row) = then_group (mappings maps) side (contexts all) (groups row)
+
+-- expressions side by side, and the operands of a row, by their lists
+abbrev pub terms_of : {A : Type 0} → List (Term A) → Terms A
+terms_of [] = no_term
+terms_of (t ∷ ts) = then_term t (terms_of ts)
+
+abbrev pub links_of : {A : Type 0} → List (Link A) → Links A
+links_of [] = no_link
+links_of (Or e ∷ ls) = or (term e) (links_of ls)
+links_of (And e ∷ ls) = and (term e) (links_of ls)
+links_of (Less e ∷ ls) = less (term e) (links_of ls)

@@ -1,8 +1,9 @@
-use Rattle.std.proofs.Common.{◌≡◌}
-use Rattle.automata_bench.specs.Letters.{letters_below}
+use Rattle.std.proofs.Common.{◌≡◌, length}
+use Rattle.automata_bench.proofs.Numbered.{AreNumbered}
 use Rattle.automata_bench.proofs.letters_below.Given as goal
 
 abbrev pub invariant-numbers : goal.invariant-numbers
 invariant-numbers l = record {
-  so_far : l.letters.items ≡ letters_below l.number;
+  numbered : AreNumbered l.letters.items;
+  count : length l.letters.items ≡ l.number;
 }

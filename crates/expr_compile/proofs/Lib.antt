@@ -1,0 +1,8 @@
+mod Tables
+mod Rowwise
+mod Weights
+mod Sides
+mod WordAlone
+mod Steps
+mod Related
+mod Repeated
