@@ -8,14 +8,14 @@ use Rattle.std.proofs.lemmas.Str.{IsUtf8-from_ascii}
 use Rattle.std.specs.List.{list_all}
 use Rattle.std.specs.Str.{IsUtf8, bytes_eq}
 use Rattle.fsm_base.specs.Symbols.{IsSymbol}
-use Rattle.regex_ast.specs.Terms.{Term, empty, atom, letters, cross}
+use Rattle.regex_ast.specs.Terms.{Term, terms_of, empty, atom, letters, cross}
 use Rattle.regex_ast.specs.declared.expr.Suffix.{Suffix}
 use Rattle.regex_ast.specs.declared.expr.Raw.{Raw}
 use Rattle.regex_ast.specs.declared.expr.Define.{Define}
 use Rattle.regex_ast.specs.declared.expr.Raw.TheVariants.{Run as run_symbol, Quoted as quoted_symbol}
 use Rattle.regex_reader.specs.Bytes.{is_blank, is_printable, is_run_byte, is_quoted_byte, is_braced_byte}
 use Rattle.regex_reader.specs.Rows.{Row, put_more, put_row}
-use Rattle.regex_reader.specs.Form.{Statement, ReadsAs, Placed, IsPlaced, statement_of, byte_of, spelling, is_token, text_of, Operand, Primary, single, blank, grouped, optional, Crossed, alone, pair, SuffixForm, star, plus, power, Suffixed, Concatenated, Linked, or_else, Chained, Expression, most_open, put_operand, put_primary, put_crossed, put_suffix, put_suffixed, put_concat, put_linked, put_chain, put_expression, statement_tokens, leaf_term, operand_term, primary_term, crossed_term, suffix_of, with_suffixes, suffixed_term, terms_of, side_by_side, concat_term, LinkTerm, or_term, and_term, less_term, linked_value, links_of, with_links, chain_term, expression_term}
+use Rattle.regex_reader.specs.Form.{Statement, ReadsAs, Placed, IsPlaced, statement_of, byte_of, spelling, is_token, text_of, Operand, Primary, single, blank, grouped, optional, Crossed, alone, pair, SuffixForm, star, plus, power, Suffixed, Concatenated, Linked, or_else, Chained, Expression, most_open, put_operand, put_primary, put_crossed, put_suffix, put_suffixed, put_concat, put_linked, put_chain, put_expression, statement_tokens, leaf_term, operand_term, primary_term, crossed_term, suffix_of, with_suffixes, suffixed_term, side_by_side, concat_term, LinkTerm, or_term, and_term, less_term, linked_value, links_by, with_links, chain_term, expression_term}
 use Rattle.regex_reader.specs.declared.token.Leaf.{Leaf}
 use Rattle.regex_reader.specs.declared.token.Leaf.TheVariants.{Run, Quoted, Braced}
 use Rattle.regex_reader.specs.declared.token.Operator.{Operator}
@@ -80,7 +80,7 @@ row_built says h t first (a ∷ items) = (first, (h a, terms_built says h items)
 concat_built : {E : Type 0} (name : List ℕ) (says : E → Term Raw) → ((e : E) → IsBuilt (says e)) → (row : Concatenated name E) → IsBuilt (concat_term says row)
 concat_built name says h row = row_built (suffixed_term says) (suffixed_built name says h) (suffixed_term says row.first) (suffixed_built name says h row.first) row.more
 
-links_built : {C : Type 0} (says : C → Term Raw) → ((c : C) → IsBuilt (says c)) → (ls : List (Linked C)) → AreBuiltLinks (links_of (map (linked_value says) ls))
+links_built : {C : Type 0} (says : C → Term Raw) → ((c : C) → IsBuilt (says c)) → (ls : List (Linked C)) → AreBuiltLinks (links_by (map (linked_value says) ls))
 links_built says h [] = tt
 links_built says h (or_else c ∷ ls) = (h c, links_built says h ls)
 
@@ -248,7 +248,7 @@ linked_fits put says h (or_else c) rest fine =
     let inner : Fits put (λ c. symbols_in (says c)) c rest = h c rest fine.1 in
     record { cost = inner.cost + 1; few = (inner.few.0, omega (arith, inner.few.1)); sizes = omega (arith, inner.sizes); behind = inner.behind }
 
-links_symbols : {C : Type 0} (says : C → Term Raw) (ls : List (Linked C)) → each (linked_symbols says) ls ≡ symbols_in_links (links_of (map (linked_value says) ls))
+links_symbols : {C : Type 0} (says : C → Term Raw) (ls : List (Linked C)) → each (linked_symbols says) ls ≡ symbols_in_links (links_by (map (linked_value says) ls))
 links_symbols says [] = refl
 links_symbols says (or_else c ∷ ls) = ap (λ more. symbols_in (says c) ++ more) (links_symbols says ls)
 

@@ -12,7 +12,7 @@ use Rattle.std.specs.Prelude.{◌≡◌, ◌≢◌, ◌≤◌, ◌+◌, ℕ, zer
 use Rattle.std.specs.List.{list_all}
 use Rattle.std.specs.Str.{bytes_eq}
 use Rattle.regex_ast.specs.Flags.{IsFlag, IsNegativeFlag}
-use Rattle.regex_ast.specs.Terms.{Term, Terms, Links, term, no_term, then_term, no_link, or, and, less, empty, atom, letters, group, maybe, cross, suffixed, concat, chain}
+use Rattle.regex_ast.specs.Terms.{Term, Links, term, no_link, or, and, less, empty, atom, letters, group, maybe, cross, suffixed, concat, chain, terms_of}
 use Rattle.regex_ast.specs.declared.expr.Raw.{Raw}
 use Rattle.regex_ast.specs.declared.expr.Raw.TheVariants.{Run as run_symbol, Quoted as quoted_symbol}
 use Rattle.regex_ast.specs.declared.expr.Suffix.{Suffix}
@@ -226,10 +226,6 @@ with_suffixes t (s ∷ more) = suffixed t (s ∷ more)
 abbrev pub suffixed_term : {name : List ℕ} {E : Type 0} → (E → Term Raw) → Suffixed name E → Term Raw
 suffixed_term says row = row_value with_suffixes (crossed_term says) suffix_of row
 
-abbrev pub terms_of : {A : Type 0} → List (Term A) → Terms A
-terms_of [] = no_term
-terms_of (t ∷ ts) = then_term t (terms_of ts)
-
 -- one term alone, or several side by side
 abbrev pub side_by_side : Term Raw → List (Term Raw) → Term Raw
 side_by_side t [] = t
@@ -247,15 +243,15 @@ pub data LinkTerm (A : Type 0) : Type 0 where
 abbrev pub linked_value : {C : Type 0} → (C → Term Raw) → Linked C → LinkTerm Raw
 linked_value says (or_else c) = or_term (says c)
 
-abbrev pub links_of : {A : Type 0} → List (LinkTerm A) → Links A
-links_of [] = no_link
-links_of (or_term t ∷ more) = or t (links_of more)
-links_of (and_term t ∷ more) = and t (links_of more)
-links_of (less_term t ∷ more) = less t (links_of more)
+abbrev pub links_by : {A : Type 0} → List (LinkTerm A) → Links A
+links_by [] = no_link
+links_by (or_term t ∷ more) = or t (links_by more)
+links_by (and_term t ∷ more) = and t (links_by more)
+links_by (less_term t ∷ more) = less t (links_by more)
 
 abbrev pub with_links : Term Raw → List (LinkTerm Raw) → Term Raw
 with_links t [] = t
-with_links t (l ∷ more) = chain t (links_of (l ∷ more))
+with_links t (l ∷ more) = chain t (links_by (l ∷ more))
 
 abbrev pub chain_term : {name : List ℕ} {E : Type 0} → (E → Term Raw) → Chained name E → Term Raw
 chain_term says row = row_value with_links (concat_term says) (linked_value (concat_term says)) row
