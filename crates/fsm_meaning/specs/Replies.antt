@@ -5,6 +5,8 @@ use Rattle.std.specs.List.{flat_map}
 use Rattle.fsm_base.specs.Cut.{cut}
 use Rattle.fsm_meaning.specs.Answers.{Texts, Found, strings, more, loop, Answers}
 use Rattle.fsm_meaning.specs.Projects.{Project, Defines, Meaning}
+use Rattle.fsm_meaning.specs.declared.direction.Direction.{Direction}
+use Rattle.fsm_meaning.specs.declared.direction.Direction.TheVariants.{Up, Down}
 
 -- the bytes with a newline
 abbrev pub line_of : List ℕ → List ℕ
@@ -37,16 +39,10 @@ without_last last (b ∷ c ∷ bytes) = b ∷ without_last last (c ∷ bytes)
 abbrev pub without_return : List ℕ → List ℕ
 without_return line = without_last 13 line
 
--- which texts a look-up of the cut word finds
-pub data Direction : Type 0 where
-  -- the upper, lexical words of a lower word
-  up : Direction
-  -- the lower, surface words of an upper word
-  down : Direction
-
+-- the texts that a look-up of the cut word finds
 abbrev pub Related : Project → Direction → List ℕ → List (List ℕ) → List ℕ → Type 0
-Related project up net word = Texts (λ u. Meaning project net u word)
-Related project down net word = Texts (λ w. Meaning project net word w)
+Related project Up net word = Texts (λ u. Meaning project net u word)
+Related project Down net word = Texts (λ w. Meaning project net word w)
 
 -- the reply to a word
 pub data RepliesToWord (project : Project) (direction : Direction) (version : ℕ) (net word bytes : List ℕ) : Type 0 where

@@ -1,17 +1,21 @@
 -- What a network finds is a lawful reply over the project that it shows.
-use Rattle.std.proofs.Common.{◌≡◌, ◌≢◌, ℕ, ◌==◌, Bool, true, false, cond, List, [], ◌∷◌, Some, Ok, Result, refl, sym, ap, subst, ◌∙◌, inl, inr, slice_get, arith, suc, Contains}
+use Rattle.std.proofs.Common.{◌≡◌, ◌↔◌, ◌≢◌, ◌++◌, ℕ, ◌==◌, Bool, true, false, cond, List, [], ◌∷◌, Some, Ok, Result, refl, sym, ap, subst, ◌∙◌, inl, inr, slice_get, arith, suc, Contains}
 use Rattle.std.proofs.lemmas.Bool.Decides.{nat_tests}
-use Rattle.std.proofs.lemmas.List.Elements.{All-head, All-tail}
+use Rattle.std.proofs.lemmas.List.Elements.{All-head, All-tail, All-weaker}
 use Rattle.fsm_words.specs.Words.{joined, IsOver}
 use Rattle.fsm_words.proofs.Members.{Contains-nil_cases, Contains-head, Contains-cons_cases}
 use Rattle.fsm_base.specs.declared.letters.Sym.{Sym}
 use Rattle.fsm_base.specs.Alphabet.{IsAlphabet, symbols_of, texts_of, text_of, spelled}
 use Rattle.fsm_base.specs.Cut.{cut}
-use Rattle.fsm_meaning.specs.Answers.{Texts, AreAll, strings}
+use Rattle.fsm_meaning.specs.Answers.{Texts, Answers, Found, strings, more, loop, times}
+use Rattle.fsm_meaning.specs.declared.direction.Direction.{Direction}
+use Rattle.fsm_meaning.specs.declared.direction.Direction.TheVariants.{Up, Down}
 use Rattle.fsm_meaning.specs.Projects.{Project, Defines, Meaning}
-use Rattle.fsm_meaning.specs.Replies.{RepliesToWord, answered, Related, up, answer_bytes}
-use Rattle.fsm_program.specs.Networks.{NetworkView, Shows}
-use Rattle.fsm_program.proofs.SideLemmas.{cases_bool}
+use Rattle.fsm_meaning.specs.Replies.{RepliesToWord, answered, Related, answer_bytes}
+use Rattle.fst_relation.specs.Relation.{IsRelated}
+use Rattle.lookup.specs.Answering.{UpperTexts, LowerTexts}
+use Rattle.fsm_program.specs.Networks.{NetworkView, Shows, TextsTo}
+use Rattle.fsm_program.proofs.Alphabets.{cases_bool}
 
 -- a symbol of the alphabet and its text stand at one place
 text_placed : (alphabet : List (Sym × List ℕ)) (s : Sym) → Contains (symbols_of alphabet) s → (k : ℕ) × (slice_get (symbols_of alphabet) k ≡ Some s) × (slice_get (texts_of alphabet) k ≡ Some (text_of alphabet s))
@@ -63,51 +67,53 @@ word_from_texts alphabet formed (x ∷ u) (y ∷ w) a b same =
     let others = word_from_texts alphabet formed u w (All-tail (Contains (symbols_of alphabet)) x u a) (All-tail (Contains (symbols_of alphabet)) y w b) tail in
     ap (λ (z : Sym). z ∷ u) first ∙ ap (λ (z : List Sym). y ∷ z) others
 
+-- the same texts have the same lawful answers
+answers_same : (T U : List ℕ → Type 0) → ((text : List ℕ) → T text ↔ U text) → (found : Found) → Answers T found → Answers U found
+answers_same T U same (strings texts) a = record {
+  few = a.few;
+  all = λ text. (λ u. (a.all text).0 ((same text).1 u), λ among. (same text).0 ((a.all text).1 among));
+  in_order = a.in_order;
+}
+answers_same T U same more a = record {
+  bound = a.bound;
+  finite = λ text u. a.finite text ((same text).1 u);
+  texts = a.texts;
+  beyond = a.beyond;
+  distinct = a.distinct;
+  related = All-weaker T U (λ text t. (same text).0 t) a.texts a.related;
+}
+answers_same T U same (loop before round after) a = record { goes_round = a.goes_round; related = λ m. (same (before ++ times m round ++ after)).0 (a.related m) }
+
 module _ (network : NetworkView) (project : Project) (shown : Shows network project) where
   pub defines : Defines project network.name
   defines = (shown.names network.name).1 refl
 
-  -- the word is the lower one, so the upper one is related and no other
-  related_one : (symbols : List Sym) (upper : List ℕ) → symbols ≡ network.lower → upper ≡ network.upper → AreAll (Related project up network.name (spelled network.alphabet symbols)) (upper ∷ [])
-  related_one symbols upper is upper_is = record {
-    few = omega arith;
-    all = λ text. (λ t. there text t, λ among. back text among);
-    in_order = tt;
-  }
-    where
-      there : (text : List ℕ) → Texts (λ u. Meaning project network.name u (spelled network.alphabet symbols)) text → Contains (upper ∷ []) text
-      there text t =
-          let pair = (shown.relates t.0 (spelled network.alphabet symbols)).0 t.1 in
-          let text_is : text ≡ upper = t.2 ∙ ap joined pair.0 ∙ sym shown.upper ∙ sym upper_is in
-          subst (λ (z : List ℕ). Contains (upper ∷ []) z) (sym text_is) (Contains-head upper [])
+  -- the texts that the network finds are those that the project relates
+  upper_texts : (lower : List Sym) → IsOver (symbols_of network.alphabet) lower → (text : List ℕ) → UpperTexts network.net network.alphabet lower text ↔ Related project Up network.name (spelled network.alphabet lower) text
+  upper_texts lower over text = (
+    λ (texts, (upper, related, is), text_is). (texts, (shown.relates texts (spelled network.alphabet lower)).1 (upper, lower, related, is, refl), text_is),
+    λ (texts, meaning, text_is).
+        let (upper, lower', related, is, same) = (shown.relates texts (spelled network.alphabet lower)).0 meaning in
+        (texts, (upper, subst (λ (z : List Sym). IsRelated network.net upper z) (sym (word_from_texts network.alphabet shown.formed lower lower' over (lower_over upper lower' related) same)) related, is), text_is),
+  )
 
-      back : (text : List ℕ) → Contains (upper ∷ []) text → Texts (λ u. Meaning project network.name u (spelled network.alphabet symbols)) text
-      back text among =
-          elim (Contains-cons_cases upper [] text among) as (λ _. Texts (λ u. Meaning project network.name u (spelled network.alphabet symbols)) text) [
-            | inl here ↦ (shown.word, (shown.relates shown.word (spelled network.alphabet symbols)).1 (refl, ap (λ (z : List Sym). spelled network.alphabet z) is), sym here ∙ upper_is ∙ shown.upper)
-            | inr none ↦ absurd (Contains-nil_cases text none)
-          ]
+  lower_texts : (upper : List Sym) → IsOver (symbols_of network.alphabet) upper → (text : List ℕ) → LowerTexts network.net network.alphabet upper text ↔ Related project Down network.name (spelled network.alphabet upper) text
+  lower_texts upper over text = (
+    λ (texts, (lower, related, is), text_is). (texts, (shown.relates (spelled network.alphabet upper) texts).1 (upper, lower, related, refl, is), text_is),
+    λ (texts, meaning, text_is).
+        let (upper', lower, related, same, is) = (shown.relates (spelled network.alphabet upper) texts).0 meaning in
+        (texts, (lower, subst (λ (z : List Sym). IsRelated network.net z lower) (sym (word_from_texts network.alphabet shown.formed upper upper' over (upper_over upper' lower related) same)) related, is), text_is),
+  )
 
-  -- the word is another, so nothing is related
-  related_none : (symbols : List Sym) → symbols ≢ network.lower → IsOver (symbols_of network.alphabet) symbols → AreAll (Related project up network.name (spelled network.alphabet symbols)) []
-  related_none symbols other over = record {
-    few = omega arith;
-    all = λ text. (λ t. absurd (none text t), λ among. absurd (Contains-nil_cases text among));
-    in_order = tt;
-  }
-    where
-      none : (text : List ℕ) → Texts (λ u. Meaning project network.name u (spelled network.alphabet symbols)) text → ⊥
-      none text t = other (word_from_texts network.alphabet shown.formed symbols network.lower over shown.over ((shown.relates t.0 (spelled network.alphabet symbols)).0 t.1).1)
+  found_texts : (direction : Direction) (word : List Sym) → IsOver (symbols_of network.alphabet) word → (text : List ℕ) → TextsTo direction network word text ↔ Related project direction network.name (spelled network.alphabet word) text
+  found_texts Up word over = upper_texts word over
+  found_texts Down word over = lower_texts word over
 
-  pub lawful_one : (word : List ℕ) (symbols : List Sym) (upper : List ℕ) → cut project.alphabet word ≡ Ok (spelled network.alphabet symbols) → symbols ≡ network.lower → upper ≡ network.upper
-      → RepliesToWord project up 1 network.name word (answer_bytes 1 word (strings (upper ∷ [])))
-  lawful_one word symbols upper is same upper_is =
-      answered (spelled network.alphabet symbols) (strings (upper ∷ [])) defines is (related_one symbols upper same upper_is) refl
-
-  pub lawful_none : (word : List ℕ) (symbols : List Sym) → cut project.alphabet word ≡ Ok (spelled network.alphabet symbols) → symbols ≢ network.lower → IsOver (symbols_of network.alphabet) symbols
-      → RepliesToWord project up 1 network.name word (answer_bytes 1 word (strings []))
-  lawful_none word symbols is other over =
-      answered (spelled network.alphabet symbols) (strings []) defines is (related_none symbols other over) refl
+  pub lawful : (direction : Direction) (word : List ℕ) (symbols : List Sym) (found : Found) → cut project.alphabet word ≡ Ok (spelled network.alphabet symbols) → IsOver (symbols_of network.alphabet) symbols → Answers (TextsTo direction network symbols) found
+      → RepliesToWord project direction 1 network.name word (answer_bytes 1 word found)
+  lawful direction word symbols found is over answers =
+      answered (spelled network.alphabet symbols) found defines is
+      (answers_same (TextsTo direction network symbols) (Related project direction network.name (spelled network.alphabet symbols)) (found_texts direction symbols over) found answers) refl
 
   -- what the network's alphabet cuts, the project's does
   pub cut_shown : (word : List ℕ) (r : Result (List (List ℕ)) ℕ) → cut (texts_of network.alphabet) word ≡ r → cut project.alphabet word ≡ r

@@ -2,10 +2,10 @@ pub mod Endings
 pub mod Lawful
 pub mod Loading
 pub mod Manifests
-pub mod NetworkLemmas
+pub mod Alphabets
+pub mod Shown
+pub mod Transport
 pub mod ReplyBytes
 pub mod Runs
-pub mod PairLemmas
 pub mod Reading
 pub mod Sending
-pub mod SideLemmas

@@ -1,5 +1,6 @@
 -- How a run ends: its status, and what was read and written by then.
 use Rattle.std.specs.Prelude.{◌≡◌, ◌⊎◌, ◌++◌, ℕ, List, [], ◌∷◌, Option, None, Some, Ok, Err, codes, decimal, if◌then◌else◌}
+use Rattle.std.specs.Option.{option_map}
 use Rattle.std.specs.Str.{bytes_eq}
 use Rattle.std.specs.Io.KnownBytes.{Appends}
 use Rattle.regex_ast.specs.declared.fault.Fault.{Fault}
@@ -10,20 +11,31 @@ use Rattle.fsm_io.specs.Folders.{Files, Told}
 use Rattle.fsm_meaning.specs.declared.ending.Ending.{Ending}
 use Rattle.fsm_meaning.specs.declared.ending.Ending.TheVariants.{Finished, WriteFailed, ReadFailed, Spent}
 use Rattle.fsm_meaning.specs.Projects.{Project}
-use Rattle.fsm_meaning.specs.Replies.{Replies, up, line_of}
+use Rattle.fsm_meaning.specs.declared.direction.Direction.{Direction}
+use Rattle.fsm_meaning.specs.declared.direction.Direction.TheVariants.{Up, Down}
+use Rattle.fsm_meaning.specs.Replies.{Replies, line_of}
 use Rattle.fsm_meaning.specs.Transcripts.{HasAnswered}
 use Rattle.fsm_program.specs.Files.{Reads}
 use Rattle.fsm_program.specs.declared.load.LoadError.{LoadError}
 use Rattle.fsm_program.specs.declared.load.LoadError.TheVariants.{Failed, Memory, Refused}
 use Rattle.fsm_program.specs.Running.{most_taken}
 
--- the name that is looked up in, where the words are `up DIR NET`
-abbrev pub net_of : List (List ℕ) → Option (List ℕ)
-net_of (command ∷ dir ∷ net ∷ []) = if bytes_eq command (codes "up") then Some net else None
-net_of _ = None
+-- what is looked up: in which direction, and in which name
+pub record Query : Type 0 where
+  pub direction : Direction
+  pub net : List ℕ
+
+-- the direction of a command
+abbrev pub direction_of : List ℕ → Option Direction
+direction_of command = if bytes_eq command (codes "up") then Some Up else if bytes_eq command (codes "down") then Some Down else None
+
+-- the words are `up DIR NET` or `down DIR NET`
+abbrev pub query_of : List (List ℕ) → Option Query
+query_of (command ∷ dir ∷ net ∷ []) = option_map (λ direction. record { direction = direction; net = net }) (direction_of command)
+query_of _ = None
 
 abbrev pub usage_text : List ℕ
-usage_text = line_of (codes "up DIR NET")
+usage_text = line_of (codes "up DIR NET") ++ line_of (codes "down DIR NET")
 
 abbrev pub why_text : Why → List ℕ
 why_text why.NoProject = codes "no-project"
@@ -72,15 +84,15 @@ IsAnswered R left0 left held0 held status = (ending : Ending) × (status ≡ sta
 abbrev pub IsSaid : Option (List ℕ) → Option (List ℕ) → List ℕ → ℕ → ℕ → Type 0
 IsSaid held0 held text said status = (front : List ℕ) × (rest : List ℕ) × (text ≡ front ++ rest) × Appends held0 held front × (((status ≡ said) × (rest ≡ [])) ⊎ (status ≡ 4))
 
--- every way to end. `net` is the name of a look-up, `faults` are the folder's before and after, `left` the
+-- every way to end. `query` is what is looked up, `faults` are the folder's before and after, `left` the
 -- input's bytes and `held` the output's before and after
-pub data Ends (net : Option (List ℕ)) (files : Option Files) (faults0 faults : ℕ) (left0 left held0 held : Option (List ℕ)) (status : ℕ) : Type 0 where
-  no_words : net ≡ None → left ≡ left0 → IsSaid held0 held usage_text 1 status → Ends net files faults0 faults left0 left held0 held status
-  refused : (name : List ℕ) (fault : Fault) → net ≡ Some name → Told files (λ files. Reads files (Err fault)) → left ≡ left0 → IsSaid held0 held (refusal_text fault) 2 status → Ends net files faults0 faults left0 left held0 held status
-  folder_failed : (name : List ℕ) → net ≡ Some name → left ≡ left0 → held ≡ held0 → Rose faults0 faults → status ≡ 3 → Ends net files faults0 faults left0 left held0 held status
-  no_memory : (name : List ℕ) → net ≡ Some name → left ≡ left0 → held ≡ held0 → status ≡ 5 → Ends net files faults0 faults left0 left held0 held status
-  answered : (name : List ℕ) (project : Project) → net ≡ Some name → Told files (λ files. Reads files (Ok project)) → IsAnswered (Replies project up 1 name) left0 left held0 held status
-      → Ends net files faults0 faults left0 left held0 held status
+pub data Ends (query : Option Query) (files : Option Files) (faults0 faults : ℕ) (left0 left held0 held : Option (List ℕ)) (status : ℕ) : Type 0 where
+  no_words : query ≡ None → left ≡ left0 → IsSaid held0 held usage_text 1 status → Ends query files faults0 faults left0 left held0 held status
+  refused : (asked : Query) (fault : Fault) → query ≡ Some asked → Told files (λ files. Reads files (Err fault)) → left ≡ left0 → IsSaid held0 held (refusal_text fault) 2 status → Ends query files faults0 faults left0 left held0 held status
+  folder_failed : (asked : Query) → query ≡ Some asked → left ≡ left0 → held ≡ held0 → Rose faults0 faults → status ≡ 3 → Ends query files faults0 faults left0 left held0 held status
+  no_memory : (asked : Query) → query ≡ Some asked → left ≡ left0 → held ≡ held0 → status ≡ 5 → Ends query files faults0 faults left0 left held0 held status
+  answered : (asked : Query) (project : Project) → query ≡ Some asked → Told files (λ files. Reads files (Ok project)) → IsAnswered (Replies project asked.direction 1 asked.net) left0 left held0 held status
+      → Ends query files faults0 faults left0 left held0 held status
 
 -- how a run ends whose project isn't loaded
 abbrev pub IsNotLoaded : LoadError → Option (List ℕ) → Option (List ℕ) → ℕ → Type 0

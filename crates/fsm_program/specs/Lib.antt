@@ -1,4 +1,3 @@
-pub mod Sides
 pub mod Networks
 pub mod Sending
 pub mod Running

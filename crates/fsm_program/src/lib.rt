@@ -3,7 +3,7 @@
 //! - [`run`]: answers the words of a command line, with its status.
 //!
 //! Inside, `words` reads the words, `load` the project of the folder (`manifest`, then `network`, which
-//! compiles the definition by the walk of `sides`), and `look_up` answers the lines of the input, each by
+//! compiles the definition), and `look_up` answers the lines of the input, each by
 //! the reply that `reply` gathers.
 #![tactic(auto)]
 
@@ -14,7 +14,6 @@ mod network;
 mod pieces;
 mod program;
 mod reply;
-mod sides;
 #[cfg(test)]
 mod tests;
 mod words;

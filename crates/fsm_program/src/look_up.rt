@@ -3,7 +3,7 @@ ghost use Rattle.fsm_io.specs.Causes.{HasCause, Rose};
 ghost use Rattle.fsm_io.specs.Reading.{size_of, HasTold};
 ghost use Rattle.fsm_io.specs.Sinks.{Gathers};
 ghost use Rattle.fsm_meaning.specs.Projects.{Project};
-ghost use Rattle.fsm_meaning.specs.Replies.{Replies, up};
+ghost use Rattle.fsm_meaning.specs.Replies.{Replies};
 ghost use Rattle.fsm_meaning.specs.Transcripts.{HasAnswered};
 ghost use Rattle.fsm_program.specs.Networks.{Shows};
 ghost use Rattle.fsm_program.specs.Running.{Sofar, Turns, flushed, most_taken};
@@ -11,7 +11,7 @@ ghost use Rattle.fsm_program.specs.Running.{Sofar, Turns, flushed, most_taken};
 use crate::network::Network;
 use crate::reply::{reply, reply_long};
 use fsm_io::{Failed, LineEvent, Lines, Outbox, Sink, Source};
-use fsm_meaning::Ending;
+use fsm_meaning::{Direction, Ending};
 use std::alloc::Global;
 
 /// Writes the replies that are gathered where the next line needs a read, so that they are seen
@@ -45,6 +45,7 @@ fn ending_of(sent: Result<(), Failed>) -> Option<Ending>
 fn answer_line<I: Source, O: Sink>(
     alloc: Global,
     network: &Network,
+    direction: Direction,
     net: &str,
     lines: &mut Lines,
     outbox: &mut Outbox,
@@ -52,8 +53,8 @@ fn answer_line<I: Source, O: Sink>(
     output: &mut O,
 ) -> Option<Ending>
     ensures turns { (project : Project) (budget : ℕ) (left0 held0 : Option (List ℕ)) → Shows network.now project
-        → Sofar (Replies project up 1 net.now) budget left0 (I.left input.old) held0 (O.held output.old) lines.old outbox.old
-        → Turns (Replies project up 1 net.now) budget left0 (I.left input.new) held0 (O.held output.new) lines.new outbox.new result }
+        → Sofar (Replies project direction 1 net.now) budget left0 (I.left input.old) held0 (O.held output.old) lines.old outbox.old
+        → Turns (Replies project direction 1 net.now) budget left0 (I.left input.new) held0 (O.held output.new) lines.new outbox.new result }
     ensures progress { IfNone result (size_of lines.new < size_of lines.old) }
     ensures read { result ≡ Some Ending.ReadFailed → Rose (I.faults input.old) (I.faults input.new) }
     ensures write { result ≡ Some Ending.WriteFailed → Rose (O.faults output.old) (O.faults output.new) }
@@ -61,7 +62,7 @@ fn answer_line<I: Source, O: Sink>(
     ensures later_output { O.faults output.old ≤ O.faults output.new }
 {
     match lines.next(input) {
-        LineEvent::Line => ending_of(reply(alloc, network, net, lines.text(), outbox, output)),
+        LineEvent::Line => ending_of(reply(alloc, network, direction, net, lines.text(), outbox, output)),
         LineEvent::Long => ending_of(reply_long(outbox, output)),
         LineEvent::End => Some(Ending::Finished),
         LineEvent::Failed => Some(Ending::ReadFailed),
@@ -73,6 +74,7 @@ fn answer_line<I: Source, O: Sink>(
 pub fn turn<I: Source, O: Sink>(
     alloc: Global,
     network: &Network,
+    direction: Direction,
     net: &str,
     lines: &mut Lines,
     outbox: &mut Outbox,
@@ -80,8 +82,8 @@ pub fn turn<I: Source, O: Sink>(
     output: &mut O,
 ) -> Option<Ending>
     ensures turns { (project : Project) (budget : ℕ) (left0 held0 : Option (List ℕ)) → Shows network.now project
-        → Sofar (Replies project up 1 net.now) budget left0 (I.left input.old) held0 (O.held output.old) lines.old outbox.old
-        → Turns (Replies project up 1 net.now) budget left0 (I.left input.new) held0 (O.held output.new) lines.new outbox.new result }
+        → Sofar (Replies project direction 1 net.now) budget left0 (I.left input.old) held0 (O.held output.old) lines.old outbox.old
+        → Turns (Replies project direction 1 net.now) budget left0 (I.left input.new) held0 (O.held output.new) lines.new outbox.new result }
     ensures progress { IfNone result (size_of lines.new < size_of lines.old) }
     ensures read { result ≡ Some Ending.ReadFailed → Rose (I.faults input.old) (I.faults input.new) }
     ensures write { result ≡ Some Ending.WriteFailed → Rose (O.faults output.old) (O.faults output.new) }
@@ -89,7 +91,7 @@ pub fn turn<I: Source, O: Sink>(
     ensures later_output { O.faults output.old ≤ O.faults output.new }
 {
     match write_before_read(lines, outbox, output) {
-        Ok(()) => answer_line(alloc, network, net, lines, outbox, input, output),
+        Ok(()) => answer_line(alloc, network, direction, net, lines, outbox, input, output),
         Err(Failed) => Some(Ending::WriteFailed),
     }
 }
@@ -116,6 +118,7 @@ fn finish<O: Sink>(ending: Ending, outbox: &mut Outbox, output: &mut O) -> Endin
 pub fn look_up_all<I: Source, O: Sink>(
     alloc: Global,
     network: &Network,
+    direction: Direction,
     net: &str,
     lines: &mut Lines,
     outbox: &mut Outbox,
@@ -125,14 +128,14 @@ pub fn look_up_all<I: Source, O: Sink>(
     requires start { (left : Option (List ℕ)) → HasTold left left most_taken lines.old [] }
     requires empty { outbox.old ≡ [] }
     ensures answered { (project : Project) → Shows network.now project
-        → HasAnswered (Replies project up 1 net.now) most_taken (I.left input.old) (I.left input.new) (O.held output.old) (O.held output.new) result }
+        → HasAnswered (Replies project direction 1 net.now) most_taken (I.left input.old) (I.left input.new) (O.held output.old) (O.held output.new) result }
     ensures read { result ≡ Ending.ReadFailed → Rose (I.faults input.old) (I.faults input.new) }
     ensures write { result ≡ Ending.WriteFailed → Rose (O.faults output.old) (O.faults output.new) }
     ensures later_input { I.faults input.old ≤ I.faults input.new }
     ensures later_output { O.faults output.old ≤ O.faults output.new }
 {
     'lines: loop {
-        if let Some(ending) = turn(alloc, network, net, lines, outbox, input, output) {
+        if let Some(ending) = turn(alloc, network, direction, net, lines, outbox, input, output) {
             return finish(ending, outbox, output);
         }
     }

@@ -1,32 +1,37 @@
-ghost use Rattle.std.specs.Prelude.{◌≡◌, ◌≢◌, ◌≤◌, ◌+◌, ◌↔◌, length, All, IfOk, IfSome, IfNone, IsTrue};
-ghost use Rattle.fsm_base.specs.Alphabet.{listed};
-ghost use Rattle.fsm_base.specs.Symbols.{IsSymbol};
+ghost use Rattle.std.specs.Prelude.{◌≡◌, ◌↔◌, [], length, IfOk, IsTrue};
 ghost use Rattle.regex_ast.specs.Terms.{term};
-ghost use Rattle.fsm_meaning.specs.OnePair.{IsPlain};
+ghost use Rattle.fsm_meaning.specs.Answers.{Answers};
+ghost use Rattle.fsm_meaning.specs.Built.{IsBuilt};
 ghost use Rattle.fsm_meaning.specs.Projects.{symbols_in, project_of};
-ghost use Rattle.fsm_program.specs.Networks.{Shows, symbols_below};
+ghost use Rattle.expr_compile.specs.Tables.{Fits};
+ghost use Rattle.lookup.specs.Answering.{found_of};
+ghost use Rattle.fsm_program.specs.Networks.{Shows, TextsTo, symbols_below};
 
-use crate::sides::sides_of;
+use expr_compile::{add_symbols, compile};
 use fsm_base::{Alphabet, Sym, SymbolTable, Text};
+use fsm_meaning::Direction;
+use lookup::{Answer, Net, down, up};
 use regex_ast::{Define, Raw};
 use std::alloc::{AllocError, Global};
 use std::marker::Model;
 
-/// A compiled definition: its name, and the one pair of words that it relates.
+/// A compiled definition: its name, and its network over the symbols of an alphabet.
 #[derive(Drop)]
 pub struct Network {
     alphabet: Alphabet,
     name: Text,
-    upper: Text,
-    lower: Vec<Sym>,
+    net: Net,
 }
 
 impl Model for Network {
+    ghost use Rattle.lookup.specs.Answering.{IsOverAlphabet};
     ghost use Rattle.fsm_program.specs.Networks.{NetworkView};
 
     ghost Value = { NetworkView };
 
-    ghost view = { λ n. record { alphabet = n.alphabet; name = n.name; upper = n.upper; lower = n.lower.items } };
+    ghost view = { λ n. record { alphabet = n.alphabet; name = n.name; net = n.net } };
+
+    ghost invariant = { λ n. IsOverAlphabet n.alphabet n.net };
 }
 
 /// All symbols of a table, in the order of their numbers.
@@ -41,25 +46,21 @@ fn all_symbols(alloc: Global, table: &SymbolTable) -> Result<Vec<Sym>, AllocErro
 }
 
 impl Network {
-    /// Compiles a definition that relates one pair of words.
+    /// Compiles a definition.
     pub fn of(alloc: Global, define: &Define<Raw>) -> Result<Network, AllocError>
-        requires plain { IsPlain (term define.now.expr) }
-        requires some { All IsSymbol (symbols_in (term define.now.expr)) }
-        requires room { length (symbols_in (term define.now.expr)) ≤ 16777216 }
+        requires built { IsBuilt (term define.now.expr) }
+        requires fits { Fits [] (symbols_in (term define.now.expr)) }
         ensures { IfOk result (λ network. Shows network (project_of (record { name = define.now.name; term = term define.now.expr }))) }
     {
         let mut table = SymbolTable::new(alloc);
-        let mut upper = Vec::new(alloc);
-        let mut lower = Vec::new(alloc);
-        sides_of(&define.expr, &mut table, &mut upper, &mut lower)?;
+        add_symbols(&define.expr, &mut table)?;
         let symbols = all_symbols(alloc, &table)?;
         let alphabet = Alphabet::of(alloc, &table, &symbols)?;
-        let upper = alphabet.text(alloc, &upper)?;
+        let net = Net::of(alloc, &compile(alloc, &define.expr, &table)?)?;
         Ok(Network {
             alphabet,
             name: Text::of(alloc, define.name.as_str())?,
-            upper,
-            lower,
+            net,
         })
     }
 
@@ -77,15 +78,18 @@ impl Network {
         self.name.as_str() == name
     }
 
-    /// The upper word that is related to this lower word, or `None` where it is another.
-    pub fn up(&self, word: &[Sym]) -> Option<&str>
-        ensures found { IfSome result (λ upper. (word.now ≡ self.now.lower) × (upper.now ≡ self.now.upper)) }
-        ensures none { IfNone result (word.now ≢ self.now.lower) }
+    /// The words that are related to this word, in one direction.
+    pub fn look(
+        &self,
+        alloc: Global,
+        direction: Direction,
+        word: &[Sym],
+    ) -> Result<Answer, AllocError>
+        ensures { IfOk result (λ answer. Answers (TextsTo direction self.now word.now) (found_of answer)) }
     {
-        if word == self.lower.as_slice() {
-            Some(self.upper.as_str())
-        } else {
-            None
+        match direction {
+            Direction::Up => up(alloc, &self.net, &self.alphabet, word),
+            Direction::Down => down(alloc, &self.net, &self.alphabet, word),
         }
     }
 }

@@ -7,9 +7,9 @@ ghost use Rattle.fsm_io.specs.Reading.{HasTold};
 ghost use Rattle.fsm_io.specs.Sinks.{WritesAll};
 ghost use Rattle.regex_ast.specs.declared.fault.Fault.{Fault};
 ghost use Rattle.fsm_meaning.specs.Projects.{Project};
-ghost use Rattle.fsm_meaning.specs.Replies.{Replies, up};
+ghost use Rattle.fsm_meaning.specs.Replies.{Replies};
 ghost use Rattle.fsm_meaning.specs.Transcripts.{HasAnswered};
-ghost use Rattle.fsm_program.specs.Ends.{Ends, IsAnswered, IsNotLoaded, IsSaid, net_of, refusal_line, refusal_text, status_of, usage_text, why_text};
+ghost use Rattle.fsm_program.specs.Ends.{Ends, IsAnswered, IsNotLoaded, IsSaid, Query, query_of, refusal_line, refusal_text, status_of, usage_text, why_text};
 ghost use Rattle.fsm_program.specs.Files.{Asks, IsLoadError, Reads};
 ghost use Rattle.fsm_program.specs.Networks.{Shows};
 ghost use Rattle.fsm_program.specs.Running.{most_taken};
@@ -18,15 +18,15 @@ use crate::load::{LoadError, load};
 use crate::look_up::look_up_all;
 use crate::network::Network;
 use crate::pieces::write_pieces;
-use crate::words::net_in;
+use crate::words::query_in;
 use fsm_io::{Failed, Folder, Lines, Outbox, Sink, Source, write_all};
-use fsm_meaning::Ending;
+use fsm_meaning::{Direction, Ending};
 use itoa::Buffer;
 use regex_ast::{Fault, Why};
 use std::alloc::{AllocError, Global};
 
 /// What is written where the words are in no form.
-const USAGE: &[u8] = b"up DIR NET\n";
+const USAGE: &[u8] = b"up DIR NET\ndown DIR NET\n";
 
 /// The greatest number of bytes taken from the input.
 const MOST_TAKEN: u64 = 1 << 40;
@@ -160,6 +160,7 @@ fn not_loaded<O: Sink>(error: LoadError, outbox: &mut Outbox, output: &mut O) ->
 fn answered<I: Source, O: Sink>(
     alloc: Global,
     network: &Network,
+    direction: Direction,
     net: &str,
     lines: &mut Lines,
     outbox: &mut Outbox,
@@ -169,23 +170,24 @@ fn answered<I: Source, O: Sink>(
     requires start { (left : Option (List ℕ)) → HasTold left left most_taken lines.old [] }
     requires empty { outbox.old ≡ [] }
     ensures answered { (project : Project) → Shows network.now project
-        → IsAnswered (Replies project up 1 net.now) (I.left input.old) (I.left input.new) (O.held output.old) (O.held output.new) result }
+        → IsAnswered (Replies project direction 1 net.now) (I.left input.old) (I.left input.new) (O.held output.old) (O.held output.new) result }
     ensures read { result ≡ 3 → Rose (I.faults input.old) (I.faults input.new) }
     ensures write { result ≡ 4 → Rose (O.faults output.old) (O.faults output.new) }
     ensures status { (result ≢ 1) × (result ≢ 2) × (result ≢ 5) }
 {
-    status(look_up_all(alloc, network, net, lines, outbox, input, output))
+    status(look_up_all(alloc, network, direction, net, lines, outbox, input, output))
 }
 
 /// Answers the lines of the input in the folder's project.
 fn look_up<F: Folder, I: Source, O: Sink>(
     alloc: Global,
+    direction: Direction,
     net: &str,
     folder: &mut F,
     input: &mut I,
     output: &mut O,
 ) -> u8
-    ensures ends { Ends (Some net.now) (F.files folder.old) (F.faults folder.old) (F.faults folder.new) (I.left input.old) (I.left input.new) (O.held output.old) (O.held output.new) result }
+    ensures ends { Ends (Some (record { direction = direction; net = net.now })) (F.files folder.old) (F.faults folder.old) (F.faults folder.new) (I.left input.old) (I.left input.new) (O.held output.old) (O.held output.new) result }
     ensures unread { (result ≡ 1) ⊎ (result ≡ 2) ⊎ (result ≡ 5) → input.new ≡ input.old }
     ensures unwritten { result ≡ 5 → output.new ≡ output.old }
     ensures read { result ≡ 3 → Rose (F.faults folder.old) (F.faults folder.new) ⊎ Rose (I.faults input.old) (I.faults input.new) }
@@ -199,7 +201,7 @@ fn look_up<F: Folder, I: Source, O: Sink>(
         return 5;
     };
     match load(alloc, folder, MOST_READ) {
-        Ok(network) => answered(alloc, &network, net, &mut lines, &mut outbox, input, output),
+        Ok(network) => answered(alloc, &network, direction, net, &mut lines, &mut outbox, input, output),
         Err(error) => not_loaded(error, &mut outbox, output),
     }
 }
@@ -207,7 +209,9 @@ fn look_up<F: Folder, I: Source, O: Sink>(
 /// Runs the program: `words` are its arguments, whose first is the command.
 ///
 /// - `up DIR NET` looks up each line of the input in the name NET of the folder's project, and writes
-///   its reply to the output. DIR is for the caller, who hands over the folder of that name.
+///   the reply with its upper words to the output. DIR is for the caller, who hands over the folder of
+///   that name.
+/// - `down DIR NET` does the same with its lower words.
 ///
 /// Returns the exit status:
 /// - 0: every line of the input has its reply.
@@ -225,15 +229,15 @@ pub fn run<F: Folder, I: Source, O: Sink>(
     input: &mut I,
     output: &mut O,
 ) -> u8
-    ensures ends { Ends (net_of (map string_bytes words.now)) (F.files folder.old) (F.faults folder.old) (F.faults folder.new) (I.left input.old) (I.left input.new) (O.held output.old) (O.held output.new) result }
-    ensures usage { result ≡ 1 → net_of (map string_bytes words.now) ≡ None }
-    ensures no_words { net_of (map string_bytes words.now) ≡ None → IsSaid (O.held output.old) (O.held output.new) usage_text 1 result }
+    ensures ends { Ends (query_of (map string_bytes words.now)) (F.files folder.old) (F.faults folder.old) (F.faults folder.new) (I.left input.old) (I.left input.new) (O.held output.old) (O.held output.new) result }
+    ensures usage { result ≡ 1 → query_of (map string_bytes words.now) ≡ None }
+    ensures no_words { query_of (map string_bytes words.now) ≡ None → IsSaid (O.held output.old) (O.held output.new) usage_text 1 result }
     ensures fault { result ≡ 2 → (fault : Fault) × Told (F.files folder.old) (λ files. Reads files (Err fault)) }
-    ensures refused { (net : List ℕ) (fault : Fault) → net_of (map string_bytes words.now) ≡ Some net → IsTold (F.files folder.old) (λ files. Reads files (Err fault)) → ¬ (Rose (F.faults folder.old) (F.faults folder.new))
+    ensures refused { (query : Query) (fault : Fault) → query_of (map string_bytes words.now) ≡ Some query → IsTold (F.files folder.old) (λ files. Reads files (Err fault)) → ¬ (Rose (F.faults folder.old) (F.faults folder.new))
         → IsSaid (O.held output.old) (O.held output.new) (refusal_text fault) 2 result ⊎ (result ≡ 5) }
-    ensures answered { (net : List ℕ) (project : Project) → net_of (map string_bytes words.now) ≡ Some net → IsTold (F.files folder.old) (λ files. Reads files (Ok project)) → ¬ (Rose (F.faults folder.old) (F.faults folder.new))
-        → IsAnswered (Replies project up 1 net) (I.left input.old) (I.left input.new) (O.held output.old) (O.held output.new) result ⊎ (result ≡ 5) }
-    ensures complete { (net : List ℕ) (project : Project) → net_of (map string_bytes words.now) ≡ Some net → IsTold (F.files folder.old) (λ files. Reads files (Ok project)) → ¬ (Rose (F.faults folder.old) (F.faults folder.new))
+    ensures answered { (query : Query) (project : Project) → query_of (map string_bytes words.now) ≡ Some query → IsTold (F.files folder.old) (λ files. Reads files (Ok project)) → ¬ (Rose (F.faults folder.old) (F.faults folder.new))
+        → IsAnswered (Replies project query.direction 1 query.net) (I.left input.old) (I.left input.new) (O.held output.old) (O.held output.new) result ⊎ (result ≡ 5) }
+    ensures complete { (query : Query) (project : Project) → query_of (map string_bytes words.now) ≡ Some query → IsTold (F.files folder.old) (λ files. Reads files (Ok project)) → ¬ (Rose (F.faults folder.old) (F.faults folder.new))
         → ¬ (Rose (I.faults input.old) (I.faults input.new)) → ¬ (Rose (O.faults output.old) (O.faults output.new)) → result ≢ 6 → (result ≡ 0) ⊎ (result ≡ 5) }
     ensures spent { result ≡ 6 → (taken : List ℕ) × Consumes (I.left input.old) (I.left input.new) taken × (length taken ≡ most_taken) }
     ensures unread { (result ≡ 1) ⊎ (result ≡ 2) ⊎ (result ≡ 5) → input.new ≡ input.old }
@@ -242,8 +246,8 @@ pub fn run<F: Folder, I: Source, O: Sink>(
     ensures write { result ≡ 4 → Rose (O.faults output.old) (O.faults output.new) }
     ensures asked { Asks F.reads (F.files folder.old) folder.old folder.new }
 {
-    match net_in(words) {
-        Some(net) => look_up(alloc, net, folder, input, output),
+    match query_in(words) {
+        Some((direction, net)) => look_up(alloc, direction, net, folder, input, output),
         None => said(output, USAGE, 1),
     }
 }

@@ -1,19 +1,24 @@
 ghost use Rattle.std.specs.Prelude.{◌≡◌, ◌-◌, ◌^◌, ◌<◌, ◌≤◌, ◌↔◌, ◌++◌, ◌∷◌, List, ℕ, Some, None, Ok, length, codes, decimal, IfSome, IfNone, IsTrue};
+ghost use Rattle.std.specs.List.{flat_map};
 ghost use Rattle.fsm_base.specs.Alphabet.{spelled, symbols_of};
 ghost use Rattle.fsm_base.specs.Cut.{cut};
 ghost use Rattle.fsm_io.specs.Causes.{HasCause};
 ghost use Rattle.fsm_io.specs.Sinks.{Gathers};
 ghost use Rattle.fsm_meaning.specs.Projects.{Project};
-ghost use Rattle.fsm_meaning.specs.Replies.{IsWord, Replies, RepliesToWord, headed, up};
+ghost use Rattle.fsm_meaning.specs.Answers.{strings};
+ghost use Rattle.fsm_meaning.specs.Replies.{IsWord, Replies, RepliesToWord, answer_bytes, headed, line_of};
+ghost use Rattle.lookup.specs.Answering.{found_of};
 ghost use Rattle.fsm_program.specs.Networks.{Shows};
 ghost use Rattle.fsm_program.specs.Sending.{Sends};
 ghost use Rattle.fsm_words.specs.Words.{IsOver};
 
 use crate::network::Network;
 use crate::pieces::{put_all, without_last};
-use fsm_base::{Sym, TokensError};
+use fsm_base::{Sym, Text, TokensError};
 use fsm_io::{Failed, Outbox, Sink};
+use fsm_meaning::Direction;
 use itoa::Buffer;
+use lookup::Answer;
 use std::alloc::Global;
 
 /// Whether all bytes of the line are printable ASCII.
@@ -37,35 +42,104 @@ fn word_of(line: &[u8]) -> Option<&str>
     }
 }
 
-/// Gathers the reply to a word that has a cut: the one related text, or none.
+/// Gathers the texts, each with a newline.
+fn put_lines<O: Sink>(texts: &[Text], outbox: &mut Outbox, output: &mut O) -> Result<(), Failed>
+    ensures bytes { Gathers (O.held output.old) (O.held output.new) outbox.old (flat_map line_of texts.now) outbox.new result }
+    ensures cause { HasCause (O.faults output.old) (O.faults output.new) result }
+{
+    'texts: for text in texts {
+        match put_all(outbox, output, &[text.as_str().as_bytes(), b"\n".as_slice()]) {
+            Ok(()) => {}
+            Err(Failed) => return Err(Failed),
+        }
+    }
+    Ok(())
+}
+
+/// Gathers the reply to a word whose related texts are these: how many there are, and each on a line.
+fn reply_strings<O: Sink>(
+    texts: &[Text],
+    word: &str,
+    outbox: &mut Outbox,
+    output: &mut O,
+) -> Result<(), Failed>
+    ensures bytes { Gathers (O.held output.old) (O.held output.new) outbox.old (answer_bytes 1 word.now (strings texts.now)) outbox.new result }
+    ensures cause { HasCause (O.faults output.old) (O.faults output.new) result }
+{
+    let mut digits = Buffer::new();
+    let count = digits.format(texts.len());
+    match put_all(
+        outbox,
+        output,
+        &[
+            b"1 ".as_slice(),
+            count.as_bytes(),
+            b" ".as_slice(),
+            word.as_bytes(),
+            b"\n".as_slice(),
+        ],
+    ) {
+        Ok(()) => put_lines(texts, outbox, output),
+        Err(Failed) => Err(Failed),
+    }
+}
+
+/// Gathers the reply to a word by what was found.
+fn reply_answer<O: Sink>(
+    answer: &Answer,
+    word: &str,
+    outbox: &mut Outbox,
+    output: &mut O,
+) -> Result<(), Failed>
+    ensures bytes { Gathers (O.held output.old) (O.held output.new) outbox.old (answer_bytes 1 word.now (found_of answer.now)) outbox.new result }
+    ensures cause { HasCause (O.faults output.old) (O.faults output.new) result }
+{
+    match answer {
+        Answer::Strings(texts) => reply_strings(texts, word, outbox, output),
+        Answer::More => put_all(
+            outbox,
+            output,
+            &[b"1 more ".as_slice(), word.as_bytes(), b"\n".as_slice()],
+        ),
+        Answer::Loop {
+            before,
+            round,
+            after,
+        } => put_all(
+            outbox,
+            output,
+            &[
+                b"1 loop ".as_slice(),
+                word.as_bytes(),
+                b"\n".as_slice(),
+                before.as_str().as_bytes(),
+                b"\n".as_slice(),
+                round.as_str().as_bytes(),
+                b"\n".as_slice(),
+                after.as_str().as_bytes(),
+                b"\n".as_slice(),
+            ],
+        ),
+    }
+}
+
+/// Gathers the reply to a word that has a cut.
 fn reply_found<O: Sink>(
+    alloc: Global,
     network: &Network,
+    direction: Direction,
     symbols: &[Sym],
     word: &str,
     outbox: &mut Outbox,
     output: &mut O,
 ) -> Result<(), Failed>
     ensures sends { (project : Project) → Shows network.now project → cut project.alphabet word.now ≡ Ok (spelled network.now.alphabet symbols.now) → IsOver (symbols_of network.now.alphabet) symbols.now
-        → Sends (RepliesToWord project up 1 network.now.name word.now) (O.held output.old) (O.held output.new) outbox.old outbox.new result }
+        → Sends (RepliesToWord project direction 1 network.now.name word.now) (O.held output.old) (O.held output.new) outbox.old outbox.new result }
     ensures cause { HasCause (O.faults output.old) (O.faults output.new) result }
 {
-    match network.up(symbols) {
-        Some(upper) => put_all(
-            outbox,
-            output,
-            &[
-                b"1 1 ".as_slice(),
-                word.as_bytes(),
-                b"\n".as_slice(),
-                upper.as_bytes(),
-                b"\n".as_slice(),
-            ],
-        ),
-        None => put_all(
-            outbox,
-            output,
-            &[b"1 0 ".as_slice(), word.as_bytes(), b"\n".as_slice()],
-        ),
+    match network.look(alloc, direction, symbols) {
+        Ok(answer) => reply_answer(&answer, word, outbox, output),
+        Err(_) => put_all(outbox, output, &[b"1 memory\n".as_slice()]),
     }
 }
 
@@ -98,17 +172,18 @@ fn reply_no_symbol<O: Sink>(
 fn reply_to_word<O: Sink>(
     alloc: Global,
     network: &Network,
+    direction: Direction,
     word: &str,
     outbox: &mut Outbox,
     output: &mut O,
 ) -> Result<(), Failed>
     requires { length word.now < 2 ^ 32 - 1 }
     ensures sends { (project : Project) → Shows network.now project
-        → Sends (RepliesToWord project up 1 network.now.name word.now) (O.held output.old) (O.held output.new) outbox.old outbox.new result }
+        → Sends (RepliesToWord project direction 1 network.now.name word.now) (O.held output.old) (O.held output.new) outbox.old outbox.new result }
     ensures cause { HasCause (O.faults output.old) (O.faults output.new) result }
 {
     match network.alphabet().tokens(alloc, word) {
-        Ok(symbols) => reply_found(network, &symbols, word, outbox, output),
+        Ok(symbols) => reply_found(alloc, network, direction, &symbols, word, outbox, output),
         Err(TokensError::NoSymbol { at }) => reply_no_symbol(at, word, outbox, output),
         Err(TokensError::Memory(_)) => put_all(outbox, output, &[b"1 memory\n".as_slice()]),
     }
@@ -118,6 +193,7 @@ fn reply_to_word<O: Sink>(
 pub fn reply<O: Sink>(
     alloc: Global,
     network: &Network,
+    direction: Direction,
     net: &str,
     line: &[u8],
     outbox: &mut Outbox,
@@ -125,14 +201,14 @@ pub fn reply<O: Sink>(
 ) -> Result<(), Failed>
     requires { length line.now ≤ 4096 }
     ensures sends { (project : Project) → Shows network.now project
-        → Sends (Replies project up 1 net.now (Some line.now)) (O.held output.old) (O.held output.new) outbox.old outbox.new result }
+        → Sends (Replies project direction 1 net.now (Some line.now)) (O.held output.old) (O.held output.new) outbox.old outbox.new result }
     ensures cause { HasCause (O.faults output.old) (O.faults output.new) result }
 {
     match word_of(without_last(b'\r', line)) {
         None => put_all(outbox, output, &[b"1 line\n".as_slice()]),
         Some(word) => {
             if network.has_name(net) {
-                reply_to_word(alloc, network, word, outbox, output)
+                reply_to_word(alloc, network, direction, word, outbox, output)
             } else {
                 put_all(
                     outbox,

@@ -1,12 +1,12 @@
 use Rattle.std.proofs.Common.{arith, ap}
-use Rattle.fsm_meaning.specs.Replies.{Replies, up}
+use Rattle.fsm_meaning.specs.Replies.{Replies}
 use Rattle.fsm_program.specs.Running.{most_taken}
 use Rattle.fsm_program.proofs.Runs.{sofar_start, finished}
 use Rattle.fsm_program.proofs.look_up.look_up_all.Goals as goal
 
 pub lines-init : goal.lines-init
 lines-init g c = record {
-  sofar = λ project shown. sofar_start (Replies project up 1 c.args.net.now) most_taken _ _ _ _ c.requires.start c.requires.empty;
+  sofar = λ project shown. sofar_start (Replies project c.args.direction 1 c.args.net.now) most_taken _ _ _ _ c.requires.start c.requires.empty;
   later_input = omega arith;
   later_output = omega arith;
 }
@@ -20,6 +20,6 @@ lines-preserved g c = record {
 
 pub returns-in-Some-clause-answered : goal.returns-in-Some-clause-answered
 returns-in-Some-clause-answered g c project shown =
-    finished (Replies project up 1 c.args.net.now) most_taken _ _ _ _ _ _ _ _ _ _
+    finished (Replies project c.args.direction 1 c.args.net.now) most_taken _ _ _ _ _ _ _ _ _ _
     (λ is. let same = c.finish.ensures.failed is in (same.0, ap (λ o. g.O.Sink.held o) same.1)) c.finish.ensures.written c.finish.ensures.bytes
     (c.in-Some.ensures.turns project most_taken _ _ shown (c.lines.invariant.sofar project shown))

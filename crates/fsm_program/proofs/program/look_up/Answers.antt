@@ -4,10 +4,10 @@ use Rattle.fsm_program.proofs.Endings.{most_read_is, told_most, ends_loaded, end
 use Rattle.fsm_program.proofs.program.look_up.Goals as goal
 
 pub returns-in_default-clause-ends : goal.returns-in_default-clause-ends
-returns-in_default-clause-ends g c = no_memory c.args.net.now refl refl refl refl
+returns-in_default-clause-ends g c = no_memory _ refl refl refl refl
 
 pub returns-in_default-open-clause-ends : goal.returns-in_default-open-clause-ends
-returns-in_default-open-clause-ends g c = no_memory c.args.net.now refl refl refl refl
+returns-in_default-open-clause-ends g c = no_memory _ refl refl refl refl
 
 pub load-requires : goal.load-requires
 load-requires g c = most_read_is

@@ -1,5 +1,5 @@
 use Rattle.std.proofs.Common.{codes, arith, refl, ap, sym, subst, ◌∙◌, length, List, ℕ}
-use Rattle.fsm_meaning.specs.Replies.{IsWord, RepliesToWord, no_word, word, no_net, up}
+use Rattle.fsm_meaning.specs.Replies.{IsWord, RepliesToWord, no_word, word, no_net}
 use Rattle.fsm_program.proofs.ReplyBytes.{headed_one, bytes_net, sends_as, sends_weaker, length-without_last}
 use Rattle.fsm_program.proofs.Lawful.{undefined}
 use Rattle.fsm_program.proofs.reply.reply.Goals as goal
@@ -18,7 +18,7 @@ returns-then-has_name-clause-sends g c project shown =
     let net_is = c.has_name.ensures.0 c.if-has_name.true in
     let word_is = c.in-Some.ensures.word.0 ∙ c.without_last.ensures in
     let is_word = subst IsWord c.without_last.ensures c.in-Some.ensures.word.1 in
-    sends_weaker (λ bytes replies. word is_word (subst (λ (w : List ℕ). RepliesToWord project up 1 c.args.net.now w bytes) word_is (subst (λ (n : List ℕ). RepliesToWord project up 1 n c.in-Some.word.now bytes) (sym net_is) replies)))
+    sends_weaker (λ bytes replies. word is_word (subst (λ (w : List ℕ). RepliesToWord project c.args.direction 1 c.args.net.now w bytes) word_is (subst (λ (n : List ℕ). RepliesToWord project c.args.direction 1 n c.in-Some.word.now bytes) (sym net_is) replies)))
     (c.reply_to_word.ensures.sends project shown)
 
 pub returns-else-has_name-clause-sends : goal.returns-else-has_name-clause-sends
