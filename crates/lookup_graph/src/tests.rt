@@ -1,4 +1,4 @@
-ghost use Rattle.std.specs.Prelude.{IfOk};
+ghost use Rattle.std.specs.Prelude.{IfOk, OnOk};
 ghost use Rattle.lookup_graph.specs.Graph.{IsWithin};
 
 use crate::{END, START, find_turn, useful};
@@ -13,29 +13,40 @@ const NODES: usize = 6;
 // An edge: the node that it leaves, the number of its symbol or 0 where it is silent, and the node that it enters.
 type Row = (usize, u32, usize);
 
-// The graph of these edges. Those of other nodes are left out.
+// Adds an edge. One of other nodes is left out.
+fn add_row(edges: &mut Vec<Edge<Sym>>, row: Row) -> Result<(), AllocError>
+    ensures { OnOk result (IsWithin edges.old.items 6 → IsWithin edges.new.items 6) }
+{
+    let (from, number, to) = row;
+    let letter = if number == 0 { None } else { Some(Sym(number)) };
+    if from < NODES && to < NODES {
+        edges.push(Edge { from, letter, to })?;
+    }
+    Ok(())
+}
+
+// The graph of these edges.
 fn graph(alloc: Global, rows: &[Row]) -> Result<Vec<Edge<Sym>>, AllocError>
     ensures { IfOk result (λ edges. IsWithin edges.items 6) }
 {
     let mut edges = Vec::new(alloc);
     'rows: for row in rows {
-        let (from, number, to) = *row;
-        if from < NODES && to < NODES {
-            let letter = if number == 0 { None } else { Some(Sym(number)) };
-            edges.push(Edge { from, letter, to })?;
-        }
+        add_row(&mut edges, *row)?;
     }
     Ok(edges)
 }
 
 // How many of the edges are useful.
 fn kept(alloc: Global, rows: &[Row]) -> Result<usize, AllocError> {
-    Ok(useful(alloc, &graph(alloc, rows)?, NODES)?.len())
+    let edges = graph(alloc, rows)?;
+    let kept = useful(alloc, &edges, NODES)?;
+    Ok(kept.len())
 }
 
 // The loop that is found, by the letters of its parts.
 fn turn(alloc: Global, rows: &[Row]) -> Result<Option<(Vec<Sym>, Vec<Sym>, Vec<Sym>)>, AllocError> {
-    match find_turn(alloc, &graph(alloc, rows)?, NODES)? {
+    let edges = graph(alloc, rows)?;
+    match find_turn(alloc, &edges, NODES)? {
         Some(turn) => Ok(Some((turn.before, turn.round, turn.after))),
         None => Ok(None),
     }

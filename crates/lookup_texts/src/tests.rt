@@ -110,7 +110,13 @@ fn texts_stand_in_the_order_of_bytes(rt: HostRuntime) -> Result<(), Fail> {
     let alloc = rt.alloc();
     assert_eq!(rt; texts(alloc, &[])?.as_str(), "");
     assert_eq!(rt; texts(alloc, &[(START, NONE, END)])?.as_str(), "|");
-    let rows = [(START, E, END), (START, B, END), (START, A, 2), (2, B, END), (2, NONE, END)];
+    let rows = [
+        (START, E, END),
+        (START, B, END),
+        (START, A, 2),
+        (2, B, END),
+        (2, NONE, END),
+    ];
     assert_eq!(rt; texts(alloc, &rows)?.as_str(), "a|ab|b|é|");
     Ok(())
 }
