@@ -54,9 +54,9 @@ module _ {L : Type 0} (edges : List (Edge L)) (free : HasNoTurn edges) where
       elim f.letter as (λ o. f.letter ≡ o → AllByRecursion (λ y. eqb node y ≡ false) (with_source o f.from (sources q))) [
         | None ↦ λ is. apart node f.to before (round ++ []) q comes (one_more node b round f None held from is goes) (longer round None some) rest
         | Some x ↦ λ is. (
-            ne_eqb node f.from differs,
-            apart node f.to before (round ++ x ∷ []) q comes (one_more node b round f (Some x) held from is goes) (longer round (Some x) some) rest,
-          )
+          ne_eqb node f.from differs,
+          apart node f.to before (round ++ x ∷ []) q comes (one_more node b round f (Some x) held from is goes) (longer round (Some x) some) rest,
+        )
       ] refl
 
   distinct : (a : ℕ) (before : List L) (p : List (Edge L)) → Connects edges start before a → IsPath edges a p end → IsDistinct eqb (sources p)
@@ -79,9 +79,9 @@ module _ {L : Type 0} (edges : List (Edge L)) (free : HasNoTurn edges) where
         elim e.letter as (λ o. list_any (eqb q) (with_source o e.from (sources p)) ≡ true → q < count) [
           | None ↦ λ is. below e.to p rest q is
           | Some x ↦ λ is. elim (cases_Bool (eqb q e.from)) [
-              | inl same ↦ subst (λ n. n < count) (sym (eqb-true q e.from same)) (within e held).0
-              | inr other ↦ below e.to p rest q (rw other at is)
-            ]
+            | inl same ↦ subst (λ n. n < count) (sym (eqb-true q e.from same)) (within e held).0
+            | inr other ↦ below e.to p rest q (rw other at is)
+          ]
         ] is
 
     -- a word is no longer than there are nodes

@@ -41,6 +41,7 @@ module _ {L : Type 0} (edges : List (Edge L)) (root : ℕ) where
   } where
     past : (j : ℕ) (o : Option (Step L)) → slice_get (None ∷ []) (suc j) ≡ Some o → ⊥
     past j o h = let l = slice_get_within (None ∷ []) (suc j) o h in omega arith
+
     none : (i : ℕ) (step : Step L) → slice_get (None ∷ []) i ≡ Some (Some step) → ⊥
     none zero step h = cc
     none (suc j) step h = past j (Some step) h
@@ -125,11 +126,11 @@ module _ {L : Type 0} (edges : List (Edge L)) (root : ℕ) where
       reached = λ q h. elim adds.1 [
         | inl same ↦ g.reached q (subst (λ fs. Contains fs q) same.1 h)
         | inr more ↦ elim (Contains-push_cases old.reached.found step.edge.to q (subst (λ fs. Contains fs q) more.0 h)) [
-            | inl before ↦ g.reached q before
-            | inr last ↦ subst (λ x. Leads edges root x) last
-                (leads-append edges root step.edge.from step.edge.to
-                (g.reached step.edge.from (Contains-from_slice_get old.reached.found step.before step.edge.from at)) (leads_edge edges step.edge held))
-          ]
+          | inl before ↦ g.reached q before
+          | inr last ↦ subst (λ x. Leads edges root x) last
+              (leads-append edges root step.edge.from step.edge.to
+              (g.reached step.edge.from (Contains-from_slice_get old.reached.found step.before step.edge.from at)) (leads_edge edges step.edge held))
+        ]
       ];
       root_found = keeps_node root g.root_found;
       followed = λ e h from. keeps_node e.to (g.followed e h (subst (λ fs. Contains fs e.from) (keeps_front g.number_within) from));
@@ -170,11 +171,10 @@ module _ {L : Type 0} (edges rows : List (Edge L)) (are : AreTurned edges rows) 
   pub back_step : (at : ℕ) (step : Step L) → slice_get steps at ≡ Some (Some step) → (node q : ℕ) (word : List L) → slice_get found at ≡ Some q → Connects edges node word q
       → (slice_get found step.before ≡ Some step.edge.from) × Connects edges node (word ++ option_to_list step.edge.letter) step.edge.from
   back_step at step is node q word there way =
-      let e : q ≡ step.edge.to = same_Some q step.edge.to (sym there ∙ s.to at step is) in
-      (
+      let e : q ≡ step.edge.to = same_Some q step.edge.to (sym there ∙ s.to at step is) in (
         s.from at step is,
         connects-append edges node step.edge.to step.edge.from word (option_to_list step.edge.letter)
-        (subst (λ x. Connects edges node word x) e way) (connects_edge edges (turned step.edge) ((are step.edge).0 (s.held at step is))),
+            (subst (λ x. Connects edges node word x) e way) (connects_edge edges (turned step.edge) ((are step.edge).0 (s.held at step is))),
       )
 
   pub back_last : (at : ℕ) → slice_get steps at ≡ Some None → (node q : ℕ) (word : List L) → slice_get found at ≡ Some q → Connects edges node word q → Connects edges node word root

@@ -33,12 +33,12 @@ module _ {L : Type 0} (edges : List (Edge L)) where
               from_it = r.from_it;
             }
         | Some x ↦ λ is _. record {
-            edge = e;
-            held = held;
-            letter = subst (λ o. IsSome o) (sym is) refl;
-            to_it = ([], sym from);
-            from_it = (p, rest);
-          }
+          edge = e;
+          held = held;
+          letter = subst (λ o. IsSome o) (sym is) refl;
+          to_it = ([], sym from);
+          from_it = (p, rest);
+        }
       ] refl some
 
   -- a loop has an edge with a letter

@@ -45,4 +45,4 @@ abbrev pub AddsStep : {L : Type 0} → Tree L → Step L → Tree L → Type 0
 AddsStep old step new =
     (new.reached.bound ≡ old.reached.bound)
     × ((Contains old.reached.found step.edge.to × (new.reached.found ≡ old.reached.found) × (new.steps.items ≡ old.steps.items))
-      ⊎ ((new.reached.found ≡ old.reached.found ++ step.edge.to ∷ []) × (new.steps.items ≡ old.steps.items ++ Some step ∷ [])))
+    ⊎ ((new.reached.found ≡ old.reached.found ++ step.edge.to ∷ []) × (new.steps.items ≡ old.steps.items ++ Some step ∷ [])))

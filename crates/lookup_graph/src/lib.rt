@@ -11,6 +11,8 @@
 
 mod kept;
 mod levels;
+#[cfg(test)]
+mod tests;
 mod tree;
 mod turns;
 

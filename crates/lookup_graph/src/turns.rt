@@ -3,10 +3,9 @@ ghost use Rattle.lookup_graph.specs.Graph.{IsWithin};
 ghost use Rattle.lookup_graph.specs.Tree.{AreTurned, IsTree};
 ghost use Rattle.lookup_graph.specs.Turns.{AreLevels, HasNoTurn, IsOnTurn, IsTurn};
 
-use crate::END;
-use crate::START;
 use crate::levels::levels;
 use crate::tree::{Tree, grow, turned_rows, word_from};
+use crate::{END, START};
 use fsa::Edge;
 use fsa_walk::Rows;
 use fsm_base::Letter;

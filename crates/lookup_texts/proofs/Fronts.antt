@@ -87,13 +87,13 @@ module _ (edges : List (Edge Byte)) where
   front_first old new is adds q = (
     λ h. elim (adds.grows.only q h) [
       | inl old' ↦ elim (Contains-push_cases [] start q (subst (λ ks. Contains ks q) is old')) [
-          | inl none ↦ absurd (Contains-nil_cases q none)
-          | inr same ↦ ([], same, refl)
-        ]
+        | inl none ↦ absurd (Contains-nil_cases q none)
+        | inr same ↦ ([], same, refl)
+      ]
       | inr r ↦ elim (Contains-push_cases [] start r.0 (subst (λ ks. Contains ks r.0) is r.1)) [
-          | inl none ↦ absurd (Contains-nil_cases r.0 none)
-          | inr same ↦ subst (λ x. Connects edges x [] q) (sym same) (connects_silent edges r.2)
-        ]
+        | inl none ↦ absurd (Contains-nil_cases r.0 none)
+        | inr same ↦ subst (λ x. Connects edges x [] q) (sym same) (connects_silent edges r.2)
+      ]
     ],
     λ (p, h, letters). adds.all q (start, subst (λ ks. Contains ks start) (sym is) (Contains-head start []), silent_connects edges start q p h letters),
   )
@@ -115,8 +115,8 @@ module _ (edges : List (Edge Byte)) where
         ])
         (λ k (e, held, has, letter, to). (e, held, subst (λ ks. Contains ks e.from) (sym more) (Contains-append_left (take i front) (node ∷ []) e.from has), letter, to))
         (λ k (e, in', letter, to).
-            let r = (is e).0 in' in
-            (e, r.0, subst (λ x. Contains (take (i + 1) front) x) (sym r.1) (subst (λ ks. Contains ks node) (sym more) (Contains-push (take i front) node)), letter, to))
+        let r = (is e).0 in' in
+        (e, r.0, subst (λ x. Contains (take (i + 1) front) x) (sym r.1) (subst (λ ks. Contains ks node) (sym more) (Contains-push (take i front) node)), letter, to))
         first second
 
     pub enters_all : (i : ℕ) (a b : Marks) → length front ≤ i → Adds a b (Enters edges (take i front) byte) → Adds a b (Enters edges front byte)
@@ -139,11 +139,11 @@ module _ (edges : List (Edge Byte)) where
               let has = entered.all s.edge.to (s.edge, s.held, (is s.edge.from).1 s.to_it, s.letter, refl) in
               reached.all q (s.edge.to, has, silent_connects edges s.edge.to q s.from_it.0 s.from_it.1 s.from_it.2),
         ) where
-      enter_word : (k : ℕ) → Contains a.found k ⊎ Enters edges front byte k → (text : List ℕ) → IsFront edges text front → Connects edges start (word_of text ++ record { 0 = byte } ∷ []) k
-      enter_word k (inl old) text is = absurd (Contains-nil_cases k (subst (λ ks. Contains ks k) empty old))
-      enter_word k (inr (e, held, has, letter, to)) text is =
-          subst (λ y. Connects edges start (word_of text ++ record { 0 = byte } ∷ []) y) to
-          (behind edges e (record { 0 = byte }) start (word_of text) held letter ((is e.from).0 has))
+          enter_word : (k : ℕ) → Contains a.found k ⊎ Enters edges front byte k → (text : List ℕ) → IsFront edges text front → Connects edges start (word_of text ++ record { 0 = byte } ∷ []) k
+          enter_word k (inl old) text is = absurd (Contains-nil_cases k (subst (λ ks. Contains ks k) empty old))
+          enter_word k (inr (e, held, has, letter, to)) text is =
+              subst (λ y. Connects edges start (word_of text ++ record { 0 = byte } ∷ []) y) to
+              (behind edges e (record { 0 = byte }) start (word_of text) held letter ((is e.from).0 has))
 
   -- the fronts of all beginnings of a text
   pub fronts_first : (front : List ℕ) → IsFront edges [] front → AreFronts edges [] (front ∷ [])

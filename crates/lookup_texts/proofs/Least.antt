@@ -87,8 +87,8 @@ module _ (floor : ℕ) where
         ])
         (λ k (low, (f, held, has, letter)). (low, (f, held, subst (λ ks. Contains ks f.from) (sym more) (Contains-append_left (take i front) (node ∷ []) f.from has), letter)))
         (λ k (low, (f, in', letter)).
-            let r = (are f).0 in' in
-            (low, (f, r.0, subst (λ x. Contains (take (i + 1) front) x) (sym r.1) (subst (λ ks. Contains ks node) (sym more) (Contains-push (take i front) node)), letter)))
+        let r = (are f).0 in' in
+        (low, (f, r.0, subst (λ x. Contains (take (i + 1) front) x) (sym r.1) (subst (λ ks. Contains ks node) (sym more) (Contains-push (take i front) node)), letter)))
         a b found is p q
 
     pub on_front_all : (front : List ℕ) (i : ℕ) (found : Option ℕ) → length front ≤ i → IsLeast (OnFront edges (take i front)) found → IsLeast (OnFront edges front) found

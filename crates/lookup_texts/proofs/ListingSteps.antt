@@ -81,7 +81,7 @@ module _ (edges : List (Edge Byte)) where
       let whole : word_of ((text ++ byte ∷ []) ++ tail) ≡ (word_of text ++ record { 0 = byte } ∷ []) ++ letters_of on.0 =
       map-append (λ n. record { 0 = n }) (text ++ byte ∷ []) tail ∙ ap (λ w. w ++ word_of tail) words ∙ ap (λ w. (word_of text ++ record { 0 = byte } ∷ []) ++ w) (word-unword (letters_of on.0)) in
       let l = short ((text ++ byte ∷ []) ++ tail)
-          (subst (λ w. Connects edges start w end) (sym whole) (connects-append edges start e.to end (word_of text ++ record { 0 = byte } ∷ []) (letters_of on.0) here (on.0, on.1, refl))) in
+      (subst (λ w. Connects edges start w end) (sym whole) (connects-append edges start e.to end (word_of text ++ record { 0 = byte } ∷ []) (letters_of on.0) here (on.0, on.1, refl))) in
       let n = length-append (text ++ byte ∷ []) tail in omega arith
 
   -- the empty text

@@ -9,7 +9,7 @@ use Rattle.fsm_words.proofs.Members.{Contains-nil_cases}
 use Rattle.fsm_words.proofs.Places.{slice_get-append_left, slice_get-push}
 use Rattle.fsm_words.specs.Words.{joined}
 use Rattle.fsa.specs.declared.automaton.Edge.{Edge}
-use Rattle.fsm_base.specs.Alphabet.{spelled, text_of}
+use Rattle.fsm_base.specs.Alphabet.{spelled, symbols_of, text_of}
 use Rattle.fsm_base.specs.declared.letters.Sym.{Sym}
 use Rattle.lookup_graph.specs.Graph.{Connects, IsPath, IsWithin, Writes, letters_of, start, end}
 use Rattle.lookup_graph.proofs.Paths.{connects-append, connects_among, connects_edge}
@@ -122,13 +122,13 @@ module _ (alphabet : List (Sym × List ℕ)) where
         let law' : (b : Edge Byte) → Contains bytes' b → Lawful done rests' b = λ b h. elim (Contains-push_cases bytes first b h) [
           | inl before ↦ subst (λ d. Lawful d rests' b) (append-nil done) (lawful_more done [] rests (one ∷ []) b (law b before))
           | inr same ↦ subst (λ y. Lawful done rests' y) same (record {
-              whole = x ∷ text;
-              rest = text;
-              to = to;
-              begins = subst (λ d. Begins d rests' node (x ∷ text) to) (append-nil done) (begins_more done [] rests (one ∷ []) node (x ∷ text) to begins);
-              spells = refl;
-              stands = inr (length rests, refl, slice_get-push rests one);
-            })
+            whole = x ∷ text;
+            rest = text;
+            to = to;
+            begins = subst (λ d. Begins d rests' node (x ∷ text) to) (append-nil done) (begins_more done [] rests (one ∷ []) node (x ∷ text) to begins);
+            spells = refl;
+            stands = inr (length rests, refl, slice_get-push rests one);
+          })
         ] in
         let r = chained text done rests' bytes' fresh to old law' (inr (length rests, refl, slice_get-push rests one)) in
         let n : count + length rests' ≡ fresh + 1 = let l = length-append rests (one ∷ []) in omega arith in
@@ -147,7 +147,7 @@ module _ (alphabet : List (Sym × List ℕ)) where
     -- an edge more
     pub spelled_more : (done : List (Edge Sym)) (rests : List Rest) (bytes : List (Edge Byte)) (e : Edge Sym) → IsSpelled done rests bytes → e.from < count → e.to < count
         → (more : List Rest) × (length more ≡ length (text_on alphabet e.letter))
-            × IsSpelled (done ++ e ∷ []) (rests ++ more) (bytes ++ chain e.from (count + length rests) (text_on alphabet e.letter) e.to)
+        × IsSpelled (done ++ e ∷ []) (rests ++ more) (bytes ++ chain e.from (count + length rests) (text_on alphabet e.letter) e.to)
     spelled_more done rests bytes e s from to =
         let text = text_on alphabet e.letter in
         let done' = done ++ e ∷ [] in
@@ -241,3 +241,12 @@ letter_of alphabet edges of e held =
       | None ↦ λ _. tt
       | Some symbol ↦ λ is. of e symbol held is
     ] refl
+
+-- an edge more
+pub of_push : (alphabet : List (Sym × List ℕ)) (edges more : List (Edge Sym)) (e : Edge Sym) → more ≡ edges ++ e ∷ [] → ((symbol : Sym) → e.letter ≡ Some symbol → Contains (symbols_of alphabet) symbol)
+    → AreOf alphabet edges → AreOf alphabet more
+of_push alphabet edges more e is new of f symbol h letter =
+    elim (Contains-push_cases edges e f (subst (λ es. Contains es f) is h)) [
+      | inl old ↦ of f symbol old letter
+      | inr same ↦ new symbol (ap (λ x. x.letter) same ∙ letter)
+    ]

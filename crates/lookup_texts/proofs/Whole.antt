@@ -86,11 +86,11 @@ module _ (alphabet : List (Sym × List ℕ)) where
         → (text : List ℕ) → WritesText bytes text → length text ≤ nodes
     bytes_short bytes nodes inside same text written =
         let none : HasNoTurn bytes = no_turn_from_bound bytes (count * total edges) (λ w h.
-            let t = unword w in
-            let k : WritesText bytes t = subst (λ v. Writes bytes v) (sym (word-unword w)) h in
-            let l = texts_short t ((same t).0 k) in
-            let e : length (word_of t) ≡ length t = length-map t (λ n. record { 0 = n }) in
-            let f = ap length (word-unword w) in omega arith) in
+        let t = unword w in
+        let k : WritesText bytes t = subst (λ v. Writes bytes v) (sym (word-unword w)) h in
+        let l = texts_short t ((same t).0 k) in
+        let e : length (word_of t) ≡ length t = length-map t (λ n. record { 0 = n }) in
+        let f = ap length (word-unword w) in omega arith) in
         let l = short bytes none nodes inside (word_of text) written in
         let e : length (word_of text) ≡ length text = length-map text (λ n. record { 0 = n }) in omega arith
 

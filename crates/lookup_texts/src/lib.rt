@@ -6,6 +6,8 @@
 
 mod bytes;
 mod listing;
+#[cfg(test)]
+mod tests;
 mod texts;
 mod walk;
 

@@ -36,11 +36,7 @@ pub(crate) struct Walk {
 
 impl Walk {
     /// A walk that stands at the empty text.
-    pub(crate) fn new(
-        alloc: Global,
-        edges: &[Edge<Byte>],
-        count: usize,
-    ) -> Result<Walk, AllocError>
+    pub(crate) fn new(alloc: Global, edges: &[Edge<Byte>], count: usize) -> Result<Walk, AllocError>
         requires within { AreWithin edges.now count }
         requires start { 1 < count }
         ensures rows { IfOk result (λ walk. (e : Edge Byte) → Contains walk.rows e ↔ Contains edges.now e) }

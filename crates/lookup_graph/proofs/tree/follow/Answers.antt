@@ -50,5 +50,5 @@ returns-clause-grown g c =
     let there : slice_get c.args.tree.now.reached.found number ≡ Some node =
     subst (λ fs. slice_get fs number ≡ Some node) c.found.ensures.found (slice_get-get_or c.found.result.now number 0 inside) in
     λ root h. growing_next rows root number node c.loop-edge.tree (inv.node node there)
-        (λ e held from. inv.targets e (subst (λ es. Contains es e) (sym (take_all c.loop-edge.edge-index out c.loop-edge-test.false)) ((c.out-edge-items.ensures e).1 (held, from))))
-        (inv.grows root h)
+    (λ e held from. inv.targets e (subst (λ es. Contains es e) (sym (take_all c.loop-edge.edge-index out c.loop-edge-test.false)) ((c.out-edge-items.ensures e).1 (held, from))))
+    (inv.grows root h)

@@ -33,4 +33,4 @@ returns-clause-front c =
     let byte = c.args.byte in
     let entered = enters_all rows front byte c.nodes.node-index c.clear.new.self c.nodes.marked c.nodes-test.false c.nodes.invariant in
     λ text is. subst (λ ks. IsFront rows (text ++ byte ∷ []) ks) (sym (c.in_ok-next.ensures.items ∙ c.found.ensures.found))
-        (front_next rows front byte c.clear.new.self c.nodes.marked c.close.new.states (ap (λ m. m.found) c.clear.ensures) entered c.in_ok-close.ensures.ok text is)
+    (front_next rows front byte c.clear.new.self c.nodes.marked c.close.new.states (ap (λ m. m.found) c.clear.ensures) entered c.in_ok-close.ensures.ok text is)

@@ -16,9 +16,9 @@ first_front-requires-clause-within c =
 
 pub returns-clause-rows : goal.returns-clause-rows
 returns-clause-rows c = λ e. (
-    Contains-permutation c.in_ok-rows.rows c.args.edges.now e (IsPermutation-sym c.args.edges.now c.in_ok-rows.rows c.in_ok-rows.ensures),
-    Contains-permutation c.args.edges.now c.in_ok-rows.rows e c.in_ok-rows.ensures,
-  )
+  Contains-permutation c.in_ok-rows.rows c.args.edges.now e (IsPermutation-sym c.args.edges.now c.in_ok-rows.rows c.in_ok-rows.ensures),
+  Contains-permutation c.args.edges.now c.in_ok-rows.rows e c.in_ok-rows.ensures,
+)
 
 pub returns-clause-walk : goal.returns-clause-walk
 returns-clause-walk c =
