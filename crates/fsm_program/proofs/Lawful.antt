@@ -1,7 +1,7 @@
 -- What a network finds is a lawful reply over the project that it shows.
 use Rattle.std.proofs.Common.{◌≡◌, ◌↔◌, ◌≢◌, ◌++◌, ℕ, ◌==◌, Bool, true, false, cond, List, [], ◌∷◌, Some, Ok, Result, refl, sym, ap, subst, ◌∙◌, inl, inr, slice_get, arith, suc, Contains}
 use Rattle.std.proofs.lemmas.Bool.Decides.{nat_tests}
-use Rattle.std.proofs.lemmas.List.Elements.{All-head, All-tail, All-weaker}
+use Rattle.std.proofs.lemmas.List.Elements.{All-head, All-tail, All-weaker, All-contains_itself}
 use Rattle.fsm_words.specs.Words.{joined, IsOver}
 use Rattle.fsm_words.proofs.Members.{Contains-nil_cases, Contains-head, Contains-cons_cases}
 use Rattle.fsm_base.specs.declared.letters.Sym.{Sym}
@@ -13,6 +13,7 @@ use Rattle.fsm_meaning.specs.declared.direction.Direction.TheVariants.{Up, Down}
 use Rattle.fsm_meaning.specs.Projects.{Project, Defines, Meaning}
 use Rattle.fsm_meaning.specs.Replies.{RepliesToWord, answered, Related, answer_bytes}
 use Rattle.fst_relation.specs.Relation.{IsRelated}
+use Rattle.fst_relation.proofs.Used.{upper_used, lower_used}
 use Rattle.lookup.specs.Answering.{UpperTexts, LowerTexts}
 use Rattle.fsm_program.specs.Networks.{NetworkView, Shows, TextsTo}
 use Rattle.fsm_program.proofs.Alphabets.{cases_bool}
@@ -67,6 +68,9 @@ word_from_texts alphabet formed (x ∷ u) (y ∷ w) a b same =
     let others = word_from_texts alphabet formed u w (All-tail (Contains (symbols_of alphabet)) x u a) (All-tail (Contains (symbols_of alphabet)) y w b) tail in
     ap (λ (z : Sym). z ∷ u) first ∙ ap (λ (z : List Sym). y ∷ z) others
 
+each_over : (letters word : List Sym) → ((symbol : Sym) → Contains word symbol → Contains letters symbol) → IsOver letters word
+each_over letters word each = All-weaker (Contains word) (Contains letters) each word (All-contains_itself word)
+
 -- the same texts have the same lawful answers
 answers_same : (T U : List ℕ → Type 0) → ((text : List ℕ) → T text ↔ U text) → (found : Found) → Answers T found → Answers U found
 answers_same T U same (strings texts) a = record {
@@ -87,6 +91,13 @@ answers_same T U same (loop before round after) a = record { goes_round = a.goes
 module _ (network : NetworkView) (project : Project) (shown : Shows network project) where
   pub defines : Defines project network.name
   defines = (shown.names network.name).1 refl
+
+  -- related words are of the alphabet
+  upper_over : (upper lower : List Sym) → IsRelated network.net upper lower → IsOver (symbols_of network.alphabet) upper
+  upper_over upper lower related = each_over (symbols_of network.alphabet) upper (λ symbol among. let used = upper_used network.net upper lower related symbol among in shown.over used.0 symbol used.1 (inl used.2))
+
+  lower_over : (upper lower : List Sym) → IsRelated network.net upper lower → IsOver (symbols_of network.alphabet) lower
+  lower_over upper lower related = each_over (symbols_of network.alphabet) lower (λ symbol among. let used = lower_used network.net upper lower related symbol among in shown.over used.0 symbol used.1 (inr used.2))
 
   -- the texts that the network finds are those that the project relates
   upper_texts : (lower : List Sym) → IsOver (symbols_of network.alphabet) lower → (text : List ℕ) → UpperTexts network.net network.alphabet lower text ↔ Related project Up network.name (spelled network.alphabet lower) text

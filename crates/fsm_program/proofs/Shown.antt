@@ -171,10 +171,11 @@ module _ (d : Definition) (table : List (List ℕ)) (alphabet : List (Sym × Lis
   pub definition_over : StandFor (UsesLetter m) table (symbols_in d.term) → IsOverAlphabet alphabet m
   definition_over stands = over_alphabet table alphabet is m (symbols_in d.term) held stands
 
-  pub shows : (name : List ℕ) → name ≡ d.name → IsBuilt d.term → IsAlphabet alphabet → ((letters : List Sym) → AreSame (IsRelated m) (Relates (sym_in table) letters d.term)) → Shows (record { alphabet = alphabet; name = name; net = m }) (project_of d)
-  shows name name_is built formed relation = record {
+  pub shows : (name : List ℕ) → name ≡ d.name → IsBuilt d.term → IsAlphabet alphabet → StandFor (UsesLetter m) table (symbols_in d.term) → ((letters : List Sym) → AreSame (IsRelated m) (Relates (sym_in table) letters d.term)) → Shows (record { alphabet = alphabet; name = name; net = m }) (project_of d)
+  shows name name_is built formed stands relation = record {
     formed = formed;
     alphabet = sym made ∙ sym (texts_of-all table) ∙ ap (λ (z : List (Sym × List ℕ)). texts_of z) (sym is);
+    over = definition_over stands;
     names = λ n. subst (λ (z : List ℕ). Defines (project_of d) n ↔ (n ≡ z)) (sym name_is) (one_name d n);
     relates = λ u w. subst (λ (z : List ℕ). Meaning (project_of d) z u w ↔ Related u w) (sym name_is) (there u w, back u w);
   }

@@ -37,8 +37,7 @@ module _ {S : Type 0} (g : S → List ℕ) where
   image_concat P P' Q Q' a b u w = (
     λ (u1, u2, w1, w2, e, d, p, p').
         let i = (a u1 w1).0 p in
-        let j = (b u2 w2).0 p' in
-        (
+        let j = (b u2 w2).0 p' in (
           i.0 ++ j.0,
           i.1 ++ j.1,
           (i.0, j.0, i.1, j.1, refl, refl, i.2, j.2),
@@ -75,8 +74,7 @@ module _ {S : Type 0} (g : S → List ℕ) where
     originals [] h = ([], refl, All-nil OfQ, refl, refl)
     originals (p ∷ pairs) h =
         let here = (image p.0 p.1).0 (All-head OfP p pairs h) in
-        let rest = originals pairs (All-tail OfP p pairs h) in
-        (
+        let rest = originals pairs (All-tail OfP p pairs h) in (
           (here.0, here.1) ∷ rest.0,
           ap suc rest.1,
           All-cons OfQ (here.0, here.1) rest.0 here.2 rest.2,
@@ -89,8 +87,7 @@ module _ {S : Type 0} (g : S → List ℕ) where
     images [] h = ([], refl, All-nil OfP, refl, refl)
     images (q ∷ qs) h =
         let here = (image (map g q.0) (map g q.1)).1 (q.0, q.1, All-head OfQ q qs h, refl, refl) in
-        let rest = images qs (All-tail OfQ q qs h) in
-        (
+        let rest = images qs (All-tail OfQ q qs h) in (
           (map g q.0, map g q.1) ∷ rest.0,
           ap suc rest.1,
           All-cons OfP (map g q.0, map g q.1) rest.0 here rest.2,

@@ -8,7 +8,7 @@ use Rattle.fst_relation.specs.Relation.{IsRelated}
 use Rattle.fsm_meaning.specs.Projects.{Project, Defines, Meaning}
 use Rattle.fsm_meaning.specs.declared.direction.Direction.{Direction}
 use Rattle.fsm_meaning.specs.declared.direction.Direction.TheVariants.{Up, Down}
-use Rattle.lookup.specs.Answering.{UpperTexts, LowerTexts}
+use Rattle.lookup.specs.Answering.{IsOverAlphabet, UpperTexts, LowerTexts}
 
 -- a name with its automaton, over the symbols of an alphabet
 pub record NetworkView : Type 0 where
@@ -20,6 +20,7 @@ pub record NetworkView : Type 0 where
 pub record Shows (network : NetworkView) (project : Project) : Type 0 where
   pub formed : IsAlphabet network.alphabet
   pub alphabet : project.alphabet ≡ texts_of network.alphabet
+  pub over : IsOverAlphabet network.alphabet network.net
   pub names : (name : List ℕ) → Defines project name ↔ (name ≡ network.name)
   pub relates : (u w : List (List ℕ)) → Meaning project network.name u w
       ↔ ((upper : List Sym) × (lower : List Sym) × IsRelated network.net upper lower × (u ≡ spelled network.alphabet upper) × (w ≡ spelled network.alphabet lower))

@@ -62,7 +62,15 @@ fn answer_line<I: Source, O: Sink>(
     ensures later_output { O.faults output.old ≤ O.faults output.new }
 {
     match lines.next(input) {
-        LineEvent::Line => ending_of(reply(alloc, network, direction, net, lines.text(), outbox, output)),
+        LineEvent::Line => ending_of(reply(
+            alloc,
+            network,
+            direction,
+            net,
+            lines.text(),
+            outbox,
+            output,
+        )),
         LineEvent::Long => ending_of(reply_long(outbox, output)),
         LineEvent::End => Some(Ending::Finished),
         LineEvent::Failed => Some(Ending::ReadFailed),

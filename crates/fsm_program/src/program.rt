@@ -201,7 +201,16 @@ fn look_up<F: Folder, I: Source, O: Sink>(
         return 5;
     };
     match load(alloc, folder, MOST_READ) {
-        Ok(network) => answered(alloc, &network, direction, net, &mut lines, &mut outbox, input, output),
+        Ok(network) => answered(
+            alloc,
+            &network,
+            direction,
+            net,
+            &mut lines,
+            &mut outbox,
+            input,
+            output,
+        ),
         Err(error) => not_loaded(error, &mut outbox, output),
     }
 }

@@ -48,7 +48,11 @@ fn put_lines<O: Sink>(texts: &[Text], outbox: &mut Outbox, output: &mut O) -> Re
     ensures cause { HasCause (O.faults output.old) (O.faults output.new) result }
 {
     'texts: for text in texts {
-        match put_all(outbox, output, &[text.as_str().as_bytes(), b"\n".as_slice()]) {
+        match put_all(
+            outbox,
+            output,
+            &[text.as_str().as_bytes(), b"\n".as_slice()],
+        ) {
             Ok(()) => {}
             Err(Failed) => return Err(Failed),
         }
