@@ -1,6 +1,6 @@
 -- Without a loop with letters no word is longer than there are nodes: along a path from the start to the end the
 -- edges with letters leave nodes that differ pairwise.
-use Rattle.std.proofs.Common.{◌≡◌, ℕ, suc, ◌+◌, ◌<◌, ◌≤◌, ◌⊎◌, List, [], ◌∷◌, ◌++◌, true, false, Option, None, Some, length, refl, sym, subst, ap, inl, inr, arith, ◌∙◌, length-append, option_to_list, eqb, ne_eqb, eqb-true}
+use Rattle.std.proofs.Common.{◌≡◌, ℕ, suc, ◌<◌, ◌≤◌, List, [], ◌∷◌, ◌++◌, true, false, Option, None, Some, length, refl, sym, subst, ap, inl, inr, arith, ◌∙◌, length-append, option_to_list, eqb, ne_eqb, eqb-true}
 use Rattle.std.specs.List.{AllByRecursion, Contains, IsDistinct, list_any}
 use Rattle.std.proofs.lemmas.Bool.{cases_Bool, false≢true}
 use Rattle.std.proofs.lemmas.Map.Keys.{IsDistinct-cons}

@@ -8,7 +8,7 @@ use Rattle.fsm_words.proofs.Members.{Contains-nil_cases}
 use Rattle.fsm_words.proofs.Places.{Contains-from_slice_get, slice_get-append_left, slice_get-append_cases, slice_get-push, take_more-slice_get}
 use Rattle.fsa.specs.declared.automaton.Edge.{Edge}
 use Rattle.lookup_graph.specs.Graph.{IsPath, Connects, Leads}
-use Rattle.lookup_graph.specs.Tree.{AddsStep, AreDownward, AreSteps, AreTurned, IsGrowing, IsTree, turned}
+use Rattle.lookup_graph.specs.Tree.{AddsStep, AreSteps, AreTurned, IsGrowing, IsTree, turned}
 use Rattle.lookup_graph.specs.declared.tree.Step.{Step}
 use Rattle.lookup_graph.specs.declared.tree.Tree.{Tree}
 use Rattle.lookup_graph.proofs.Paths.{connects-append, connects_edge, leads-append, leads_edge, leads_turned, are_turned_back}

@@ -1,5 +1,5 @@
 -- The edges on paths from the start to the end write what all edges write.
-use Rattle.std.proofs.Common.{◌≡◌, ℕ, ◌+◌, ◌<◌, ◌≤◌, ◌↔◌, ◌⊎◌, List, [], ◌∷◌, ◌++◌, length, get_or, take, refl, sym, subst, ap, inl, inr, ◌∙◌}
+use Rattle.std.proofs.Common.{◌≡◌, ℕ, ◌+◌, ◌<◌, ◌≤◌, ◌↔◌, List, [], ◌∷◌, ◌++◌, length, get_or, take, refl, sym, subst, ap, inl, inr, ◌∙◌}
 use Rattle.std.specs.List.{Contains}
 use Rattle.std.specs.List.Sorted.{IsPermutation}
 use Rattle.std.proofs.lemmas.List.{take_more, take_all}
@@ -7,7 +7,7 @@ use Rattle.std.proofs.lemmas.List.Sorted.{Contains-permutation, IsPermutation-sy
 use Rattle.std.proofs.lemmas.List.Elements.{Contains-push_cases, Contains-push, Contains-append_left}
 use Rattle.fsm_words.proofs.Members.{Contains-nil_cases}
 use Rattle.fsa.specs.declared.automaton.Edge.{Edge}
-use Rattle.lookup_graph.specs.Graph.{AreUseful, IsPath, IsWithin, Connects, Leads, Writes, start, end}
+use Rattle.lookup_graph.specs.Graph.{AreUseful, IsPath, IsWithin, Leads, Writes, start, end}
 use Rattle.lookup_graph.specs.Tree.{AreTurned, IsTree, turned}
 use Rattle.lookup_graph.specs.declared.tree.Tree.{Tree}
 use Rattle.lookup_graph.proofs.Paths.{are_turned_back, leads-append, leads_edge, leads_turned, connects_among, path_among}

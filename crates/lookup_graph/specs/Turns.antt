@@ -1,6 +1,6 @@
 -- Loops in a graph: a path from the start to the end that may go round any number of times, and writes more
 -- with each round.
-use Rattle.std.specs.Prelude.{◌≡◌, ◌<◌, ◌≤◌, ℕ, zero, suc, List, [], ◌++◌, IsSome, Contains, length, slice_index}
+use Rattle.std.specs.Prelude.{◌<◌, ◌≤◌, ℕ, zero, suc, List, [], ◌++◌, IsSome, Contains, length, slice_index}
 use Rattle.fsa.specs.declared.automaton.Edge.{Edge}
 use Rattle.lookup_graph.specs.Graph.{Connects, Leads, start, end}
 

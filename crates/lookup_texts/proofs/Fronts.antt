@@ -11,8 +11,8 @@ use Rattle.fsa.specs.declared.automaton.Edge.{Edge}
 use Rattle.fsa_walk.specs.Marks.{Marks, Adds}
 use Rattle.fsa_walk.specs.Reaches.{Reaches, IsReached, here, along}
 use Rattle.fsa_walk.specs.Targets.{IsTarget}
-use Rattle.fsa_walk.proofs.Added.{Adds-none, Adds-then, Adds-same}
-use Rattle.lookup_graph.specs.Graph.{Connects, IsPath, letters_of, start, end}
+use Rattle.fsa_walk.proofs.Added.{Adds-none, Adds-then}
+use Rattle.lookup_graph.specs.Graph.{Connects, IsPath, letters_of, start}
 use Rattle.lookup_graph.proofs.Paths.{connects-append, connects_edge}
 use Rattle.lookup_texts.specs.Walks.{AreFronts, Enters, IsFront, word_of}
 use Rattle.lookup_texts.specs.declared.walk.Byte.{Byte}

@@ -1,5 +1,5 @@
 -- How a listing grows with the moves of a walk, and what it has in the end.
-use Rattle.std.proofs.Common.{◌≡◌, ℕ, zero, suc, ◌+◌, ◌<◌, ◌≤◌, ◌⊎◌, ◌↔◌, List, [], ◌∷◌, ◌++◌, AllPairs, All, Bool, true, false, MatchBool, Some, length, get_or, refl, sym, subst, ap, inl, inr, arith, ◌∙◌, append_assoc, length-append}
+use Rattle.std.proofs.Common.{◌≡◌, ℕ, suc, ◌+◌, ◌<◌, ◌≤◌, ◌⊎◌, ◌↔◌, List, [], ◌∷◌, ◌++◌, AllPairs, All, Bool, true, false, MatchBool, Some, length, get_or, refl, sym, subst, ap, inl, inr, arith, ◌∙◌, append_assoc, length-append}
 use Rattle.std.specs.List.{Contains, slice_get}
 use Rattle.std.proofs.lemmas.Bool.{cases_lt}
 use Rattle.std.proofs.lemmas.List.Elements.{Contains-push_cases, Contains-push, Contains-append_left, Contains-get_or}
@@ -9,11 +9,11 @@ use Rattle.std.proofs.lemmas.Option.{get_or_from_slice_get, slice_get_within}
 use Rattle.fsm_words.proofs.Members.{Contains-nil_cases}
 use Rattle.fsm_words.specs.Words.{IsDistinct}
 use Rattle.fsa.specs.declared.automaton.Edge.{Edge}
-use Rattle.fsm_meaning.specs.Answers.{AreAll, AreMore, IsInOrder, most_answers}
-use Rattle.lookup_graph.specs.Graph.{Connects, Leads, letters_of, Writes, start, end}
+use Rattle.fsm_meaning.specs.Answers.{AreAll, AreMore, IsInOrder}
+use Rattle.lookup_graph.specs.Graph.{Connects, Leads, letters_of, start, end}
 use Rattle.lookup_graph.proofs.Paths.{connects-append}
 use Rattle.lookup_texts.specs.Listings.{AddsText, IsListing}
-use Rattle.lookup_texts.specs.Walks.{Follows, IsBefore, IsLeast, WritesText, word_of}
+use Rattle.lookup_texts.specs.Walks.{Follows, IsBefore, WritesText, word_of}
 use Rattle.lookup_texts.specs.declared.walk.Byte.{Byte}
 use Rattle.lookup_texts.proofs.Fronts.{behind, split}
 use Rattle.lookup_texts.proofs.OrderOfBytes.{before_append, before_enter, before_last, before_leave, before_less, before_never, before_trans, enter_rises, leave_rises}

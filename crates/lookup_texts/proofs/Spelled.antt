@@ -1,7 +1,7 @@
 -- The graph that is spelled byte by byte writes the texts of the graph that it was made of.
-use Rattle.std.proofs.Common.{◌≡◌, ℕ, zero, suc, ◌+◌, ◌<◌, ◌≤◌, ◌⊎◌, ◌↔◌, List, [], ◌∷◌, ◌++◌, Option, None, Some, IsUtf8, length, get_or, take, map, refl, sym, subst, ap, inl, inr, arith, ◌∙◌, append_assoc, length-append, option_to_list}
+use Rattle.std.proofs.Common.{◌≡◌, ℕ, suc, ◌+◌, ◌<◌, ◌⊎◌, ◌↔◌, List, [], ◌∷◌, ◌++◌, None, Some, IsUtf8, length, refl, sym, subst, ap, inl, inr, arith, ◌∙◌, append_assoc, length-append, option_to_list}
 use Rattle.std.specs.List.{Contains, slice_get}
-use Rattle.std.proofs.lemmas.List.{append-nil, map-append, take_all, take_more}
+use Rattle.std.proofs.lemmas.List.{append-nil, map-append}
 use Rattle.std.proofs.lemmas.List.Elements.{Contains-push_cases, Contains-push, Contains-append_left}
 use Rattle.std.proofs.lemmas.Option.{slice_get_within, same_Some}
 use Rattle.std.proofs.lemmas.Str.{IsUtf8-append, IsUtf8-nil}
@@ -11,7 +11,7 @@ use Rattle.fsm_words.specs.Words.{joined}
 use Rattle.fsa.specs.declared.automaton.Edge.{Edge}
 use Rattle.fsm_base.specs.Alphabet.{spelled, symbols_of, text_of}
 use Rattle.fsm_base.specs.declared.letters.Sym.{Sym}
-use Rattle.lookup_graph.specs.Graph.{Connects, IsPath, IsWithin, Writes, letters_of, start, end}
+use Rattle.lookup_graph.specs.Graph.{Connects, IsPath, IsWithin, letters_of, start, end}
 use Rattle.lookup_graph.proofs.Paths.{connects-append, connects_among, connects_edge}
 use Rattle.lookup_texts.specs.GraphTexts.{AreOf, GraphTexts}
 use Rattle.lookup_texts.specs.Spelling.{IsOf, chain, text_on}

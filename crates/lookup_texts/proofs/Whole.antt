@@ -1,5 +1,5 @@
 -- From the texts that the walk lists to those of the graph of symbols.
-use Rattle.std.proofs.Common.{◌≡◌, ℕ, zero, suc, ◌+◌, ◌*◌, ◌<◌, ◌≤◌, ◌↔◌, List, [], ◌∷◌, ◌++◌, Option, None, Some, IfSome, IfNone, All, length, get_or, refl, sym, subst, ap, inl, inr, arith, ◌∙◌, length-append, option_to_list}
+use Rattle.std.proofs.Common.{◌≡◌, ℕ, suc, ◌+◌, ◌*◌, ◌≤◌, ◌↔◌, List, [], ◌∷◌, ◌++◌, Option, None, Some, IfSome, IfNone, length, get_or, refl, sym, subst, ap, inl, inr, arith, ◌∙◌, length-append, option_to_list}
 use Rattle.std.specs.List.{Contains}
 use Rattle.std.proofs.Math.Nat.{mul-le-mul_right}
 use Rattle.std.proofs.lemmas.List.{length-map}
@@ -9,7 +9,7 @@ use Rattle.fsm_base.specs.Alphabet.{spelled}
 use Rattle.fsm_base.specs.declared.letters.Sym.{Sym}
 use Rattle.fsa.specs.declared.automaton.Edge.{Edge}
 use Rattle.fsm_meaning.specs.Answers.{AreAll, AreMore}
-use Rattle.lookup_graph.specs.Graph.{AreUseful, Connects, IsPath, IsWithin, Leads, Writes, letters_of, start, end}
+use Rattle.lookup_graph.specs.Graph.{AreUseful, IsPath, IsWithin, Leads, Writes, letters_of, start, end}
 use Rattle.lookup_graph.proofs.Paths.{connects_among, path_among}
 use Rattle.lookup_graph.specs.Turns.{HasNoTurn}
 use Rattle.lookup_graph.proofs.Finite.{short}

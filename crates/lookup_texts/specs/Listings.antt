@@ -1,5 +1,5 @@
 -- A list, in the order of bytes, of the texts that a graph writes, as far as a walk has come.
-use Rattle.std.specs.Prelude.{◌≡◌, ◌<◌, ◌≤◌, ◌+◌, ◌⊎◌, ◌↔◌, ◌++◌, ℕ, List, [], ◌∷◌, AllPairs, Contains, length}
+use Rattle.std.specs.Prelude.{◌≡◌, ◌⊎◌, ◌↔◌, ◌++◌, ℕ, List, [], ◌∷◌, AllPairs, Contains}
 use Rattle.fsa.specs.declared.automaton.Edge.{Edge}
 use Rattle.lookup_texts.specs.Walks.{IsBefore, WritesText}
 use Rattle.lookup_texts.specs.declared.walk.Byte.{Byte}

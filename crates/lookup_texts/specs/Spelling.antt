@@ -1,10 +1,8 @@
 -- Texts on the edges of a graph, spelled byte by byte over new nodes.
-use Rattle.std.specs.Prelude.{◌≡◌, ◌<◌, ◌+◌, ◌⊎◌, ◌++◌, ℕ, suc, List, [], ◌∷◌, Option, Some, None, Contains, option_to_list, slice_get, length}
+use Rattle.std.specs.Prelude.{◌+◌, ℕ, List, [], ◌∷◌, Option, Some, None, Contains}
 use Rattle.fsa.specs.declared.automaton.Edge.{Edge}
 use Rattle.fsm_base.specs.Alphabet.{symbols_of, text_of}
 use Rattle.fsm_base.specs.declared.letters.Sym.{Sym}
-use Rattle.lookup_graph.specs.Graph.{Connects}
-use Rattle.lookup_texts.specs.Walks.{word_of}
 use Rattle.lookup_texts.specs.declared.walk.Byte.{Byte}
 
 -- the text of a symbol, and of none the empty text

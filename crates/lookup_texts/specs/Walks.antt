@@ -2,9 +2,9 @@
 -- (Cormen, Leiserson, Rivest and Stein, Introduction to Algorithms, section 22.3), where a text leads to the
 -- set of all nodes that it may lead to (Hopcroft, Motwani and Ullman, Introduction to Automata Theory,
 -- section 2.5.5).
-use Rattle.std.specs.Prelude.{◌≡◌, ◌<◌, ◌≤◌, ◌+◌, ◌⊎◌, ◌↔◌, ◌++◌, ℕ, List, [], ◌∷◌, Option, Some, None, Contains, length, map, take, slice_get}
+use Rattle.std.specs.Prelude.{◌≡◌, ◌<◌, ◌≤◌, ◌+◌, ◌⊎◌, ◌↔◌, ℕ, List, [], ◌∷◌, Option, Some, None, Contains, length, map, take, slice_get}
 use Rattle.fsa.specs.declared.automaton.Edge.{Edge}
-use Rattle.lookup_graph.specs.Graph.{Connects, Writes, start, end}
+use Rattle.lookup_graph.specs.Graph.{Connects, Writes, start}
 use Rattle.lookup_texts.specs.declared.walk.Byte.{Byte}
 use Rattle.lookup_texts.specs.declared.walk.Walk.{Walk}
 

@@ -1,8 +1,8 @@
-use Rattle.std.proofs.Common.{◌≡◌, sym, ◌∙◌}
+use Rattle.std.proofs.Common.{sym, ◌∙◌}
 use Rattle.std.specs.List.{Contains}
 use Rattle.std.proofs.lemmas.Bool.{false≢true}
 use Rattle.fsa.specs.declared.automaton.Edge.{Edge}
-use Rattle.lookup_graph.proofs.KeptPaths.{kept_all, kept_first, kept_more, kept_past}
+use Rattle.lookup_graph.proofs.KeptPaths.{kept_all, kept_more, kept_past}
 use Rattle.lookup_graph.proofs.kept.between.Goals as goal
 use Rattle.lookup_graph.proofs.kept.between.Goals.{then-contains+then-contains-2+in_ok-push, else-contains, else-contains-via-then-contains+else-contains-2, else-contains-via-else-contains}
 

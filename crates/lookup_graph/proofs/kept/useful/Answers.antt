@@ -1,6 +1,6 @@
-use Rattle.std.proofs.Common.{◌≡◌, ◌↔◌, sym, subst}
+use Rattle.std.proofs.Common.{sym, subst}
 use Rattle.lookup_graph.specs.Graph.{IsWithin}
-use Rattle.lookup_graph.proofs.KeptPaths.{between_is, kept_among, kept_same, kept_useful, tree_from, tree_to, within_moved, within_turned}
+use Rattle.lookup_graph.proofs.KeptPaths.{between_is, kept_same, kept_useful, tree_from, tree_to, within_moved, within_turned}
 use Rattle.lookup_graph.proofs.kept.useful.Goals as goal
 
 pub grow-requires-clause-within : goal.grow-requires-clause-within

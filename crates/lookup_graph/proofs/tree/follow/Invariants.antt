@@ -1,4 +1,4 @@
-use Rattle.std.proofs.Common.{◌≡◌, ℕ, ◌<◌, take, length, Some, List}
+use Rattle.std.proofs.Common.{◌≡◌, ℕ, take, Some}
 use Rattle.std.specs.List.{Contains, slice_get}
 use Rattle.fsa.specs.declared.automaton.Edge.{Edge}
 use Rattle.lookup_graph.specs.Tree.{IsGrowing}

@@ -1,4 +1,4 @@
-use Rattle.std.proofs.Common.{◌≡◌, ◌-◌, length}
+use Rattle.std.proofs.Common.{◌≡◌, ◌-◌}
 use Rattle.lookup_graph.specs.Tree.{IsGrowing}
 use Rattle.lookup_graph.proofs.tree.grow.Given as goal
 

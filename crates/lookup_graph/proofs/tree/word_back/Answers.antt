@@ -1,10 +1,7 @@
-use Rattle.std.proofs.Common.{arith, ◌≡◌, ◌<◌, ◌++◌, [], ◌∷◌, ℕ, List, None, Some, length, subst, sym, ap, option_to_list, ◌∙◌}
+use Rattle.std.proofs.Common.{arith, ◌≡◌, ◌++◌, [], ◌∷◌, None, Some, subst, sym, ap, option_to_list, ◌∙◌}
 use Rattle.std.specs.List.{slice_get}
 use Rattle.std.proofs.lemmas.List.{append-nil}
-use Rattle.std.proofs.lemmas.Option.{slice_get_within}
 use Rattle.lookup_graph.specs.Graph.{Connects}
-use Rattle.lookup_graph.specs.Tree.{AreSteps}
-use Rattle.lookup_graph.specs.declared.tree.Step.{Step}
 use Rattle.lookup_graph.proofs.Growing.{at_read, back_step, back_last}
 use Rattle.lookup_graph.proofs.tree.word_back.Goals as goal
 

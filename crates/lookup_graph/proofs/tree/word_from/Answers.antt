@@ -1,6 +1,6 @@
 use Rattle.std.proofs.Common.{◌≡◌, Some, sym, subst}
 use Rattle.std.specs.List.{Contains, slice_get}
-use Rattle.lookup_graph.specs.Tree.{AreDownward, AreSteps}
+use Rattle.lookup_graph.specs.Tree.{AreSteps}
 use Rattle.lookup_graph.proofs.Growing.{tree_leads}
 use Rattle.lookup_graph.proofs.tree.word_from.Goals as goal
 

@@ -1,7 +1,5 @@
-use Rattle.std.proofs.Common.{◌≡◌, sym, subst}
-use Rattle.lookup_graph.specs.Turns.{AreLevels}
 use Rattle.lookup_graph.proofs.KeptPaths.{within_turned}
-use Rattle.lookup_graph.proofs.Turning.{free_all, free_first, free_more, no_turn_from_levels}
+use Rattle.lookup_graph.proofs.Turning.{free_all, free_more, no_turn_from_levels}
 use Rattle.lookup_graph.proofs.turns.find_turn.Goals as goal
 
 pub returns-in_default-clause-none : goal.returns-in_default-clause-none

@@ -1,6 +1,5 @@
-use Rattle.std.proofs.Common.{◌≡◌, ◌<◌, ◌≤◌, Fits, w64, length, sym, arith, ◌∙◌}
+use Rattle.std.proofs.Common.{sym, arith, ◌∙◌}
 use Rattle.std.proofs.lemmas.Bool.{false≢true}
-use Rattle.std.specs.List.{Contains}
 use Rattle.lookup_graph.proofs.Turning.{levels_more}
 use Rattle.lookup_graph.proofs.turns.misplaced.Goals as goal
 use Rattle.lookup_graph.proofs.turns.misplaced.Goals.{then-above-below-2, else-above-below-2}

@@ -1,5 +1,3 @@
-use Rattle.std.proofs.Common.{◌≡◌, ◌∷◌, Some, sym, subst, insert}
-use Rattle.lookup_graph.specs.Turns.{IsOnTurn, IsTurn}
 use Rattle.lookup_graph.proofs.KeptPaths.{within_turned}
 use Rattle.lookup_graph.proofs.Turning.{turn_from}
 use Rattle.lookup_graph.proofs.turns.turn_through.Goals as goal

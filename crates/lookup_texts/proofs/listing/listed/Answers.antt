@@ -1,10 +1,9 @@
-use Rattle.std.proofs.Common.{◌≡◌, ◌<◌, ◌≤◌, ◌+◌, ◌++◌, [], ◌∷◌, ℕ, List, Bool, true, false, Some, None, length, MatchBool, subst, sym, ap, refl, arith, ◌∙◌, length-append}
-use Rattle.std.specs.List.{Contains, slice_get}
-use Rattle.fsm_meaning.specs.Answers.{AreMore}
-use Rattle.lookup_texts.specs.Listings.{AddsText, IsListing}
-use Rattle.lookup_texts.specs.Walks.{Follows, IsLeast, IsWalk, WritesText}
+use Rattle.std.proofs.Common.{◌≡◌, ◌<◌, ◌≤◌, ◌+◌, ◌++◌, [], ◌∷◌, ℕ, Some, length, MatchBool, subst, ap, refl, arith, ◌∙◌, length-append}
+use Rattle.std.specs.List.{slice_get}
+use Rattle.lookup_texts.specs.Listings.{AddsText}
+use Rattle.lookup_texts.specs.Walks.{Follows, IsLeast, WritesText}
 use Rattle.lookup_texts.proofs.ListingSteps.{all_listed, first_holds, follows_short, listing_enter, listing_first, listing_leave, more_listed}
-use Rattle.lookup_texts.proofs.OrderOfBytes.{enter_left, leave_left, left}
+use Rattle.lookup_texts.proofs.OrderOfBytes.{enter_left, leave_left}
 use Rattle.lookup_texts.proofs.listing.listed.Goals as goal
 
 pub moves-init : goal.moves-init

@@ -1,10 +1,10 @@
-use Rattle.std.proofs.Common.{◌≡◌, ◌≤◌, ◌↔◌, ℕ, List, IsUtf8, length, sym, subst, ap, ◌∙◌}
+use Rattle.std.proofs.Common.{sym, subst}
 use Rattle.std.specs.List.{Contains}
-use Rattle.lookup_graph.specs.Graph.{AreUseful, IsWithin}
+use Rattle.lookup_graph.specs.Graph.{AreUseful}
 use Rattle.fsm_meaning.specs.Answers.{AreAll, AreMore}
 use Rattle.lookup_texts.specs.GraphTexts.{GraphTexts}
 use Rattle.lookup_texts.specs.Walks.{WritesText}
-use Rattle.lookup_texts.proofs.Whole.{all_same, bytes_short, if_none, if_some, more_same, moved_same, moved_useful, whole_same}
+use Rattle.lookup_texts.proofs.Whole.{all_same, bytes_short, if_none, if_some, more_same, moved_useful, whole_same}
 use Rattle.lookup_texts.proofs.texts.texts_of.Goals as goal
 
 pub useful-requires-clause-within : goal.useful-requires-clause-within

@@ -1,9 +1,7 @@
-use Rattle.std.proofs.Common.{◌≡◌, ◌<◌, ◌++◌, [], ◌∷◌, ℕ, Some, length, map, refl, subst, sym, ap, inl, inr, arith, ◌∙◌}
-use Rattle.std.specs.List.{Contains, slice_get}
+use Rattle.std.proofs.Common.{◌≡◌, ◌<◌, [], ◌∷◌, Some, length, map, subst, sym, ap, arith, ◌∙◌}
+use Rattle.std.specs.List.{slice_get}
 use Rattle.std.proofs.lemmas.List.{length-map, map-append}
-use Rattle.std.proofs.lemmas.Option.{slice_get_within, same_Some}
-use Rattle.fsm_words.proofs.Places.{slice_get-append_cases}
-use Rattle.lookup_texts.specs.Walks.{AreFronts, IsFront, fronts_of}
+use Rattle.lookup_texts.specs.Walks.{IsFront, fronts_of}
 use Rattle.lookup_texts.proofs.Fronts.{at_map, fronts_push, fronts_top, bytes_push}
 use Rattle.lookup_texts.proofs.walk.Walk.enter.Goals as goal
 

@@ -1,7 +1,7 @@
-use Rattle.std.proofs.Common.{◌≡◌, ◌<◌, Some, length, map, subst, sym, ap, arith, ◌∙◌}
+use Rattle.std.proofs.Common.{◌≡◌, ◌<◌, Some, length, subst, sym, arith}
 use Rattle.std.specs.List.{Contains, slice_get}
 use Rattle.std.proofs.lemmas.List.{length-map}
-use Rattle.lookup_texts.specs.Walks.{IsFront, fronts_of}
+use Rattle.lookup_texts.specs.Walks.{fronts_of}
 use Rattle.lookup_texts.proofs.Fronts.{at_map, fronts_top}
 use Rattle.lookup_texts.proofs.walk.Walk.is_at_end.Goals as goal
 

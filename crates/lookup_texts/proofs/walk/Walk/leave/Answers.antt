@@ -1,9 +1,9 @@
-use Rattle.std.proofs.Common.{◌≡◌, ◌<◌, ◌≤◌, ◌+◌, ◌-◌, ◌++◌, [], ◌∷◌, ℕ, Some, length, take, map, refl, subst, sym, ap, arith, ◌∙◌, length-append, option_to_list, vec_len}
-use Rattle.std.specs.List.{Contains, slice_get}
+use Rattle.std.proofs.Common.{◌≡◌, ◌+◌, ◌-◌, ◌++◌, [], ◌∷◌, Some, length, subst, sym, ap, arith, ◌∙◌, length-append, vec_len}
+use Rattle.std.specs.List.{slice_get}
 use Rattle.std.proofs.lemmas.List.{length-map}
 use Rattle.fsm_words.proofs.Places.{slice_get-append_left, slice_get-push}
 use Rattle.std.proofs.lemmas.Option.{slice_get_within}
-use Rattle.lookup_texts.specs.Walks.{AreFronts, IsFront, fronts_of}
+use Rattle.lookup_texts.specs.Walks.{AreFronts, fronts_of}
 use Rattle.lookup_texts.proofs.Fronts.{fronts_left}
 use Rattle.lookup_texts.proofs.walk.Walk.leave.Goals as goal
 

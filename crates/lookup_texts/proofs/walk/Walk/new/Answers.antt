@@ -1,11 +1,8 @@
-use Rattle.std.proofs.Common.{◌≡◌, ◌<◌, ℕ, [], ◌∷◌, ◌++◌, Some, length, map, subst, sym, ap, arith, ◌∙◌}
-use Rattle.std.specs.List.{Contains, slice_get}
-use Rattle.std.specs.List.Sorted.{IsPermutation}
+use Rattle.std.proofs.Common.{◌≡◌, [], ◌∷◌, ◌++◌, Some, subst, ap, arith, ◌∙◌}
+use Rattle.std.specs.List.{slice_get}
 use Rattle.std.proofs.lemmas.List.Sorted.{Contains-permutation, IsPermutation-sym}
 use Rattle.std.proofs.lemmas.Option.{slice_get_within}
-use Rattle.fsa_walk.specs.Targets.{AreWithin}
 use Rattle.fsa_walk.proofs.TargetsLemmas.{AreWithin-permutation}
-use Rattle.lookup_texts.specs.Walks.{AreFronts}
 use Rattle.lookup_texts.proofs.Fronts.{fronts_first}
 use Rattle.lookup_texts.proofs.walk.Walk.new.Goals as goal
 

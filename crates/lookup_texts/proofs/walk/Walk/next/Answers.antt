@@ -1,7 +1,7 @@
-use Rattle.std.proofs.Common.{◌≡◌, ◌<◌, Some, length, map, subst, sym, ap, arith, ◌∙◌}
-use Rattle.std.specs.List.{Contains, slice_get}
+use Rattle.std.proofs.Common.{◌≡◌, ◌<◌, Some, length, subst, arith}
+use Rattle.std.specs.List.{slice_get}
 use Rattle.std.proofs.lemmas.List.{length-map}
-use Rattle.lookup_texts.specs.Walks.{IsFront, IsLeast, fronts_of}
+use Rattle.lookup_texts.specs.Walks.{IsLeast, fronts_of}
 use Rattle.lookup_texts.proofs.Fronts.{at_map, fronts_top}
 use Rattle.lookup_texts.proofs.Least.{OnFront, on_text}
 use Rattle.lookup_texts.proofs.walk.Walk.next.Goals as goal
