@@ -77,7 +77,7 @@ pub texts_of-all : (table : List (List ℕ)) → texts_of (listed table (symbols
 texts_of-all table = texts_of-front table (length table) (omega arith) ∙ take_all (length table) table (omega arith)
 
 -- the text of a listed symbol is the table's
-text_of-listed : (table : List (List ℕ)) (symbols : List Sym) (s : Sym) → Contains symbols s → text_of (listed table symbols) s ≡ slice_index_or table s.0 []
+pub text_of-listed : (table : List (List ℕ)) (symbols : List Sym) (s : Sym) → Contains symbols s → text_of (listed table symbols) s ≡ slice_index_or table s.0 []
 text_of-listed table [] s among = absurd (Contains-nil_cases s among)
 text_of-listed table (t ∷ symbols) s among =
     elim (cases_bool (s.0 == t.0)) as (λ _. text_of (listed table (t ∷ symbols)) s ≡ slice_index_or table s.0 []) [

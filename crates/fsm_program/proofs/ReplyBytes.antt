@@ -9,13 +9,10 @@ use Rattle.std.proofs.lemmas.List.{get_or_past}
 use Rattle.std.specs.Fmt.{decimal}
 use Rattle.std.specs.Str.{IsUtf8}
 use Rattle.fsm_io.specs.Sinks.{Gathers, WritesAll}
-use Rattle.fsm_meaning.specs.Answers.{strings}
+use Rattle.fsm_meaning.specs.Answers.{more, loop}
 use Rattle.fsm_meaning.specs.Replies.{IsWord, headed, line_of, answer_bytes, without_last}
 use Rattle.fsm_program.specs.Ends.{refusal_line}
 use Rattle.fsm_program.specs.Sending.{Sends}
-
-zero_digit : decimal 0 ≡ 48 ∷ []
-zero_digit = decimal_digit 0 (omega arith)
 
 one_digit : decimal 1 ≡ 49 ∷ []
 one_digit = decimal_digit 1 (omega arith)
@@ -23,18 +20,26 @@ one_digit = decimal_digit 1 (omega arith)
 pub headed_one : (rest : List ℕ) → 49 ∷ 32 ∷ (rest ++ 10 ∷ []) ≡ headed 1 rest
 headed_one rest = sym (ap (λ (d : List ℕ). line_of (d ++ 32 ∷ rest)) one_digit)
 
--- no related text
-pub bytes_none : (word : List ℕ) → 49 ∷ 32 ∷ 48 ∷ 32 ∷ (word ++ 10 ∷ []) ≡ answer_bytes 1 word (strings [])
-bytes_none word =
-    headed_one (48 ∷ 32 ∷ word) ∙ ap (λ (d : List ℕ). headed 1 (d ++ 32 ∷ word)) (sym zero_digit) ∙ sym (append-nil (headed 1 (decimal 0 ++ 32 ∷ word)))
+-- so many related texts
+pub bytes_count : (n : ℕ) (word : List ℕ) → 49 ∷ 32 ∷ (decimal n ++ 32 ∷ (word ++ 10 ∷ [])) ≡ headed 1 (decimal n ++ 32 ∷ word)
+bytes_count n word = ap (λ (z : List ℕ). 49 ∷ 32 ∷ z) (sym (append_assoc (decimal n) (32 ∷ word) (10 ∷ []))) ∙ headed_one (decimal n ++ 32 ∷ word)
 
--- one related text
-pub bytes_one : (word upper : List ℕ) → 49 ∷ 32 ∷ 49 ∷ 32 ∷ (word ++ 10 ∷ (upper ++ 10 ∷ [])) ≡ answer_bytes 1 word (strings (upper ∷ []))
-bytes_one word upper =
-    let head : 49 ∷ 32 ∷ 49 ∷ 32 ∷ (word ++ 10 ∷ []) ≡ headed 1 (decimal 1 ++ 32 ∷ word) = headed_one (49 ∷ 32 ∷ word) ∙ ap (λ (d : List ℕ). headed 1 (d ++ 32 ∷ word)) (sym one_digit) in
-    ap (λ (z : List ℕ). 49 ∷ 32 ∷ 49 ∷ 32 ∷ z) (sym (append_assoc word (10 ∷ []) (upper ++ 10 ∷ [])))
-    ∙ ap (λ (z : List ℕ). z ++ (upper ++ 10 ∷ [])) head
-    ∙ ap (λ (z : List ℕ). headed 1 (decimal 1 ++ 32 ∷ word) ++ z) (sym (append-nil (upper ++ 10 ∷ [])))
+-- more than are listed
+pub bytes_more : (word : List ℕ) → 49 ∷ 32 ∷ 109 ∷ 111 ∷ 114 ∷ 101 ∷ 32 ∷ (word ++ 10 ∷ []) ≡ answer_bytes 1 word more
+bytes_more word = headed_one (codes "more " ++ word)
+
+-- a loop
+pub bytes_loop : (word before round after : List ℕ) → 49 ∷ 32 ∷ 108 ∷ 111 ∷ 111 ∷ 112 ∷ 32 ∷ (word ++ 10 ∷ (before ++ 10 ∷ (round ++ 10 ∷ (after ++ 10 ∷ [])))) ≡ answer_bytes 1 word (loop before round after)
+bytes_loop word before round after =
+    let last : List ℕ = after ++ 10 ∷ [] in
+    let rest : List ℕ = before ++ 10 ∷ (round ++ 10 ∷ last) in
+    let lines : rest ≡ line_of before ++ (line_of round ++ line_of after) =
+    ap (λ (z : List ℕ). before ++ 10 ∷ z) (sym (append_assoc round (10 ∷ []) last)) ∙ sym (append_assoc before (10 ∷ []) ((round ++ 10 ∷ []) ++ last)) in
+    ap (λ (z : List ℕ). 49 ∷ 32 ∷ 108 ∷ 111 ∷ 111 ∷ 112 ∷ 32 ∷ z) (sym (append_assoc word (10 ∷ []) rest))
+    ∙ ap (λ (z : List ℕ). z ++ rest) (headed_one (codes "loop " ++ word))
+    ∙ ap (λ (z : List ℕ). headed 1 (codes "loop " ++ word) ++ z) lines
+    ∙ sym (append_assoc (headed 1 (codes "loop " ++ word)) (line_of before) (line_of round ++ line_of after))
+    ∙ sym (append_assoc (headed 1 (codes "loop " ++ word) ++ line_of before) (line_of round) (line_of after))
 
 -- no symbol at a place
 pub bytes_symbol : (digits word : List ℕ) → 49 ∷ 32 ∷ 115 ∷ 121 ∷ 109 ∷ 98 ∷ 111 ∷ 108 ∷ 32 ∷ (digits ++ 32 ∷ (word ++ 10 ∷ [])) ≡ headed 1 (codes "symbol " ++ digits ++ 32 ∷ word)

@@ -62,6 +62,17 @@ pieces_failed {X} {T} {E} f xs i d held0 held gathered0 gathered e below sent =
     subst (λ (bytes : List ℕ). Gathers {T = T} {E = E} held0 held gathered0 bytes gathered (Err e)) (sym (flat_map-parted f xs i d below))
     (gathers_failed held0 held gathered0 gathered (flat_map f (take i xs) ++ f (get_or xs i d)) (flat_map f (drop (i + 1) xs)) e sent)
 
+-- the same by an item that the list has at the place
+pub item_more : {X T E : Type 0} (f : X → List ℕ) (xs : List X) (i : ℕ) (x : X) (held0 held : Option (List ℕ)) (gathered0 gathered : List ℕ) (r : Result T E) → i < length xs → x ≡ get_or xs i x
+    → Gathers held0 held gathered0 (flat_map f (take i xs) ++ f x) gathered r → Gathers held0 held gathered0 (flat_map f (take (i + 1) xs)) gathered r
+item_more {X} f xs i x held0 held gathered0 gathered r below is sent =
+    pieces_more f xs i x held0 held gathered0 gathered r below (subst (λ (y : X). Gathers held0 held gathered0 (flat_map f (take i xs) ++ f y) gathered r) is sent)
+
+pub item_failed : {X T E : Type 0} (f : X → List ℕ) (xs : List X) (i : ℕ) (x : X) (held0 held : Option (List ℕ)) (gathered0 gathered : List ℕ) (e : E) → i < length xs → x ≡ get_or xs i x
+    → Gathers {T = T} {E = E} held0 held gathered0 (flat_map f (take i xs) ++ f x) gathered (Err e) → Gathers {T = T} {E = E} held0 held gathered0 (flat_map f xs) gathered (Err e)
+item_failed {X} {T} {E} f xs i x held0 held gathered0 gathered e below is sent =
+    pieces_failed f xs i x held0 held gathered0 gathered e below (subst (λ (y : X). Gathers {T = T} {E = E} held0 held gathered0 (flat_map f (take i xs) ++ f y) gathered (Err e)) is sent)
+
 -- what was put where nothing was gathered, and then written, was written whole
 pub written_whole : {T U E : Type 0} (held0 held1 held2 : Option (List ℕ)) (gathered0 gathered1 gathered2 bytes : List ℕ) (r : T) (s : Result U E) → gathered0 ≡ [] → Gathers {T = T} {E = E} held0 held1 gathered0 bytes gathered1 (Ok r) → gathered2 ≡ [] → Gathers held1 held2 gathered1 [] gathered2 s → WritesAll held0 held2 bytes s
 written_whole {U = U} {E = E} held0 held1 held2 gathered0 gathered1 gathered2 bytes r s empty a after b = record {

@@ -1,5 +1,5 @@
 -- A network made of a definition's table and automaton shows the project of the definition.
-use Rattle.std.proofs.Common.{◌≡◌, ◌↔◌, ◌⊎◌, ℕ, ◌+◌, ◌<◌, Bool, true, false, cond, not, ◌||◌, List, [], ◌∷◌, ◌++◌, length, Some, refl, sym, ap, subst, ◌∙◌, inl, inr, slice_get, arith, suc, append-nil}
+use Rattle.std.proofs.Common.{◌≡◌, ◌↔◌, ◌⊎◌, ℕ, ◌+◌, ◌<◌, Bool, true, false, cond, not, ◌||◌, List, [], ◌∷◌, ◌++◌, length, Some, refl, sym, ap, subst, ◌∙◌, inl, inr, slice_get, arith, zero, suc, append-nil, length-append, ◌≤◌}
 use Rattle.std.proofs.lemmas.Option.{slice_get_within, get_or_from_slice_get}
 use Rattle.std.proofs.lemmas.Slice.Eq.{bytes_eq-Decides}
 use Rattle.std.proofs.lemmas.List.Elements.{Contains-append_left}
@@ -171,6 +171,9 @@ module _ (d : Definition) (table : List (List ℕ)) (alphabet : List (Sym × Lis
   pub definition_over : StandFor (UsesLetter m) table (symbols_in d.term) → IsOverAlphabet alphabet m
   definition_over stands = over_alphabet table alphabet is m (symbols_in d.term) held stands
 
+  abbrev Related : List (List ℕ) → List (List ℕ) → Type 0
+  Related u w = (upper : List Sym) × (lower : List Sym) × IsRelated m upper lower × (u ≡ spelled alphabet upper) × (w ≡ spelled alphabet lower)
+
   pub shows : (name : List ℕ) → name ≡ d.name → IsBuilt d.term → IsAlphabet alphabet → StandFor (UsesLetter m) table (symbols_in d.term) → ((letters : List Sym) → AreSame (IsRelated m) (Relates (sym_in table) letters d.term)) → Shows (record { alphabet = alphabet; name = name; net = m }) (project_of d)
   shows name name_is built formed stands relation = record {
     formed = formed;
@@ -180,9 +183,6 @@ module _ (d : Definition) (table : List (List ℕ)) (alphabet : List (Sym × Lis
     relates = λ u w. subst (λ (z : List ℕ). Meaning (project_of d) z u w ↔ Related u w) (sym name_is) (there u w, back u w);
   }
     where
-      abbrev Related : List (List ℕ) → List (List ℕ) → Type 0
-      Related u w = (upper : List Sym) × (lower : List Sym) × IsRelated m upper lower × (u ≡ spelled alphabet upper) × (w ≡ spelled alphabet lower)
-
       image : IsImage (text_of alphabet) (Relates symbol_of (alphabet_of d.term) d.term) (Relates (sym_in table) [] d.term)
       image = relates_image (text_of alphabet) (sym_in table) (alphabet_of d.term) [] d.term built (λ leaf among. text_of_leaf table alphabet is leaf (held (symbol_of leaf) among))
 

@@ -26,11 +26,11 @@ module _ {S : Type 0} (g : S → List ℕ) where
 
   image_union : (P P' : List (List ℕ) → List (List ℕ) → Type 0) (Q Q' : List S → List S → Type 0) → IsImage P Q → IsImage P' Q' → IsImage (λ u w. P u w ⊎ P' u w) (λ x y. Q x y ⊎ Q' x y)
   image_union P P' Q Q' a b u w = (
-    λ or. elim or as (λ _. (x : List S) × (y : List S) × (Q x y ⊎ Q' x y) × (u ≡ map g x) × (w ≡ map g y)) [
+    λ either. elim either as (λ _. (x : List S) × (y : List S) × (Q x y ⊎ Q' x y) × (u ≡ map g x) × (w ≡ map g y)) [
       | inl p ↦ let i = (a u w).0 p in (i.0, i.1, inl i.2, i.3, i.4)
       | inr p ↦ let i = (b u w).0 p in (i.0, i.1, inr i.2, i.3, i.4)
     ],
-    λ (x, y, or, e, d). elim or as (λ _. P u w ⊎ P' u w) [ inl q ↦ inl ((a u w).1 (x, y, q, e, d)) | inr q ↦ inr ((b u w).1 (x, y, q, e, d)) ],
+    λ (x, y, either, e, d). elim either as (λ _. P u w ⊎ P' u w) [ inl q ↦ inl ((a u w).1 (x, y, q, e, d)) | inr q ↦ inr ((b u w).1 (x, y, q, e, d)) ],
   )
 
   image_concat : (P P' : List (List ℕ) → List (List ℕ) → Type 0) (Q Q' : List S → List S → Type 0) → IsImage P Q → IsImage P' Q' → IsImage (IsConcatenationOfPairs P P') (IsConcatenationOfPairs Q Q')
@@ -139,6 +139,19 @@ module _ {S : Type 0} (g : S → List ℕ) (f : Raw → S) (texts : List (List �
         (subst (λ (z : List (List ℕ)). Relates symbol_of texts e (part_upper symbol_of e) z) (sym (d' ∙ ap (map g) is.1 ∙ low)) (part_has symbol_of texts e part)),
   )
 
+  -- each operand's relation is the image of its own
+  abbrev pub AreImages : Links Raw → Type 0
+  AreImages no_link = Unit {0}
+  AreImages (or e links) = IsImage g (Relates symbol_of texts e) (Relates f alphabet e) × AreImages links
+  AreImages _ = ⊥
+
+  any_image : (links : Links Raw) (P : List (List ℕ) → List (List ℕ) → Type 0) (Q : List S → List S → Type 0) → AreImages links → IsImage g P Q → IsImage g (RelatesAny symbol_of texts P links) (RelatesAny f alphabet Q links)
+  any_image no_link P Q images image = image
+  any_image (or e links) P Q images image =
+      any_image links (λ u w. P u w ⊎ Relates symbol_of texts e u w) (λ x y. Q x y ⊎ Relates f alphabet e x y) images.1
+      (image_union g P (Relates symbol_of texts e) Q (Relates f alphabet e) image images.0)
+  any_image _ P Q images image = absurd images
+
   mutual
     pub relates_image : (e : Term Raw) → IsBuilt e → AreTexts (symbols_in e) → IsImage g (Relates symbol_of texts e) (Relates f alphabet e)
     relates_image empty built h = part_image empty tt refl refl
@@ -150,7 +163,8 @@ module _ {S : Type 0} (g : S → List ℕ) (f : Raw → S) (texts : List (List �
     relates_image (suffixed e suffixes) built h = image_suffixed g suffixes (Relates symbol_of texts e) (Relates f alphabet e) (relates_image e built.0 h)
     relates_image (concat es) built h = each_image es built h
     relates_image (chain e links) built h =
-        any_image links (Relates symbol_of texts e) (Relates f alphabet e) built.1 (second_texts (symbols_in e) (symbols_in_links links) h) (relates_image e built.0 (first_texts (symbols_in e) (symbols_in_links links) h))
+        any_image links (Relates symbol_of texts e) (Relates f alphabet e) (links_images links built.1 (second_texts (symbols_in e) (symbols_in_links links) h))
+        (relates_image e built.0 (first_texts (symbols_in e) (symbols_in_links links) h))
     relates_image _ built h = absurd built
 
     each_image : (es : Terms Raw) → AreBuilt es → AreTexts (symbols_in_each es) → IsImage g (RelatesEach symbol_of texts es) (RelatesEach f alphabet es)
@@ -159,10 +173,8 @@ module _ {S : Type 0} (g : S → List ℕ) (f : Raw → S) (texts : List (List �
         image_concat g (Relates symbol_of texts e) (RelatesEach symbol_of texts es) (Relates f alphabet e) (RelatesEach f alphabet es)
         (relates_image e built.0 (first_texts (symbols_in e) (symbols_in_each es) h)) (each_image es built.1 (second_texts (symbols_in e) (symbols_in_each es) h))
 
-    any_image : (links : Links Raw) (P : List (List ℕ) → List (List ℕ) → Type 0) (Q : List S → List S → Type 0) → AreBuiltLinks links → AreTexts (symbols_in_links links) → IsImage g P Q
-        → IsImage g (RelatesAny symbol_of texts P links) (RelatesAny f alphabet Q links)
-    any_image no_link P Q built h image = image
-    any_image (or e links) P Q built h image =
-        any_image links (λ u w. P u w ⊎ Relates symbol_of texts e u w) (λ x y. Q x y ⊎ Relates f alphabet e x y) built.1 (second_texts (symbols_in e) (symbols_in_links links) h)
-        (image_union g P (Relates symbol_of texts e) Q (Relates f alphabet e) image (relates_image e built.0 (first_texts (symbols_in e) (symbols_in_links links) h)))
-    any_image _ P Q built h image = absurd built
+    links_images : (links : Links Raw) → AreBuiltLinks links → AreTexts (symbols_in_links links) → AreImages links
+    links_images no_link built h = tt
+    links_images (or e links) built h =
+        (relates_image e built.0 (first_texts (symbols_in e) (symbols_in_links links) h), links_images links built.1 (second_texts (symbols_in e) (symbols_in_links links) h))
+    links_images _ built h = absurd built

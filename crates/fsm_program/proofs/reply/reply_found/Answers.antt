@@ -1,14 +1,13 @@
-use Rattle.fsm_program.proofs.ReplyBytes.{bytes_one, bytes_none, sends_as}
-use Rattle.fsm_program.proofs.Lawful.{lawful_one, lawful_none}
+use Rattle.std.proofs.Common.{codes, refl}
+use Rattle.fsm_meaning.specs.Replies.{no_memory}
+use Rattle.lookup.specs.Answering.{found_of}
+use Rattle.fsm_program.proofs.ReplyBytes.{headed_one, sends_as}
+use Rattle.fsm_program.proofs.Lawful.{lawful}
 use Rattle.fsm_program.proofs.reply.reply_found.Goals as goal
 
-pub returns-in-Some-clause-sends : goal.returns-in-Some-clause-sends
-returns-in-Some-clause-sends g c project shown is over =
-    let found = c.in-Some.ensures.found in
-    sends_as _ _ (lawful_one c.args.network.now project shown c.args.word.now c.args.symbols.now c.in-Some.upper.now is found.0 found.1) (bytes_one c.args.word.now c.in-Some.upper.now)
-    (rw (c.as_slice.ensures, c.as_bytes.ensures.value, c.as_slice-in-Some.ensures, c.as_bytes-in-Some.ensures.value, c.as_slice-in-Some-2.ensures) at c.put_all.ensures.bytes)
+pub returns-in-Ok-clause-sends : goal.returns-in-Ok-clause-sends
+returns-in-Ok-clause-sends g c project shown is over =
+    sends_as _ _ (lawful c.args.network.now project shown c.args.direction c.args.word.now c.args.symbols.now (found_of c.in-Ok.answer) is over c.in-Ok.ensures) refl c.reply_answer.ensures.bytes
 
-pub returns-in-None-clause-sends : goal.returns-in-None-clause-sends
-returns-in-None-clause-sends g c project shown is over =
-    sends_as _ _ (lawful_none c.args.network.now project shown c.args.word.now c.args.symbols.now is c.in-None.ensures.none over) (bytes_none c.args.word.now)
-    (rw (c.as_slice-in-None.ensures, c.as_bytes-in-None.ensures.value, c.as_slice-in-None-2.ensures) at c.put_all-in-None.ensures.bytes)
+pub returns-in-Err-clause-sends : goal.returns-in-Err-clause-sends
+returns-in-Err-clause-sends g c project shown is over = sends_as _ _ (no_memory refl) (headed_one (codes "memory")) (rw c.as_slice.ensures at c.put_all.ensures.bytes)

@@ -14,7 +14,8 @@ returns-in-Ok-clause-sends g c project shown =
 pub returns-in-Err-NoSymbol-clause-sends : goal.returns-in-Err-NoSymbol-clause-sends
 returns-in-Err-NoSymbol-clause-sends g c project shown =
     let is = rw (c.in-Err-NoSymbol.field-0-is, c.alphabet.ensures) at c.in-Err-NoSymbol.ensures.stopped in
-    sends_as _ _ (no_symbol c.in-Err-NoSymbol.at (defines c.args.network.now project shown) (cut_shown c.args.network.now project shown c.args.word.now _ is) refl) refl c.reply_no_symbol.ensures.bytes
+    let bytes = rw c.in-Err-NoSymbol.field-0-is at c.reply_no_symbol.ensures.bytes in
+    sends_as _ _ (no_symbol c.in-Err-NoSymbol.at (defines c.args.network.now project shown) (cut_shown c.args.network.now project shown c.args.word.now _ is) refl) refl bytes
 
 pub returns-in-Err-Memory-clause-sends : goal.returns-in-Err-Memory-clause-sends
 returns-in-Err-Memory-clause-sends g c project shown =
