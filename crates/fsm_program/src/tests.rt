@@ -3,7 +3,7 @@ use crate::look_up::turn;
 use crate::run;
 use fsm_base::Text;
 use fsm_io::{Lines, MemoryFolder, MemorySink, MemorySource, Outbox};
-use fsm_meaning::Ending;
+use fsm_meaning::{Direction, Ending};
 use std::alloc::{AllocError, Global};
 use std::test::Fail;
 
@@ -89,17 +89,27 @@ fn answer_of(
     Ok((status, Vec::from_slice(alloc, sink.bytes())?))
 }
 
-/// What `up DIR NET` writes where nothing fails.
-fn up(alloc: Global, text: &[u8], net: &str, input: &[u8]) -> Result<(u8, Vec<u8>), AllocError> {
-    let words = format!(in alloc; "up dir {net}")?;
+/// What a command writes for the lines of the input in this definition, where nothing fails.
+fn look(
+    alloc: Global,
+    command: &str,
+    text: &[u8],
+    input: &[u8],
+) -> Result<(u8, Vec<u8>), AllocError> {
     answer_of(
         alloc,
-        words.as_str(),
+        command,
         &[MANIFEST, ("r.xfst", text)],
         input,
         &WHOLE,
         &NONE,
     )
+}
+
+/// What `up DIR NET` writes where nothing fails.
+fn up(alloc: Global, text: &[u8], net: &str, input: &[u8]) -> Result<(u8, Vec<u8>), AllocError> {
+    let words = format!(in alloc; "up dir {net}")?;
+    look(alloc, words.as_str(), text, input)
 }
 
 #[test]
@@ -151,6 +161,163 @@ fn pairs_of_a_definition(rt: HostRuntime) -> Result<(), Fail> {
 }
 
 #[test]
+fn optional_word(rt: HostRuntime) -> Result<(), Fail> {
+    let alloc = rt.alloc();
+    let rows: [(&[u8], &[u8]); 3] = [(b"\n", b"1 1 \n\n"), (b"aa\n", b"1 0 aa\n"), (b"", b"")];
+    for (input, wanted) in rows {
+        let (status, written) = up(alloc, b"define N (a) ;", "N", input)?;
+        assert_eq!(rt; written.as_slice(), wanted);
+        assert_eq!(rt; status, 0);
+    }
+    Ok(())
+}
+
+/// A text is listed once, a cycle that no answer uses makes no loop, and one whose texts are empty is finite.
+#[test]
+fn choices_and_repetitions(rt: HostRuntime) -> Result<(), Fail> {
+    let alloc = rt.alloc();
+    let rows: [(&[u8], &[u8], &[u8]); 9] = [
+        (b"define N [a:b | c:b | a:b] ;", b"b\n", b"1 2 b\na\nc\n"),
+        (b"define N [a:0]* c:d | b ;", b"b\n", b"1 1 b\nb\n"),
+        (b"define N a:x b:0 | ab:x ;", b"x\n", b"1 1 x\nab\n"),
+        (
+            b"define N a [0:b]* ;",
+            b"abb\na\n",
+            b"1 1 abb\na\n1 1 a\na\n",
+        ),
+        (b"define N [ ]* a ;", b"a\n", b"1 1 a\na\n"),
+        (b"define N a^0 b ;", b"b\nab\n", b"1 1 b\nb\n1 0 ab\n"),
+        (b"define N a+ ;", b"aa\n\n", b"1 1 aa\naa\n1 0 \n"),
+        (b"define N a*^2 ;", b"\n", b"1 1 \n\n"),
+        (
+            b"define N b | a c* ;",
+            b"acc\nbc\n",
+            b"1 1 acc\nacc\n1 0 bc\n",
+        ),
+    ];
+    for (text, input, wanted) in rows {
+        let (status, written) = up(alloc, text, "N", input)?;
+        assert_eq!(rt; written.as_slice(), wanted);
+        assert_eq!(rt; status, 0);
+    }
+    Ok(())
+}
+
+#[test]
+fn lower_words(rt: HostRuntime) -> Result<(), Fail> {
+    let alloc = rt.alloc();
+    let rows: [(&[u8], &[u8], &[u8]); 3] = [
+        (b"define N [a:0]* b ;", b"aab\n", b"1 1 aab\nb\n"),
+        (CAT, b"cat+N\ncat\n", b"1 1 cat+N\ncat\n1 0 cat\n"),
+        (b"define N a:b | a:c ;", b"a\nb\n", b"1 2 a\nb\nc\n1 0 b\n"),
+    ];
+    for (text, input, wanted) in rows {
+        let (status, written) = look(alloc, "down dir N", text, input)?;
+        assert_eq!(rt; written.as_slice(), wanted);
+        assert_eq!(rt; status, 0);
+    }
+    Ok(())
+}
+
+/// The words before, before and round, and before and twice round, each with what comes after: of the lines of a
+/// reply, each by a newline.
+fn turned(alloc: Global, lines: &[&[u8]]) -> Result<Vec<u8>, AllocError> {
+    let mut words = Vec::new(alloc);
+    let [_, before, round, after, _] = lines else {
+        return Ok(words);
+    };
+    for turns in 0usize..3 {
+        words.extend_from_slice(before)?;
+        for _ in 0..turns {
+            words.extend_from_slice(round)?;
+        }
+        words.extend_from_slice(after)?;
+        words.push(b'\n')?;
+    }
+    Ok(words)
+}
+
+/// Whether the reply to `up` of this word is a loop that goes round, and the word is the lower word of all that it
+/// stands for.
+fn is_lawful_loop(alloc: Global, text: &[u8], word: &[u8]) -> Result<bool, AllocError> {
+    let (_, reply) = up(alloc, text, "N", word)?;
+    let mut lines = Vec::new(alloc);
+    for line in reply.split(|byte| *byte == b'\n') {
+        lines.push(line)?;
+    }
+    let words = turned(alloc, &lines)?;
+    let (_, lower) = look(alloc, "down dir N", text, &words)?;
+    let mut wanted = Vec::new(alloc);
+    for line in words.split(|byte| *byte == b'\n').take(3) {
+        wanted.extend_from_slice(b"1 1 ")?;
+        wanted.extend_from_slice(line)?;
+        wanted.push(b'\n')?;
+        wanted.extend_from_slice(word)?;
+    }
+    let goes_round = lines.get(2).is_some_and(|round| !round.is_empty());
+    Ok(reply.starts_with(b"1 loop ") && goes_round && lower == wanted)
+}
+
+#[test]
+fn loops(rt: HostRuntime) -> Result<(), Fail> {
+    let alloc = rt.alloc();
+    assert!(rt; is_lawful_loop(alloc, b"define N {a} [\"+X\":0]* ;", b"a\n")?);
+    assert!(rt; is_lawful_loop(alloc, b"define N [a:0]* b ;", b"b\n")?);
+    assert!(rt; is_lawful_loop(alloc, b"define N a [b:0 c:0]+ d ;", b"ad\n")?);
+    Ok(())
+}
+
+#[test]
+fn the_limit_of_answers(rt: HostRuntime) -> Result<(), Fail> {
+    let alloc = rt.alloc();
+    let (_, twelve) = up(
+        alloc,
+        b"define N {a} [\"+A\":0 | \"+B\":0]^12 ;",
+        "N",
+        b"a\n",
+    )?;
+    let first = b"1 4096 a\na+A+A+A+A+A+A+A+A+A+A+A+A\n";
+    assert!(rt; twelve.starts_with(first));
+    assert_eq!(rt; twelve.iter().filter(|byte| **byte == b'\n').count(), 4097);
+    let (_, thirteen) = up(
+        alloc,
+        b"define N {a} [\"+A\":0 | \"+B\":0]^13 ;",
+        "N",
+        b"a\n",
+    )?;
+    assert_eq!(rt; thirteen.as_slice(), b"1 more a\n".as_slice());
+    Ok(())
+}
+
+/// The status of a definition of a symbol inside so many brackets.
+fn bracketed(alloc: Global, count: usize) -> Result<u8, AllocError> {
+    let mut text = Vec::from_slice(alloc, b"define N ")?;
+    for _ in 0..count {
+        text.push(b'[')?;
+    }
+    text.push(b'a')?;
+    for _ in 0..count {
+        text.push(b']')?;
+    }
+    text.extend_from_slice(b" ;")?;
+    Ok(up(alloc, &text, "N", b"")?.0)
+}
+
+#[test]
+fn limits_of_expressions(rt: HostRuntime) -> Result<(), Fail> {
+    let alloc = rt.alloc();
+    assert_eq!(rt; bracketed(alloc, 16)?, 0);
+    assert_eq!(rt; bracketed(alloc, 17)?, 2);
+    let mut word = vec![in alloc; b'a'; 255]?;
+    word.push(b'\n')?;
+    let (status, written) = up(alloc, b"define N a^255 ;", "N", &word)?;
+    assert_eq!(rt; status, 0);
+    assert!(rt; written.starts_with(b"1 1 aaa"));
+    assert_eq!(rt; up(alloc, b"define N a^256 ;", "N", &word)?.0, 2);
+    Ok(())
+}
+
+#[test]
 fn refusals_of_a_project(rt: HostRuntime) -> Result<(), Fail> {
     let alloc = rt.alloc();
     let rows: [(&[(&str, &[u8])], &[u8]); 16] = [
@@ -198,7 +365,7 @@ fn refusals_of_a_project(rt: HostRuntime) -> Result<(), Fail> {
             b"refused r.xfst 0 not-built\n",
         ),
         (
-            &[MANIFEST, ("r.xfst", b"define N [a] ;")],
+            &[MANIFEST, ("r.xfst", b"define N [a ;")],
             b"refused r.xfst 0 not-built\n",
         ),
         (
@@ -304,13 +471,17 @@ fn words_in_no_form(rt: HostRuntime) -> Result<(), Fail> {
         "up",
         "up dir",
         "up dir N M",
-        "down dir N",
+        "down dir",
+        "Down dir N",
         "Up dir N",
         "upx dir N",
         "help",
     ] {
         let (status, written) = answer_of(alloc, words, &files, b"cat\n", &WHOLE, &NONE)?;
-        assert_eq!(rt; written.as_slice(), b"up DIR NET\n".as_slice());
+        assert_eq!(rt;
+            written.as_slice(),
+            b"up DIR NET\ndown DIR NET\n".as_slice()
+        );
         assert_eq!(rt; status, 1);
     }
     Ok(())
@@ -460,6 +631,7 @@ fn a_spent_budget(rt: HostRuntime) -> Result<(), Fail> {
     let first = turn(
         alloc,
         &network,
+        Direction::Up,
         "N",
         &mut lines,
         &mut outbox,
@@ -470,6 +642,7 @@ fn a_spent_budget(rt: HostRuntime) -> Result<(), Fail> {
     let second = turn(
         alloc,
         &network,
+        Direction::Up,
         "N",
         &mut lines,
         &mut outbox,
