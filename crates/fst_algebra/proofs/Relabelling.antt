@@ -1,10 +1,10 @@
 -- The automaton of the words with each letter replaced: each edge carries what its letter is replaced by.
-use Rattle.std.proofs.Common.{◌≡◌, ℕ, ◌↔◌, List, [], ◌∷◌, ◌++◌, true, Option, Some, None, refl, subst, sym, ap, inl, inr, ◌∙◌, append_assoc}
+use Rattle.std.proofs.Common.{◌≡◌, ℕ, ◌↔◌, List, [], ◌++◌, true, Option, Some, None, refl, subst, sym, ap, inl, inr, ◌∙◌}
 use Rattle.std.specs.List.{Contains, slice_get}
 use Rattle.std.specs.Option.{option_to_list}
 use Rattle.fsm_words.proofs.Members.{Contains-nil_cases}
-use Rattle.fsa.specs.Automaton.{Automaton, IsFinal, UsesLetter}
-use Rattle.fsa.specs.Language.{AcceptsFrom, Accepts, stop, read, skip}
+use Rattle.fsa.specs.Automaton.{Automaton, UsesLetter}
+use Rattle.fsa.specs.Language.{AcceptsFrom, Accepts, stop}
 use Rattle.fsa.specs.declared.automaton.Edge.{Edge}
 use Rattle.fsa_rational.specs.Shapes.{Extends, ComesFrom}
 use Rattle.fsa_rational.proofs.Walks.{AcceptsFrom-least, AcceptsFrom-step}

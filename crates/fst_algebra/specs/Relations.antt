@@ -1,7 +1,7 @@
 -- Operations on relations between words (Kaplan and Kay, Regular Models of Phonological Rule Systems, 1994,
 -- section 2; Beesley and Karttunen, Finite State Morphology, 2003, section 2.3). A set of words is a test on
 -- words, a relation a test on an upper and a lower word.
-use Rattle.std.specs.Prelude.{◌≡◌, ◌⊎◌, List, Some}
+use Rattle.std.specs.Prelude.{◌≡◌, List, Some}
 use Rattle.fsm_base.specs.declared.letters.Sym.{Sym}
 use Rattle.fsm_base.specs.declared.letters.Pair.{Pair}
 use Rattle.fsa.specs.Automaton.{Automaton, UsesLetter}

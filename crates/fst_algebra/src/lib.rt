@@ -9,5 +9,7 @@
 
 mod relabel;
 mod relations;
+#[cfg(test)]
+mod tests;
 
 pub use relations::{cross, identity, inverse, lower, upper};
