@@ -1,0 +1,4 @@
+pub mod Composition
+pub mod Meeting
+pub mod Index
+pub mod Product

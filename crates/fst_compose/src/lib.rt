@@ -1,0 +1,7 @@
+//! The composition of transducers (Kaplan and Kay, Regular Models of Phonological Rule Systems, 1994; Beesley
+//! and Karttunen, Finite State Morphology, 2003, section 2.3.5).
+//!
+//! - [`compose`]: relates u and w where some word between is related to both (`specs/Composition.antt`).
+#![tactic(auto)]
+
+mod operand;
