@@ -1,0 +1,5 @@
+pub mod Operands
+pub mod Gaining
+pub mod Moving
+pub mod Searched
+pub mod Producing

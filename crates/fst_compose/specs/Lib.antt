@@ -1,4 +1,5 @@
 pub mod Composition
 pub mod Meeting
+pub mod Gains
 pub mod Index
 pub mod Product

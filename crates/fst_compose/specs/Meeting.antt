@@ -1,9 +1,11 @@
--- Moves of two transducers side by side, which read their lower sides in common (Kaplan and Kay, 1994,
--- section 2). Where an edge has no symbol below, its transducer moves alone.
+-- Moves of two transducers side by side, which read their lower sides in common (Kaplan and Kay, Regular Models of
+-- Phonological Rule Systems, 1994, section 2). Where an edge has no symbol below, its transducer moves alone.
 use Rattle.std.specs.Prelude.{◌≡◌, ◌⊎◌, ℕ, List, Option, Some, None, Contains}
 use Rattle.fsm_base.specs.declared.letters.Sym.{Sym}
 use Rattle.fsm_base.specs.declared.letters.Pair.{Pair}
 use Rattle.fsa.specs.declared.automaton.Edge.{Edge}
+use Rattle.fst_compose.specs.declared.operand.Onward.{Onward}
+use Rattle.fst_compose.specs.declared.moves.Move.{Move}
 
 -- the symbols of an edge's letter; a silent edge has none
 abbrev pub upper_of : Option Pair → Option Sym
@@ -25,21 +27,29 @@ abbrev pub Passes : List (Edge Pair) → ℕ → Option Sym → Option Sym → �
 Passes edges from up low to =
     (letter : Option Pair) × Contains edges (record { from = from; letter = letter; to = to }) × (upper_of letter ≡ up) × (lower_of letter ≡ low)
 
--- moves from the pair of states (p, q) to another one: of the first alone, of the second alone, and of both on one
--- symbol below. The letter has the first's upper symbol above and the second's below.
-abbrev pub FirstMoves : List (Edge Pair) → ℕ → ℕ → Option Pair → ℕ → ℕ → Type 0
-FirstMoves first p q letter to_p to_q = (up : Option Sym) × Passes first p up None to_p × (letter ≡ letter_of up None) × (to_q ≡ q)
+-- an edge of the first from p and one of the second from q have the same symbol below
+abbrev pub IsMatch : List (Edge Pair) → List (Edge Pair) → ℕ → ℕ → Onward → Onward → Type 0
+IsMatch first second p q x y = (symbol : Sym) × Passes first p x.up (Some symbol) x.to × Passes second q y.up (Some symbol) y.to
 
-abbrev pub SecondMoves : List (Edge Pair) → ℕ → ℕ → Option Pair → ℕ → ℕ → Type 0
-SecondMoves second p q letter to_p to_q = (up : Option Sym) × Passes second q up None to_q × (letter ≡ letter_of None up) × (to_p ≡ p)
+-- from the pair of states (p, q) the first moves alone, or the second alone, or both on the same symbol below; the
+-- move has the upper symbol of the first above, and that of the second below
+abbrev pub FirstMoves : List (Edge Pair) → ℕ → ℕ → Move → Type 0
+FirstMoves first p q m = Passes first p m.up None m.first × (m.low ≡ None) × (m.second ≡ q)
 
--- both have this symbol below
-abbrev pub BothPass : List (Edge Pair) → List (Edge Pair) → ℕ → ℕ → Option Sym → ℕ → Option Sym → ℕ → Type 0
-BothPass first second p q up to_p low to_q = (symbol : Sym) × Passes first p up (Some symbol) to_p × Passes second q low (Some symbol) to_q
+abbrev pub SecondMoves : List (Edge Pair) → ℕ → ℕ → Move → Type 0
+SecondMoves second p q m = Passes second q m.low None m.second × (m.up ≡ None) × (m.first ≡ p)
 
-abbrev pub BothMove : List (Edge Pair) → List (Edge Pair) → ℕ → ℕ → Option Pair → ℕ → ℕ → Type 0
-BothMove first second p q letter to_p to_q = (up : Option Sym) × (low : Option Sym) × BothPass first second p q up to_p low to_q × (letter ≡ letter_of up low)
+abbrev pub BothMove : List (Edge Pair) → List (Edge Pair) → ℕ → ℕ → Move → Type 0
+BothMove first second p q m = IsMatch first second p q (record { up = m.up; to = m.first }) (record { up = m.low; to = m.second })
 
-abbrev pub Move : List (Edge Pair) → List (Edge Pair) → ℕ → ℕ → Option Pair → ℕ → ℕ → Type 0
-Move first second p q letter to_p to_q =
-    FirstMoves first p q letter to_p to_q ⊎ (SecondMoves second p q letter to_p to_q ⊎ BothMove first second p q letter to_p to_q)
+abbrev pub IsMove : List (Edge Pair) → List (Edge Pair) → ℕ → ℕ → Move → Type 0
+IsMove first second p q m = FirstMoves first p q m ⊎ (SecondMoves second p q m ⊎ BothMove first second p q m)
+
+-- the move that both make
+abbrev pub both_move : Onward × Onward → Move
+both_move both = record { up = both.0.up; low = both.1.up; first = both.0.to; second = both.1.to }
+
+-- the edge, as what it leads to, with one of the second from q that has the same symbol below
+abbrev pub IsMatchOf : List (Edge Pair) → ℕ → Edge Pair → Onward × Onward → Type 0
+IsMatchOf second q e both =
+    (symbol : Sym) × (lower_of e.letter ≡ Some symbol) × (both.0 ≡ record { up = upper_of e.letter; to = e.to }) × Passes second q both.1.up (Some symbol) both.1.to

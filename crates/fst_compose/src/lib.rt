@@ -4,4 +4,7 @@
 //! - [`compose`]: relates u and w where some word between is related to both (`specs/Composition.antt`).
 #![tactic(auto)]
 
+mod moves;
 mod operand;
+mod pairs;
+mod product;

@@ -1,3 +1,4 @@
+ghost use Rattle.std.proofs.Common.{rules};
 ghost use Rattle.std.specs.Prelude.{◌≡◌, ◌↔◌, Contains, IfOk, IsSortedByKey, IsPermutation, List, map, Option};
 ghost use Rattle.fsm_base.specs.declared.letters.Pair.{Pair};
 ghost use Rattle.fsa.specs.declared.automaton.Edge.{Edge};
@@ -87,7 +88,7 @@ fn rows_of(alloc: Global, edges: &[Edge<Pair>]) -> Result<Vec<(Place, Onward)>, 
 }
 
 /// Where the edge stands, and what it leads to. A silent edge has no symbols.
-fn row_of(edge: &Edge<Pair>) -> (Place, Onward)
+pub fn row_of(edge: &Edge<Pair>) -> (Place, Onward)
     ensures { result ≡ row_of edge.now }
 {
     let (up, low) = match edge.letter {
