@@ -3,3 +3,4 @@ pub mod Gaining
 pub mod Moving
 pub mod Searched
 pub mod Producing
+pub mod Related

@@ -43,7 +43,7 @@ pub fn explore(
     while finals.len() < found.pairs.len() {
         let number = finals.len();
         let (p, q) = found.pairs.get(number);
-        finals.push(is_final(first_finals, p) && is_final(second_finals, q))?;
+        finals.push(are_final(first_finals, p, second_finals, q))?;
         let moves = moves(alloc, first, p, second, q)?;
         add_moves(&mut found, number, &moves)?;
     }
@@ -64,6 +64,13 @@ fn start(alloc: Global) -> Result<Found, AllocError>
         pairs,
         edges: Vec::new(alloc),
     })
+}
+
+/// Whether both states are final.
+fn are_final(first_finals: &[bool], p: usize, second_finals: &[bool], q: usize) -> bool
+    ensures { IsTrue result ↔ ((slice_get first_finals.now p ≡ Some true) × (slice_get second_finals.now q ≡ Some true)) }
+{
+    is_final(first_finals, p) && is_final(second_finals, q)
 }
 
 /// Whether the state is there and final.
