@@ -4,3 +4,4 @@ pub mod Moving
 pub mod Searched
 pub mod Producing
 pub mod Related
+pub mod Meets

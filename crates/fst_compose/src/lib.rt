@@ -4,7 +4,10 @@
 //! - [`compose`]: relates u and w where some word between is related to both (`specs/Composition.antt`).
 #![tactic(auto)]
 
+mod composition;
 mod moves;
 mod operand;
 mod pairs;
 mod product;
+
+pub use composition::compose;
