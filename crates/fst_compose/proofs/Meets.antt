@@ -1,12 +1,12 @@
 -- The automaton that the walk builds, over the transducers themselves.
-use Rattle.std.proofs.Common.{◌≡◌, ℕ, ◌<◌, ◌⊎◌, ◌↔◌, List, Bool, Option, Some, true, Result, Ok, Err, IfOk, length, refl, subst, sym, ap, inl, inr, arith, ◌∙◌}
+use Rattle.std.proofs.Common.{◌≡◌, ℕ, ◌<◌, ◌↔◌, List, Bool, Option, Some, true, Result, Ok, Err, IfOk, length, subst, sym, ap, inl, inr, arith, ◌∙◌}
 use Rattle.std.specs.List.{Contains, slice_get}
 use Rattle.std.specs.List.Sorted.{IsPermutation}
 use Rattle.std.proofs.lemmas.Option.{slice_get_within}
 use Rattle.fsm_base.specs.declared.letters.Sym.{Sym}
 use Rattle.fsm_base.specs.declared.letters.Pair.{Pair}
 use Rattle.fsm_words.specs.Relations.{AreSame}
-use Rattle.fsa.specs.Automaton.{Automaton, IsFinal}
+use Rattle.fsa.specs.Automaton.{Automaton}
 use Rattle.fsa.specs.declared.automaton.Edge.{Edge}
 use Rattle.fsa_rational.proofs.Walks.{same_elements}
 use Rattle.fst_relation.specs.Relation.{IsRelated}
@@ -14,8 +14,7 @@ use Rattle.fst_algebra.specs.Relations.{IsInverse, UsesUpper, UsesLower}
 use Rattle.fst_compose.specs.declared.moves.Move.{Move}
 use Rattle.fst_compose.specs.Composition.{IsComposition, ShareLower}
 use Rattle.fst_compose.specs.Meeting.{Passes, IsMove}
-use Rattle.fst_compose.specs.Product.{Makes, IsProduct}
-use Rattle.fst_compose.proofs.Related.{product_relation, product_upper, product_lower}
+use Rattle.fst_compose.specs.Product.{IsProduct}
 
 passes_same : (xs ys : List (Edge Pair)) → ((e : Edge Pair) → Contains xs e → Contains ys e) → (p : ℕ) (up low : Option Sym) (q : ℕ) → Passes xs p up low q → Passes ys p up low q
 passes_same xs ys f p up low q (letter, held, up_is, low_is) = (letter, f (record { from = p; letter = letter; to = q }) held, up_is, low_is)

@@ -1,5 +1,5 @@
 -- The moves from a pair of states, from the rows and edges that the operands give.
-use Rattle.std.proofs.Common.{◌≡◌, ℕ, ◌⊎◌, ◌↔◌, List, [], ◌∷◌, Option, Some, None, false, true, refl, subst, sym, ap, inl, inr, ◌∙◌}
+use Rattle.std.proofs.Common.{◌≡◌, ℕ, ◌⊎◌, ◌↔◌, List, [], Option, Some, None, true, refl, subst, sym, ap, inl, inr, ◌∙◌}
 use Rattle.std.specs.List.{Contains}
 use Rattle.std.specs.Option.{is_some}
 use Rattle.fsm_base.specs.declared.letters.Sym.{Sym}
@@ -32,9 +32,9 @@ module _ (first : List (Edge Pair)) (p q : ℕ) (rows : List (Place × Onward)) 
   first_moves = Gains-same (ForSome (λ row m. m ≡ first_move q row) rows) (FirstMoves first p q) old new
       (λ m r. subst (λ n. FirstMoves first p q n) (sym r.2) (passes_at first rows (record { state = p; low = None }) at r.0 r.1, refl, refl))
       (λ m r. (
-      (record { state = p; low = None }, record { up = m.up; to = m.first }),
-      row_at first rows (record { state = p; low = None }) at (record { up = m.up; to = m.first }) r.0,
-      ap (λ (l : Option Sym). record { up = m.up; low = l; first = m.first; second = m.second }) r.1 ∙ ap (λ (s : ℕ). record { up = m.up; low = None; first = m.first; second = s }) r.2,
+        (record { state = p; low = None }, record { up = m.up; to = m.first }),
+        row_at first rows (record { state = p; low = None }) at (record { up = m.up; to = m.first }) r.0,
+        ap (λ (l : Option Sym). record { up = m.up; low = l; first = m.first; second = m.second }) r.1 ∙ ap (λ (s : ℕ). record { up = m.up; low = None; first = m.first; second = s }) r.2,
       ))
 
 module _ (second : List (Edge Pair)) (p q : ℕ) (rows : List (Place × Onward)) (at : (row : Place × Onward) → Contains rows row ↔ (IsRow second row × (row.0 ≡ record { state = q; low = None }))) (old new : List Move) where
@@ -42,9 +42,9 @@ module _ (second : List (Edge Pair)) (p q : ℕ) (rows : List (Place × Onward))
   second_moves = Gains-same (ForSome (λ row m. m ≡ second_move p row) rows) (SecondMoves second p q) old new
       (λ m r. subst (λ n. SecondMoves second p q n) (sym r.2) (passes_at second rows (record { state = q; low = None }) at r.0 r.1, refl, refl))
       (λ m r. (
-      (record { state = q; low = None }, record { up = m.low; to = m.second }),
-      row_at second rows (record { state = q; low = None }) at (record { up = m.low; to = m.second }) r.0,
-      ap (λ (u : Option Sym). record { up = u; low = m.low; first = m.first; second = m.second }) r.1 ∙ ap (λ (s : ℕ). record { up = None; low = m.low; first = s; second = m.second }) r.2,
+        (record { state = q; low = None }, record { up = m.low; to = m.second }),
+        row_at second rows (record { state = q; low = None }) at (record { up = m.low; to = m.second }) r.0,
+        ap (λ (u : Option Sym). record { up = u; low = m.low; first = m.first; second = m.second }) r.1 ∙ ap (λ (s : ℕ). record { up = None; low = m.low; first = s; second = m.second }) r.2,
       ))
 
 -- the three kinds together

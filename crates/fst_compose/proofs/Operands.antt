@@ -9,7 +9,7 @@ use Rattle.fsa.specs.declared.automaton.Edge.{Edge}
 use Rattle.fsa_rational.proofs.Walks.{same_elements}
 use Rattle.fst_compose.specs.declared.operand.Place.{Place}
 use Rattle.fst_compose.specs.declared.operand.Onward.{Onward}
-use Rattle.fst_compose.specs.Meeting.{upper_of, lower_of, Passes}
+use Rattle.fst_compose.specs.Meeting.{upper_of}
 use Rattle.fst_compose.specs.Index.{row_of, IsRow, IsIndexed}
 
 -- the row of an edge stands for it, and each row that stands for an edge is the edge's row

@@ -1,7 +1,7 @@
 -- The relation of the automaton of pairs of states: the first transducer's path and the second's, whose lower sides
 -- are the same.
-use Rattle.std.proofs.Common.{◌≡◌, ℕ, ◌<◌, ◌⊎◌, ◌↔◌, List, [], ◌∷◌, ◌++◌, Option, Some, None, true, refl, subst, sym, ap, inl, inr, ◌∙◌}
-use Rattle.std.specs.List.{Contains, slice_get}
+use Rattle.std.proofs.Common.{◌≡◌, ℕ, ◌↔◌, List, [], ◌∷◌, ◌++◌, Option, Some, None, refl, subst, sym, ap, inl, inr, ◌∙◌}
+use Rattle.std.specs.List.{slice_get}
 use Rattle.std.specs.Option.{option_to_list}
 use Rattle.std.proofs.lemmas.Option.{same_Some}
 use Rattle.fsm_base.specs.declared.letters.Sym.{Sym}
@@ -17,7 +17,7 @@ use Rattle.fst_algebra.specs.Relations.{UsesUpper, UsesLower}
 use Rattle.fst_compose.specs.declared.moves.Move.{Move}
 use Rattle.fst_compose.specs.Composition.{ShareLower}
 use Rattle.fst_compose.specs.Meeting.{upper_of, lower_of, letter_of, Passes, IsMove}
-use Rattle.fst_compose.specs.Product.{Makes, IsProduct}
+use Rattle.fst_compose.specs.Product.{IsProduct}
 
 -- from the state a path to a final state has the first word above and the second below
 pub data RelatesFrom (m : Automaton Pair) : ℕ → List Sym → List Sym → Type 0 where

@@ -1,5 +1,5 @@
 -- What a list gains.
-use Rattle.std.specs.Prelude.{◌≡◌, ◌⊎◌, List, Contains}
+use Rattle.std.specs.Prelude.{◌⊎◌, List, Contains}
 
 -- the elements that pass the test came in, and no others; those that were there stayed
 pub record Gains {X : Type 0} (P : X → Type 0) (old new : List X) : Type 0 where

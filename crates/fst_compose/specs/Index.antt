@@ -1,7 +1,6 @@
 -- The edges of a transducer, sorted by the state that they leave and the symbol on their lower side.
-use Rattle.std.specs.Prelude.{◌≡◌, ◌↔◌, List, Contains, IsSortedByKey, Option}
+use Rattle.std.specs.Prelude.{◌↔◌, List, Contains, IsSortedByKey}
 use Rattle.std.specs.declared.cmp.Ordering.{Ordering}
-use Rattle.fsm_base.specs.declared.letters.Sym.{Sym}
 use Rattle.fsm_base.specs.declared.letters.Pair.{Pair}
 use Rattle.fsa.specs.declared.automaton.Edge.{Edge}
 use Rattle.fst_compose.specs.declared.operand.Place.{Place}

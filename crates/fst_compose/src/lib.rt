@@ -9,5 +9,7 @@ mod moves;
 mod operand;
 mod pairs;
 mod product;
+#[cfg(test)]
+mod tests;
 
 pub use composition::compose;

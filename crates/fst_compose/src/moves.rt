@@ -42,12 +42,7 @@ pub fn moves(
 }
 
 /// Adds the moves of the first transducer alone.
-fn add_first(
-    moves: &mut Vec<Move>,
-    first: &Operand,
-    p: usize,
-    q: usize,
-) -> Result<(), AllocError>
+fn add_first(moves: &mut Vec<Move>, first: &Operand, p: usize, q: usize) -> Result<(), AllocError>
     ensures { OnOk result (Gains (FirstMoves first.now p q) moves.old.items moves.new.items) }
 {
     let silent = Place {
@@ -66,12 +61,7 @@ fn add_first(
 }
 
 /// Adds the moves of the second transducer alone.
-fn add_second(
-    moves: &mut Vec<Move>,
-    second: &Operand,
-    p: usize,
-    q: usize,
-) -> Result<(), AllocError>
+fn add_second(moves: &mut Vec<Move>, second: &Operand, p: usize, q: usize) -> Result<(), AllocError>
     ensures { OnOk result (Gains (SecondMoves second.now p q) moves.old.items moves.new.items) }
 {
     let silent = Place {
@@ -162,10 +152,7 @@ fn add_matches(
 }
 
 /// The pairs, each with its two sides exchanged.
-fn exchanged(
-    alloc: Global,
-    pairs: &[(Onward, Onward)],
-) -> Result<Vec<(Onward, Onward)>, AllocError>
+fn exchanged(alloc: Global, pairs: &[(Onward, Onward)]) -> Result<Vec<(Onward, Onward)>, AllocError>
     ensures { IfOk result (λ turned. (x y : Onward) → Contains turned.items (x, y) ↔ Contains pairs.now (y, x)) }
 {
     let mut turned = Vec::new(alloc);

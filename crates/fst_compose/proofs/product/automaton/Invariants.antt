@@ -1,6 +1,4 @@
 use Rattle.std.proofs.Common.{◌≡◌, take}
-use Rattle.fst_compose.specs.Gains.{Gains}
-use Rattle.std.specs.List.{Contains}
 use Rattle.fst_compose.proofs.product.automaton.Given as goal
 
 abbrev pub invariant-loop-edge : goal.invariant-loop-edge

@@ -1,4 +1,4 @@
-use Rattle.std.proofs.Common.{◌≡◌, ◌≤◌, Some, length, subst, rules, ap, sym, ◌∙◌}
+use Rattle.std.proofs.Common.{◌≡◌, ◌≤◌, Some, length, subst, rules}
 use Rattle.std.specs.List.{slice_get, Contains}
 use Rattle.fsa.specs.Automaton.{Automaton}
 use Rattle.fsm_base.specs.declared.letters.Pair.{Pair}
