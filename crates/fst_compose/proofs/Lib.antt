@@ -5,3 +5,4 @@ pub mod Searched
 pub mod Producing
 pub mod Related
 pub mod Meets
+pub mod Trimming

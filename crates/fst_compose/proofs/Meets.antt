@@ -6,7 +6,8 @@ use Rattle.std.proofs.lemmas.Option.{slice_get_within}
 use Rattle.fsm_base.specs.declared.letters.Sym.{Sym}
 use Rattle.fsm_base.specs.declared.letters.Pair.{Pair}
 use Rattle.fsm_words.specs.Relations.{AreSame}
-use Rattle.fsa.specs.Automaton.{Automaton}
+use Rattle.fsa.specs.Automaton.{Automaton, UsesLetter}
+use Rattle.fsa.specs.Language.{Accepts}
 use Rattle.fsa.specs.declared.automaton.Edge.{Edge}
 use Rattle.fsa_rational.proofs.Walks.{same_elements}
 use Rattle.fst_relation.specs.Relation.{IsRelated}
@@ -80,3 +81,16 @@ composed r s turned m same meets u w = (
 
 pub composed_lower : (s turned m : Automaton Pair) → ((x : Sym) → UsesUpper turned x → UsesLower s x) → ((x : Sym) → UsesLower m x → UsesUpper turned x) → (x : Sym) → UsesLower m x → UsesLower s x
 composed_lower s turned m f g x uses = f x (g x uses)
+
+-- an automaton of the same language has the same relation, and one with the same letters the same symbols
+pub relation_kept : (met m : Automaton Pair) (R : List Sym → List Sym → Type 0) → AreSame (IsRelated met) R → ((w : List Pair) → Accepts m w ↔ Accepts met w) → AreSame (IsRelated m) R
+relation_kept met m R are same u w = (
+  λ (pairs, path, up, low). (are u w).0 (pairs, (same pairs).0 path, up, low),
+  λ r. let h = (are u w).1 r in (h.0, (same h.0).1 h.1, h.2, h.3),
+)
+
+pub upper_kept : (met m : Automaton Pair) (P : Sym → Type 0) → ((x : Sym) → UsesUpper met x → P x) → ((x : Pair) → UsesLetter m x → UsesLetter met x) → (x : Sym) → UsesUpper m x → P x
+upper_kept met m P are same x (pair, uses, is) = are x (pair, same pair uses, is)
+
+pub lower_kept : (met m : Automaton Pair) (P : Sym → Type 0) → ((x : Sym) → UsesLower met x → P x) → ((x : Pair) → UsesLetter m x → UsesLetter met x) → (x : Sym) → UsesLower m x → P x
+lower_kept met m P are same x (pair, uses, is) = are x (pair, same pair uses, is)

@@ -3,3 +3,4 @@ pub mod Meeting
 pub mod Gains
 pub mod Index
 pub mod Product
+pub mod Trimmed

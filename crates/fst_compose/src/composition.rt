@@ -7,21 +7,23 @@ ghost use Rattle.fst_compose.specs.Composition.{IsComposition, ShareLower};
 
 use crate::operand::Operand;
 use crate::product::{automaton, explore};
+use crate::trim::trim;
 use fsa::Fsa;
 use fsm_base::Pair;
 use fst_algebra::inverse;
 use std::alloc::{AllocError, Global};
 
 /// The transducer that relates u to w where some word is related to both: by `r` below u, by `s` above w. Of the
-/// pairs of states those are built that the pair of the starts leads to, and matching edges are found by their
-/// symbol.
+/// pairs of states those are built that the pair of the starts leads to, matching edges are found by their symbol,
+/// and states from which no final state is reached are left out.
 pub fn compose(alloc: Global, r: &Fsa<Pair>, s: &Fsa<Pair>) -> Result<Fsa<Pair>, AllocError>
     ensures upper { IfOk result (λ m. (x : Sym) → UsesUpper m x → UsesUpper r.now x) }
     ensures lower { IfOk result (λ m. (x : Sym) → UsesLower m x → UsesLower s.now x) }
     ensures relation { IfOk result (λ m. AreSame (IsRelated m) (IsComposition (IsRelated r.now) (IsRelated s.now))) }
 {
     let turned = inverse(alloc, s)?;
-    meet(alloc, r, &turned)
+    let met = meet(alloc, r, &turned)?;
+    trim(alloc, &met)
 }
 
 /// The transducer that relates the upper words of two transducers which have a lower word in common.

@@ -11,5 +11,6 @@ mod pairs;
 mod product;
 #[cfg(test)]
 mod tests;
+mod trim;
 
 pub use composition::compose;

@@ -74,5 +74,6 @@ fn crossed_letters_compose(rt: HostRuntime) -> Result<(), Fail> {
     let other = compose(alloc, &second, &first)?;
     assert!(rt; !relates(alloc, &other, &[a], &[c])?);
     assert!(rt; !relates(alloc, &other, &[b], &[b])?);
+    assert_eq!(rt; (other.states(), other.edges().len()), (1, 0));
     Ok(())
 }
