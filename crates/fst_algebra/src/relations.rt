@@ -1,7 +1,6 @@
-ghost use Rattle.std.specs.Prelude.{◌≡◌, ◌↔◌, Some, None, IfOk, List};
+ghost use Rattle.std.specs.Prelude.{◌↔◌, Some, None, IfOk, List};
 ghost use Rattle.fsm_words.specs.Relations.{AreSame};
 ghost use Rattle.fsm_base.specs.declared.letters.Sym.{Sym};
-ghost use Rattle.fsm_base.specs.declared.letters.Pair.{Pair};
 ghost use Rattle.fsa.specs.Automaton.{UsesLetter};
 ghost use Rattle.fsa.specs.Language.{Accepts};
 ghost use Rattle.fst_relation.specs.Relation.{IsRelated};

@@ -1,5 +1,4 @@
-ghost use Rattle.std.specs.Prelude.{◌≡◌, ◌↔◌, Contains, IfOk, OnOk, Option, List, None, Some};
-ghost use Rattle.fsm_base.specs.declared.letters.Sym.{Sym};
+ghost use Rattle.std.specs.Prelude.{◌≡◌, ◌↔◌, Contains, IfOk, OnOk};
 ghost use Rattle.fst_compose.specs.declared.operand.Onward.{Onward};
 ghost use Rattle.fst_compose.specs.declared.moves.Move.{Move};
 ghost use Rattle.fst_compose.specs.Gains.{Gains, ForSome};

@@ -1,5 +1,5 @@
 ghost use Rattle.std.proofs.Common.{rules};
-ghost use Rattle.std.specs.Prelude.{◌≡◌, ◌↔◌, Contains, IfOk, IsSortedByKey, IsPermutation, List, map, Option};
+ghost use Rattle.std.specs.Prelude.{◌≡◌, ◌↔◌, Contains, IfOk, IsSortedByKey, IsPermutation, List, map};
 ghost use Rattle.fsm_base.specs.declared.letters.Pair.{Pair};
 ghost use Rattle.fsa.specs.declared.automaton.Edge.{Edge};
 ghost use Rattle.fst_compose.specs.Index.{IsRow, row_of};

@@ -1,9 +1,7 @@
-ghost use Rattle.std.specs.Prelude.{◌≡◌, ◌<◌, ◌↔◌, ℕ, List, [], ◌∷◌, Some, true, false, Contains, IfOk, OnOk, IsTrue, length, slice_get};
+ghost use Rattle.std.specs.Prelude.{◌≡◌, ◌<◌, ◌↔◌, ℕ, List, [], ◌∷◌, Some, true, Contains, IfOk, OnOk, IsTrue, length, slice_get};
 ghost use Rattle.fsm_base.specs.declared.letters.Pair.{Pair};
-ghost use Rattle.fsa.specs.Automaton.{IsWellFormed};
 ghost use Rattle.fsa.specs.declared.automaton.Edge.{Edge};
-ghost use Rattle.fst_compose.specs.declared.moves.Move.{Move};
-ghost use Rattle.fst_compose.specs.Meeting.{IsMove, letter_of};
+ghost use Rattle.fst_compose.specs.Meeting.{letter_of};
 ghost use Rattle.fst_compose.specs.Product.{AddsMoves, IsProduct};
 
 use crate::moves::{Move, moves};

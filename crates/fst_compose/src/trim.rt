@@ -1,4 +1,4 @@
-ghost use Rattle.std.specs.Prelude.{◌≡◌, ◌<◌, ◌≤◌, ◌↔◌, ℕ, List, Some, None, true, false, All, Contains, IfOk, OnOk, MatchOption, length, map, slice_get, slice_index_or};
+ghost use Rattle.std.specs.Prelude.{◌≡◌, ◌<◌, ◌≤◌, ◌↔◌, ℕ, List, Some, true, false, All, Contains, IfOk, OnOk, MatchOption, length, map, slice_get, slice_index_or};
 ghost use Rattle.fsm_base.specs.declared.letters.Pair.{Pair};
 ghost use Rattle.fsa.specs.Automaton.{UsesLetter};
 ghost use Rattle.fsa.specs.Language.{Accepts, AcceptsFrom};
