@@ -1,0 +1,2 @@
+pub mod Relabelling
+pub mod Sides

@@ -1,0 +1,12 @@
+use Rattle.std.proofs.lemmas.Result.{IfOk-weaker}
+use Rattle.fst_algebra.proofs.Sides.{inverse_relation, inverse_upper, inverse_lower}
+use Rattle.fst_algebra.proofs.relations.inverse.Goals as goal
+
+pub returns-clause-upper : goal.returns-clause-upper
+returns-clause-upper c = IfOk-weaker _ _ _ (λ m letters. inverse_upper c.args.r.now m letters) c.relabel.ensures.letters
+
+pub returns-clause-lower : goal.returns-clause-lower
+returns-clause-lower c = IfOk-weaker _ _ _ (λ m letters. inverse_lower c.args.r.now m letters) c.relabel.ensures.letters
+
+pub returns-clause-relation : goal.returns-clause-relation
+returns-clause-relation c = IfOk-weaker _ _ _ (λ m same. inverse_relation c.args.r.now m same) c.relabel.ensures.language

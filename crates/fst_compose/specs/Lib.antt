@@ -1,0 +1,6 @@
+pub mod Composition
+pub mod Meeting
+pub mod Gains
+pub mod Index
+pub mod Product
+pub mod Trimmed
