@@ -1,0 +1,3 @@
+pub mod Operations
+pub mod Languages
+pub mod Live
