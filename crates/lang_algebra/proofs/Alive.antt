@@ -5,6 +5,7 @@ use Rattle.std.specs.List.{Contains, slice_get}
 use Rattle.std.specs.List.Sorted.{IsPermutation}
 use Rattle.std.proofs.lemmas.Bool.{cases_lt}
 use Rattle.std.proofs.lemmas.Option.{slice_get_within}
+use Rattle.std.proofs.lemmas.List.Elements.{Contains-append_left}
 use Rattle.fsm_words.proofs.Members.{Contains-nil_cases, Contains-map, Contains-map_cases}
 use Rattle.fsm_words.proofs.Places.{same_at}
 use Rattle.fsa.specs.Automaton.{Automaton, IsFinal, IsWellFormed, UsesLetter}
@@ -19,9 +20,9 @@ use Rattle.fsa_rational.proofs.Walks.{AcceptsFrom-step}
 use Rattle.lang_algebra.specs.Live.{IsLive, IsLivePart, back}
 
 -- the numbers below the bound are those that were found, of the final states before one
-pub record AreFinalsBelow (finals : List Bool) (upto : ℕ) (states : Marks) : Type 0 where
-  pub bound : states.bound ≡ length finals
-  pub states : (k : ℕ) → Contains states.found k ↔ ((k < upto) × (slice_get finals k ≡ Some true))
+pub record AreFinalsBelow (finals : List Bool) (upto : ℕ) (marks : Marks) : Type 0 where
+  pub bound : marks.bound ≡ length finals
+  pub states : (k : ℕ) → Contains marks.found k ↔ ((k < upto) × (slice_get finals k ≡ Some true))
 
 pub finals_none : (finals : List Bool) (states : Marks) → states ≡ record { bound = length finals; found = [] } → AreFinalsBelow finals 0 states
 finals_none finals states is = record {
@@ -41,14 +42,11 @@ finals_more finals i old new is_final before adds = record {
       | inr same ↦ (omega arith, subst (λ j. slice_get finals j ≡ Some true) (sym same) is_final)
     ],
     λ p. elim (cases_lt k i) [
-      | inl l ↦ let r = adds.grows.grown in let held = (before.states k).1 (l, p.1) in kept k held
+      | inl l ↦ let r = adds.grows.grown in subst (λ ks. Contains ks k) (sym r.1) (Contains-append_left old.found r.0 k ((before.states k).1 (l, p.1)))
       | inr g ↦ let l = p.0 in adds.all k (omega arith)
     ],
   );
 }
-  where
-    kept : (k : ℕ) → Contains old.found k → Contains new.found k
-    kept k h = ?
 
 pub finals_past : (finals : List Bool) (i : ℕ) (states : Marks) → slice_get finals i ≡ Some false → AreFinalsBelow finals i states → AreFinalsBelow finals (i + 1) states
 finals_past finals i states other before = record {
@@ -142,3 +140,7 @@ live_part_made a start m states none finals live made = record {
     λ r. made.all e (r.0, (live e.to).1 r.1),
   );
 }
+
+-- the edge is this one, and enters one of the states
+abbrev pub EntersOne : {L : Type 0} → List ℕ → Edge L → Edge L → Type 0
+EntersOne found x e = (e ≡ x) × Contains found x.to

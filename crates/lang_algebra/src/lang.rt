@@ -22,11 +22,13 @@ pub struct Lang<L> {
 }
 
 impl<L> Model for Lang<L> {
-    ghost use Rattle.fsa.specs.Complete.{Complete};
+    ghost use Rattle.fsa.specs.Complete.{Complete, IsComplete};
 
     ghost Value = { Complete L };
 
     ghost view = { λ lang. lang.dfa };
+
+    ghost invariant = { λ lang. IsComplete lang.dfa };
 }
 
 impl<L: Letter> Lang<L> {
@@ -69,7 +71,6 @@ impl<L: Letter> Lang<L> {
         requires { IsOver self.now.letters word.now }
         ensures { IsTrue result ↔ Accepts self.now word.now }
     {
-        let _ = self.dfa.states();
         self.dfa.accepts(word)
     }
 
