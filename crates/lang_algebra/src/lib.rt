@@ -8,5 +8,6 @@
 mod lang;
 mod live;
 mod one_letter;
+mod sources;
 
 pub use lang::Lang;
