@@ -8,7 +8,8 @@ use Rattle.fsa.specs.Automaton.{Automaton}
 use Rattle.fsa.specs.Language as language
 use Rattle.fsa.specs.Complete.{Complete, IsComplete, Accepts}
 use Rattle.fsa_product.proofs.Turned.{accepted_over}
-use Rattle.lang_algebra.specs.Operations.{IsOneLetter, HasPart}
+use Rattle.lang_algebra.specs.Operations.{IsOneLetter, HasPart, IsIgnoring}
+use Rattle.lang_algebra.proofs.Inserting.{IsIgnoring-more}
 use Rattle.lang_algebra.specs.Languages.{IsLang}
 
 -- a word whose letters all pass is one where those of both its parts do
@@ -79,3 +80,12 @@ module _ {L : Type 0} (self : Complete L) (ok : IsComplete self) (letters : List
   contains_made lang is =
       subst (λ xs. IsLang xs (λ w. IsOver xs w × HasPart (Accepts self) w) lang) same
       (IsLang-same letters (language.Accepts whole) (λ w. IsOver letters w × HasPart (Accepts self) w) lang (λ w. (part_down w, part_up w)) is)
+
+pub ignore_made : {L : Type 0} (self other : Complete L) (first second mixed : Automaton L) → ((w : List L) → language.Accepts first w ↔ Accepts self w) → ((w : List L) → language.Accepts second w ↔ Accepts other w) → ((w : List L) → language.Accepts mixed w ↔ IsIgnoring (language.Accepts first) (language.Accepts second) w) → (lang : Complete L) → IsLang self.letters (language.Accepts mixed) lang → IsLang self.letters (IsIgnoring (Accepts self) (Accepts other)) lang
+ignore_made self other first second mixed first_is second_is mixed_is lang is =
+    IsLang-same self.letters (language.Accepts mixed) (IsIgnoring (Accepts self) (Accepts other)) lang
+    (λ w. (
+      λ h. IsIgnoring-more (language.Accepts first) (Accepts self) (language.Accepts second) (Accepts other) (λ v. (first_is v).0) (λ v. (second_is v).0) w ((mixed_is w).0 h),
+      λ h. (mixed_is w).1 (IsIgnoring-more (Accepts self) (language.Accepts first) (Accepts other) (language.Accepts second) (λ v. (first_is v).1) (λ v. (second_is v).1) w h),
+    ))
+    is

@@ -1,8 +1,10 @@
 -- Letters of which it is told where they come from: whether they are a word's own or of a word that was put in
 -- (Kaplan and Kay, Regular Models of Phonological Rule Systems, 1994, section 4, tell them apart by a mark).
-use Rattle.std.specs.Prelude.{List, ◌++◌, Option, Some, None, map}
+use Rattle.std.specs.Prelude.{List, ◌++◌, ◌⊎◌, Option, Some, None, map}
+use Rattle.fsm_words.specs.Words.{Translates}
 use Rattle.lang_algebra.specs.declared.sources.Sourced.{Sourced}
 use Rattle.lang_algebra.specs.declared.sources.Sourced.TheVariants.{Own, Inserted}
+use Rattle.lang_algebra.specs.Operations.{IsOneLetter}
 
 abbrev pub letter_of : {L : Type 0} → Sourced L → L
 letter_of (Own x) = x
@@ -27,3 +29,7 @@ letter_table sources = map (λ s. (s, Some (letter_of s))) sources
 -- the letter as one that was put in
 abbrev pub inserted_table : {L : Type 0} → List L → List (L × Option (Sourced L))
 inserted_table letters = map (λ x. (x, Some (Inserted x))) letters
+
+-- a letter of the word's own, or a word of the set that was put in
+abbrev pub IsBlock : {L : Type 0} → List L → (List L → Type 0) → List (Sourced L) → Type 0
+IsBlock {L} letters P z = IsOneLetter (map Own letters) z ⊎ ((u : List L) × P u × Translates (inserted_table letters) u z)

@@ -6,6 +6,7 @@ ghost use Rattle.fsa.specs.Language as language;
 ghost use Rattle.lang_algebra.specs.Languages.{IsLang};
 ghost use Rattle.lang_algebra.specs.Operations.{IsOneLetter, HasPart, IsIgnoring};
 
+use crate::ignoring::ignoring;
 use crate::live::live_part;
 use crate::one_letter::one_letter;
 use fsa::{Dfa, Fsa};
@@ -161,5 +162,16 @@ impl<L: Letter> Lang<L> {
         let any = fsa_rational::star(alloc, &one_letter(alloc, letters)?)?;
         let behind = fsa_rational::concat(alloc, &self.to_fsa(alloc)?, &any)?;
         Lang::of(alloc, letters, &fsa_rational::concat(alloc, &any, &behind)?)
+    }
+
+    /// The words of this language with words of the other put in: before the first letter, between any two and
+    /// behind the last, any number of words at each place. The languages have the same letters.
+    pub fn ignore(&self, alloc: Global, other: &Lang<L>) -> Result<Lang<L>, AllocError>
+        requires { other.now.letters ≡ self.now.letters }
+        ensures { IfOk result (IsLang self.now.letters (IsIgnoring (Accepts self.now) (Accepts other.now))) }
+    {
+        let letters = self.letters();
+        let mixed = ignoring(alloc, letters, &self.to_fsa(alloc)?, &other.to_fsa(alloc)?)?;
+        Lang::of(alloc, letters, &mixed)
     }
 }

@@ -5,6 +5,7 @@
 //!   result is over the same letters.
 #![tactic(auto)]
 
+mod ignoring;
 mod lang;
 mod live;
 mod one_letter;
