@@ -1,4 +1,4 @@
-use Rattle.std.proofs.Common.{zero, suc, ◌<◌, List, [], ◌∷◌, refl, arith}
+use Rattle.std.proofs.Common.{[], ◌∷◌, refl, arith}
 use Rattle.std.specs.List.{Contains}
 use Rattle.std.proofs.lemmas.List.Elements.{All-nil, All-cons}
 use Rattle.fsm_words.specs.Words.{IsOver}
