@@ -1,9 +1,9 @@
 -- The languages of the automata from which ignoring is built.
-use Rattle.std.proofs.Common.{◌≡◌, ℕ, ◌⊎◌, ◌↔◌, List, [], ◌∷◌, ◌++◌, Option, Some, None, map, refl, subst, sym, ap, inl, inr, ◌∙◌}
+use Rattle.std.proofs.Common.{ℕ, ◌⊎◌, ◌↔◌, List, Some, map, refl, subst, ap, inl, inr}
 use Rattle.std.specs.List.{Contains}
-use Rattle.std.proofs.lemmas.List.Elements.{All-nil, All-cons, Contains-append_left, Contains-append_right, Contains-append_cases}
+use Rattle.std.proofs.lemmas.List.Elements.{All-nil, All-cons, Contains-append_left, Contains-append_cases}
 use Rattle.std.proofs.lemmas.Option.{same_Some}
-use Rattle.fsm_words.specs.Words.{IsOver, IsDistinct, IsRepetition, Translates}
+use Rattle.fsm_words.specs.Words.{IsOver, IsRepetition, Translates}
 use Rattle.fsm_words.proofs.Members.{Contains-map_cases}
 use Rattle.fsm_words.proofs.Laws.{IsRepetition-more}
 use Rattle.fsa.specs.Automaton.{Automaton, UsesLetter}
@@ -14,9 +14,8 @@ use Rattle.lang_algebra.specs.declared.sources.Sourced.{Sourced}
 use Rattle.lang_algebra.specs.declared.sources.Sourced.TheVariants.{Own, Inserted}
 use Rattle.lang_algebra.specs.Languages.{IsLang}
 use Rattle.lang_algebra.specs.Operations.{IsOneLetter, IsIgnoring}
-use Rattle.lang_algebra.specs.Sources.{letter_of, own_of, sources_of, own_table, letter_table, inserted_table, IsBlock}
-use Rattle.lang_algebra.proofs.Made.{IsLang-same}
-use Rattle.lang_algebra.proofs.Inserting.{ignoring_spelled, keys_of_rows, own_there, inserted_there}
+use Rattle.lang_algebra.specs.Sources.{letter_of, sources_of, own_table, letter_table, inserted_table, IsBlock}
+use Rattle.lang_algebra.proofs.Inserting.{ignoring_spelled, keys_of_rows, inserted_there}
 
 -- the words of an automaton are over letters that hold all of it
 pub accepted_over_used : {L : Type 0} (letters : List L) (m : Automaton L) → ((x : L) → UsesLetter m x → Contains letters x) → {s : ℕ} {w : List L} → AcceptsFrom m s w → IsOver letters w

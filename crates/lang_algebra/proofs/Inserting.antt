@@ -1,17 +1,17 @@
 -- Words with words of a set put in, by letters that tell where they come from: those that are the word's own spell
 -- the one word, all of them spell the other, and between the word's own letters stand words of the set.
-use Rattle.std.proofs.Common.{◌≡◌, ℕ, zero, suc, ◌+◌, ◌<◌, ◌⊎◌, ◌↔◌, List, [], ◌∷◌, ◌++◌, All, Option, Some, None, length, map, refl, subst, sym, ap, inl, inr, arith, ◌∙◌, append_assoc}
+use Rattle.std.proofs.Common.{◌≡◌, ℕ, zero, suc, ◌↔◌, List, [], ◌∷◌, ◌++◌, All, Option, Some, None, map, refl, subst, sym, ap, inl, inr, arith, ◌∙◌, append_assoc}
 use Rattle.std.specs.List.{Contains, slice_get}
 use Rattle.std.proofs.lemmas.List.{append-nil}
-use Rattle.std.proofs.lemmas.List.Elements.{All-nil, All-cons, All-head, All-tail, Contains-append_left, Contains-append_right}
+use Rattle.std.proofs.lemmas.List.Elements.{All-head, All-tail, Contains-append_left, Contains-append_right}
 use Rattle.std.proofs.lemmas.Option.{same_Some}
 use Rattle.fsm_words.specs.Words.{IsOver, IsDistinct, joined, IsRepetition, Translates, finish, keep, omit}
-use Rattle.fsm_words.proofs.Members.{Contains-nil_cases, Contains-map, Contains-map_cases}
+use Rattle.fsm_words.proofs.Members.{Contains-map, Contains-map_cases}
 use Rattle.fsm_words.proofs.Places.{slice_get-append_cases}
 use Rattle.fsm_words.proofs.Laws.{IsRepetition-none, IsRepetition-one, IsRepetition-append, IsRepetition-more}
 use Rattle.lang_algebra.specs.declared.sources.Sourced.{Sourced}
 use Rattle.lang_algebra.specs.declared.sources.Sourced.TheVariants.{Own, Inserted}
-use Rattle.lang_algebra.specs.Operations.{IsOneLetter, HasPutIn, IsIgnoring}
+use Rattle.lang_algebra.specs.Operations.{HasPutIn, IsIgnoring}
 use Rattle.lang_algebra.specs.Sources.{letter_of, own_of, sources_of, own_table, letter_table, inserted_table, IsBlock}
 
 -- what stands at a place of a list of images

@@ -2,7 +2,7 @@
 -- 2003, sections 2.3 and 2.4; ignoring also Kaplan and Kay, Regular Models of Phonological Rule Systems, 1994,
 -- section 4).
 use Rattle.std.specs.Prelude.{◌≡◌, List, [], ◌∷◌, ◌++◌, Contains}
-use Rattle.fsm_words.specs.Words.{IsOver, IsRepetition}
+use Rattle.fsm_words.specs.Words.{IsRepetition}
 
 -- one letter
 abbrev pub IsOneLetter : {L : Type 0} → List L → List L → Type 0

@@ -1,4 +1,4 @@
-use Rattle.std.proofs.Common.{◌≡◌, ◌↔◌, List, Option, Some, ap, sym, ◌∙◌}
+use Rattle.std.proofs.Common.{◌↔◌, List, Option, Some, ap, sym, ◌∙◌}
 use Rattle.std.specs.List.{Contains}
 use Rattle.std.proofs.lemmas.Result.{IfOk-weaker}
 use Rattle.fsm_words.specs.Words.{Translates}

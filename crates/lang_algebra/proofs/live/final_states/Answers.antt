@@ -1,4 +1,4 @@
-use Rattle.std.proofs.Common.{◌+◌, false, Some, ap, ◌∙◌}
+use Rattle.std.proofs.Common.{false, Some, ap, ◌∙◌}
 use Rattle.std.proofs.lemmas.Option.{slice_get-get_or}
 use Rattle.lang_algebra.proofs.Alive.{finals_none, finals_more, finals_past, finals_all}
 use Rattle.lang_algebra.proofs.live.final_states.Goals as goal

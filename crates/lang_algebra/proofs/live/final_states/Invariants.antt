@@ -1,4 +1,3 @@
-use Rattle.std.proofs.Common.{◌≡◌, length}
 use Rattle.lang_algebra.proofs.Alive.{AreFinalsBelow}
 use Rattle.lang_algebra.proofs.live.final_states.Given as goal
 

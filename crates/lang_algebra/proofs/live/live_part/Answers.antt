@@ -1,4 +1,4 @@
-use Rattle.std.proofs.Common.{◌≡◌, ◌∙◌, ap, sym, length}
+use Rattle.std.proofs.Common.{◌∙◌, ap}
 use Rattle.lang_algebra.specs.Live.{IsLivePart}
 use Rattle.lang_algebra.proofs.Alive.{live_part_made, part_letters, part_language}
 use Rattle.lang_algebra.proofs.live.live_part.Goals as goal

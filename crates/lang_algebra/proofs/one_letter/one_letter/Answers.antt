@@ -1,4 +1,4 @@
-use Rattle.std.proofs.Common.{◌≡◌, ◌++◌, ◌∷◌, [], set, false, true, ap, Some, ◌∙◌}
+use Rattle.std.proofs.Common.{◌≡◌, Some}
 use Rattle.fsa_rational.proofs.Extended.{comes_more, each_all}
 use Rattle.lang_algebra.proofs.OneLetter.{one_letter_shape, one_letter_letters, one_letter_language}
 use Rattle.lang_algebra.proofs.one_letter.one_letter.Goals as goal

@@ -1,6 +1,5 @@
-use Rattle.std.proofs.Common.{◌≡◌, Some, map, take}
-use Rattle.lang_algebra.specs.declared.sources.Sourced.TheVariants.{Own, Inserted}
-use Rattle.lang_algebra.specs.Sources.{own_table, letter_table, inserted_table}
+use Rattle.std.proofs.Common.{◌≡◌, take}
+use Rattle.lang_algebra.specs.Sources.{letter_table}
 use Rattle.lang_algebra.proofs.sources.letter_rows.Given as goal
 
 abbrev pub invariant-loop-source : goal.invariant-loop-source

@@ -1,4 +1,3 @@
-use Rattle.std.proofs.Common.{◌≡◌, List}
 use Rattle.std.proofs.lemmas.Result.{IfOk-weaker}
 use Rattle.fsa.specs.Language as language
 use Rattle.fsa.specs.Complete.{Accepts}

@@ -1,7 +1,6 @@
-use Rattle.std.proofs.Common.{List}
 use Rattle.std.specs.List.{Contains}
 use Rattle.std.proofs.lemmas.Result.{IfOk-weaker}
-use Rattle.fsa.specs.Automaton.{Automaton, UsesLetter, HasNoSilentEdge}
+use Rattle.fsa.specs.Automaton.{UsesLetter, HasNoSilentEdge}
 use Rattle.lang_algebra.specs.Live.{IsLivePart}
 use Rattle.lang_algebra.proofs.lang.Lang.to_fsa.Goals as goal
 
