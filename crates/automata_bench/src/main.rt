@@ -7,10 +7,12 @@ ghost use Rattle.std.specs.Prelude.{◌≡◌, ◌<◌, ℕ, Contains, IfOk, Som
 ghost use Rattle.fsa.specs.Automaton.{UsesLetter};
 
 use fsa::{Edge, Fsa};
-use fsa_product::both;
+use fsa_product::{both, complement};
 use fsa_rational::{concat, reverse, star, union, without_empty};
 use fsa_subset::determine;
 use fsm_base::Sym;
+use fst_algebra::identity;
+use fst_compose::compose;
 use std::alloc::{AllocError, Global};
 use std::{env, io};
 
@@ -66,6 +68,14 @@ fn states_after(alloc: Global, operation: &str, edges: usize) -> Result<Option<u
         "both" => {
             let d = determine(alloc, &m, &letters)?;
             both(alloc, &d, &d)?.states()
+        }
+        "complement" => {
+            let d = determine(alloc, &m, &letters)?;
+            complement(alloc, &d)?.states()
+        }
+        "compose" => {
+            let relation = identity(alloc, &m)?;
+            compose(alloc, &relation, &relation)?.states()
         }
         _ => return Ok(None),
     };
