@@ -1,5 +1,0 @@
-pub mod Alive
-pub mod OneLetter
-pub mod Inserting
-pub mod Made
-pub mod Ignored

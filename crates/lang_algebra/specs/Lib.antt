@@ -1,4 +1,0 @@
-pub mod Operations
-pub mod Languages
-pub mod Live
-pub mod Sources
