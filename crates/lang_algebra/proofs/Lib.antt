@@ -1,0 +1,5 @@
+pub mod Alive
+pub mod OneLetter
+pub mod Inserting
+pub mod Made
+pub mod Ignored

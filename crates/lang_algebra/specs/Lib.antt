@@ -1,0 +1,4 @@
+pub mod Operations
+pub mod Languages
+pub mod Live
+pub mod Sources

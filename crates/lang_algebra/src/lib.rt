@@ -1,0 +1,14 @@
+//! Languages over a list of letters, and the operations under which they are closed (Beesley and Karttunen, Finite
+//! State Morphology, 2003, sections 2.3 and 2.4).
+//!
+//! - [`Lang`]: a language. Each operation's contract says, for every word, whether the result has it, and that the
+//!   result is over the same letters.
+#![tactic(auto)]
+
+mod ignoring;
+mod lang;
+mod live;
+mod one_letter;
+mod sources;
+
+pub use lang::Lang;
