@@ -2,7 +2,7 @@ ghost use Rattle.std.specs.Prelude.{◌≡◌, [], ◌∷◌, IfOk};
 ghost use Rattle.fsm_base.specs.Alphabet.{symbols_of};
 
 use crate::{
-    Alphabet, Bound, Letter, Pair, Sym, SymbolTable, Text, TokensError, cut_takes_longest,
+    Alphabet, Bound, Letter, Pair, Sym, SymbolTable, Text, TokensError, cut_takes_longest, nfc,
 };
 use std::alloc::{AllocError, Global};
 use std::cmp::Ordering;
@@ -108,5 +108,11 @@ fn a_word_is_joined(rt: HostRuntime) -> Result<(), Fail> {
         "aba"
     );
     cut_takes_longest();
+    Ok(())
+}
+
+#[test]
+fn an_accent_is_composed(rt: HostRuntime) -> Result<(), Fail> {
+    assert_eq!(rt; nfc(rt.alloc(), "e\u{301}")?.as_str(), "\u{e9}");
     Ok(())
 }
