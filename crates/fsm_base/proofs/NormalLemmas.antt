@@ -1,12 +1,11 @@
 -- What is left out of a text by its bytes is left out by its characters.
-use Rattle.std.proofs.Common.{◌≡◌, ◌≢◌, ℕ, ◌+◌, ◌/◌, ◌%◌, ◌<◌, ◌≤◌, zero, suc, Bool, true, false, cond, not, ◌||◌, ◌&&◌, ◌==◌, List, [], ◌∷◌, ◌++◌, length, take, drop, Some, None, Ok, Err, nat_eq, ltb, count_by, refl, sym, ap, subst, ◌∙◌, ◌⊎◌, inl, inr, arith, append-nil, encode_utf8_all}
-use Rattle.std.proofs.lemmas.Bool.{cases_lt}
-use Rattle.std.proofs.lemmas.Bool.Decides.{Decides-eqb, nat_tests}
+use Rattle.std.proofs.Common.{◌≡◌, ◌≢◌, ℕ, ◌+◌, ◌/◌, ◌%◌, ◌<◌, ◌≤◌, zero, suc, Bool, true, false, cond, not, ◌||◌, ◌&&◌, ◌==◌, List, [], ◌∷◌, ◌++◌, length, take, drop, Ok, Err, nat_eq, ltb, count_by, refl, sym, ap, subst, ◌∙◌, ◌⊎◌, inl, inr, arith, append-nil, encode_utf8_all}
+use Rattle.std.proofs.lemmas.Bool.Decides.{nat_tests}
 use Rattle.std.proofs.lemmas.List.{take-append-drop, drop_all}
 use Rattle.std.proofs.Math.Seq.{take-length}
 use Rattle.std.proofs.lemmas.List.Sums.{sum_by-append, take_while-cons}
 use Rattle.std.proofs.lemmas.Str.{chars_from_encodes, encodes-chars, encodes-append, chars_past_char, is_utf8-from_IsUtf8, IsUtf8-from_is_utf8}
-use Rattle.std.specs.List.{before_first, list_any, position_or_len, starts_with}
+use Rattle.std.specs.List.{before_first, list_any, starts_with}
 use Rattle.std.specs.Str.{IsUtf8, NoCharPasses, NonePass, chars, is_utf8}
 use Rattle.std.specs.Str.Pattern.{FindsText}
 use Rattle.std.specs.Str.Replace.{ReplacesMatches}

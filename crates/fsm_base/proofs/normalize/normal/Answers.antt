@@ -1,7 +1,6 @@
-use Rattle.std.proofs.Common.{List, ℕ, ◌≡◌, Result, Ok, Err, IfErr, ap, sym, subst, ◌∙◌, encode_utf8_all}
+use Rattle.std.proofs.Common.{List, ℕ, ◌≡◌, Result, Ok, Err, IfErr, ap, sym, subst, ◌∙◌}
 use Rattle.std.specs.Result.{IsErrAnd}
 use Rattle.std.specs.Str.{chars}
-use Rattle.unicode_normalization.specs.Forms.{nfc}
 use Rattle.fsm_base.specs.Normal.{IsWhyNoText, nfc_of, source_text, without_mark, without_returns}
 use Rattle.fsm_base.specs.declared.normalize.TextError.{TextError}
 use Rattle.fsm_base.proofs.NormalLemmas.{source_text-no_utf8, source_text-utf8, text_of_characters-kept, text_of_characters-refused}

@@ -1,8 +1,6 @@
 use Rattle.std.proofs.Common.{◌≡◌, ℕ, List, rules, tests, refl, ap, take, ◌∙◌}
 use Rattle.std.proofs.lemmas.Fn.{always_returns_same}
 use Rattle.std.proofs.lemmas.Str.{IsUtf8-drop}
-use Rattle.std.specs.List.{list_any}
-use Rattle.std.specs.Str.{chars}
 use Rattle.fsm_base.specs.Normal.{is_refused, line_behind}
 use Rattle.fsm_base.proofs.NormalLemmas.{none_refused, refused_found}
 use Rattle.fsm_base.proofs.normalize.refused_line.Goals as goal

@@ -1,4 +1,4 @@
-use Rattle.std.proofs.Common.{◌≡◌, List, ℕ, Some, None, Option, MatchOption, drop, length, sym, ap, ◌∙◌, unwrap_or}
+use Rattle.std.proofs.Common.{◌≡◌, List, ℕ, Some, None, Option, MatchOption, drop, ap, ◌∙◌, unwrap_or}
 use Rattle.std.specs.Str.{IsUtf8, chars}
 use Rattle.std.specs.Str.Pattern.{FindsCharPrefix, StripsPrefix}
 use denote.Ref.{Bor}
