@@ -10,5 +10,7 @@ mod lang;
 mod live;
 mod one_letter;
 mod sources;
+#[cfg(test)]
+mod tests;
 
 pub use lang::Lang;

@@ -155,6 +155,15 @@ fn answers_come_once_and_sorted(rt: HostRuntime) -> Result<(), Fail> {
 }
 
 #[test]
+fn one_pair(rt: HostRuntime) -> Result<(), Fail> {
+    let alloc = rt.alloc();
+    let rows = [(0, A, B, 1)];
+    assert_eq!(rt; ups(alloc, 1, &rows, &[Sym(1)])?.as_str(), "a|");
+    assert_eq!(rt; downs(alloc, 1, &rows, &[Sym(0)])?.as_str(), "b|");
+    Ok(())
+}
+
+#[test]
 fn a_silent_cycle_is_finite(rt: HostRuntime) -> Result<(), Fail> {
     let alloc = rt.alloc();
     let rows = [(0, NONE, NONE, 1), (1, NONE, NONE, 0), (1, C, C, 2)];
