@@ -19,6 +19,10 @@ special = codes "[](){}|/\\&-~$*+^:;,?_.<>=!#@\"%"
 abbrev pub is_run_byte : ℕ → Bool
 is_run_byte b = not (is_blank b) && not (list_any (λ s. s == b) special)
 
+-- a byte with which neither a run, quotes nor braces begin
+abbrev pub is_sign : ℕ → Bool
+is_sign b = not (b == 34 || (b == 123 || (b == 37 || is_run_byte b)))
+
 -- what `%` escapes: any but tab and newline
 abbrev pub is_escapable : ℕ → Bool
 is_escapable b = not (b == 9 || b == 10)

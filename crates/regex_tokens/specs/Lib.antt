@@ -2,3 +2,4 @@ pub mod Bytes
 pub mod Spelling
 pub mod Cuts
 pub mod Fronts
+pub mod Reading

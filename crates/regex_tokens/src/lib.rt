@@ -5,8 +5,17 @@
 //! - [`after`]: the tokens behind an operator.
 #![tactic(auto)]
 
+mod bytes;
+mod characters;
+mod flag;
 mod front;
+mod gap;
+mod lexer;
+mod operator;
+#[cfg(test)]
+mod tests;
 mod token;
 
 pub use front::after;
+pub use lexer::tokens;
 pub use token::{Ending, Letters, Operator, Place, Run, Token, Tokens};
