@@ -102,7 +102,8 @@ pub fn pieces_len(bytes: &[u8], class: ByteClass) -> usize
 {
     let mut len = 0;
     'pieces: while len < bytes.len() {
-        let piece = piece_len(&bytes[len..], class);
+        let (_, rest) = bytes.split_at(len);
+        let piece = piece_len(rest, class);
         if piece == 0 {
             break;
         }
