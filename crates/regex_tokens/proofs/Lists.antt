@@ -1,5 +1,5 @@
 -- Splitting a list at the first element that doesn't pass.
-use Rattle.std.proofs.Common.{◌≡◌, ℕ, zero, suc, get_or, ◌<◌, ◌≤◌, ◌+◌, Bool, true, false, cond, ◌&&◌, List, [], ◌∷◌, ◌++◌, length, take, drop, All, refl, sym, ap, ◌∙◌, arith}
+use Rattle.std.proofs.Common.{◌≡◌, ℕ, zero, suc, get_or, ◌<◌, ◌≤◌, ◌+◌, Bool, true, false, cond, ◌&&◌, ◌==◌, List, [], ◌∷◌, ◌++◌, length, take, drop, All, refl, sym, ap, ◌∙◌, arith}
 use Rattle.std.specs.List.{list_all, prefix_len}
 use Rattle.std.proofs.lemmas.List.Sums.{AllPass-from_list_all}
 use Rattle.std.proofs.lemmas.Bool.Decides.{nat_tests}
@@ -103,3 +103,9 @@ split_once p xs ys a b all_x all_y stop_a stop_b e = (
   sym (taken-front p xs a all_x stop_a) ∙ ap (taken p) e ∙ taken-front p ys b all_y stop_b,
   sym (left-front p xs a all_x stop_a) ∙ ap (left p) e ∙ left-front p ys b all_y stop_b,
 )
+
+pub some_of : (n : ℕ) → (n == 0) ≡ false → 0 < n
+some_of n e = grind (arith, nat_tests)
+
+pub none_of : (n : ℕ) → (n == 0) ≡ true → n ≡ 0
+none_of n e = grind (arith, nat_tests)

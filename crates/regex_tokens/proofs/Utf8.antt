@@ -1,19 +1,23 @@
 -- Where a text in UTF-8 may be cut, and its characters.
 use Rattle.std.proofs.Common.{◌≡◌, ◌≢◌, ◌≤◌, ◌<◌, ℕ, zero, suc, ◌+◌, ◌/◌, ◌%◌, nat_lt, nat_le, Bool, true, false, cond, not, ◌&&◌, ◌||◌, ◌==◌, List, [], ◌∷◌, ◌++◌, length, take, drop, get_or, refl, sym, ap, subst, ◌∙◌, arith, append_assoc, append-nil, drop-cons, mod-lt}
-use Rattle.std.specs.List.{list_all, list_any, concat}
+use Rattle.std.specs.List.{list_all, list_any, concat, prefix_len}
 use Rattle.std.specs.Char.{encode_utf8}
 use Rattle.std.specs.Str.{IsUtf8, IsCharBoundary}
-use Rattle.std.proofs.lemmas.Str.{IsUtf8-past_char, encode_ascii, IsCharBoundary-at_seam}
+use Rattle.std.proofs.lemmas.Str.{IsUtf8-past_char, encode_ascii, IsCharBoundary-after_ascii}
+use Rattle.std.proofs.lemmas.List.Sums.{prefix_len-le-length}
 use Rattle.std.proofs.lemmas.Bool.Decides.{Decides-eqb, nat_tests}
 use Rattle.regex_tokens.specs.Bytes.{begins, is_blank, special, is_run_byte, is_quoted_byte, is_braced_byte, is_escapable, is_continuing, is_character}
-use Rattle.regex_tokens.specs.Reading.{piece_len, undone_from}
-use Rattle.regex_tokens.proofs.Lists.{and_left, and_right, and_true, false_by, split_once}
+use Rattle.regex_tokens.specs.Reading.{piece_len, IsPiecesLen, undone_from}
+use Rattle.regex_tokens.proofs.Lists.{and_left, and_right, and_true, false_by, split_once, drop-prefix_len, begins-left}
 
 abbrev pub is_ascii : ℕ → Bool
 is_ascii b = nat_lt b 128
 
 ascii : (b : ℕ) → is_ascii b ≡ true → b < 128
 ascii b e = grind (arith, nat_tests)
+
+pub ascii_test : (b : ℕ) → b < 128 → list_all is_ascii (b ∷ []) ≡ true
+ascii_test b h = grind (arith, nat_tests)
 
 -- what is behind ASCII is a text again
 pub past_ascii : (xs ys : List ℕ) → list_all is_ascii xs ≡ true → IsUtf8 (xs ++ ys) → IsUtf8 ys
@@ -60,6 +64,17 @@ stop_here p b bs e = by (p b) refl e
     by : (here : Bool) → p b ≡ here → ◌≡◌ {A = ℕ} (cond here 1 (cond (b == 37 && begins is_escapable bs) 2 0)) 0 → p b ≡ false
     by true is e = absurd (omega arith)
     by false is e = is
+
+pub quoted_boundary : (text : List ℕ) → IsCharBoundary text (prefix_len is_quoted_byte text)
+quoted_boundary text = boundary_by text (prefix_len is_quoted_byte text) (prefix_len-le-length is_quoted_byte text) (λ b bs e. quoted_stops b (sym (ap (begins is_quoted_byte) (sym (drop-prefix_len is_quoted_byte text) ∙ e)) ∙ begins-left is_quoted_byte text))
+
+pub pieces_boundary : (p : ℕ → Bool) → ((b : ℕ) → p b ≡ false → b < 128) → (text : List ℕ) (n : ℕ) → IsPiecesLen p text n → IsCharBoundary text n
+pieces_boundary p stops text n h = boundary_by text n h.within (λ b bs e. stops b (stop_here p b bs (sym (ap (piece_len p) e) ∙ h.stops)))
+
+-- a text that begins with ASCII may be cut behind it
+pub first_boundary : (b : ℕ) (text : List ℕ) → b < 128 → begins (λ c. c == b) text ≡ true → IsUtf8 text → IsCharBoundary text 1
+first_boundary b [] small first utf8 = absurd cc
+first_boundary b (c ∷ cs) small first utf8 = let same : c ≡ b = (Decides-eqb c b).0 first in IsCharBoundary-after_ascii (c ∷ cs) 0 utf8 (omega arith) (omega (arith, same))
 
 -- Characters.
 

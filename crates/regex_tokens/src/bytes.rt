@@ -1,5 +1,5 @@
 ghost use Rattle.std.specs.Prelude.{◌≡◌, ◌==◌};
-ghost use Rattle.std.specs.List.{prefix_len};
+ghost use Rattle.std.specs.List.{list_any, prefix_len};
 ghost use Rattle.regex_tokens.specs.Bytes.{begins, begins_comment, is_blank, is_escapable, is_run_byte};
 ghost use Rattle.regex_tokens.specs.Cuts.{newlines};
 ghost use Rattle.regex_tokens.specs.Reading.{IsPiecesLen, is_of, piece_len, taken, left};
@@ -121,6 +121,13 @@ fn piece_len(bytes: &[u8], class: ByteClass) -> usize
         [b'%', second, ..] if is_escapable(*second) => 2,
         _ => 0,
     }
+}
+
+/// Whether there is a `%`.
+pub fn has_escape(bytes: &[u8]) -> bool
+    ensures { result ≡ list_any (λ b. b == 37) bytes.now }
+{
+    bytes.iter().any(|byte| *byte == b'%')
 }
 
 /// How many newlines there are.

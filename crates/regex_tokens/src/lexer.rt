@@ -3,7 +3,7 @@ ghost use Rattle.regex_tokens.specs.Bytes.{begins, is_run_byte};
 ghost use Rattle.regex_tokens.specs.Cuts.{Cuts, newlines};
 ghost use Rattle.regex_tokens.specs.Reading.{IsRead, IsTaken, is_refused};
 
-use crate::bytes::{ByteClass, begins_with, front_len, is_run_byte, newlines, pieces_len};
+use crate::bytes::{ByteClass, begins_with, front_len, has_escape, is_run_byte, newlines, pieces_len};
 use crate::characters::{letters, undone};
 use crate::flag::is_flag;
 use crate::gap::split_gap;
@@ -144,7 +144,7 @@ fn run(alloc: Global, text: &str) -> Result<Option<(Token, usize)>, AllocError>
     }
     let run = Run {
         text: Text::from(undone(alloc, front)?),
-        escaped: front.as_bytes().contains(&b'%'),
+        escaped: has_escape(front.as_bytes()),
     };
     Ok(Some((Token::Run(run), front.len())))
 }
