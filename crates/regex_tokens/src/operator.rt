@@ -1,4 +1,4 @@
-ghost use Rattle.std.specs.Prelude.{◌≡◌};
+ghost use Rattle.std.specs.Prelude.{◌≡◌, true};
 ghost use Rattle.regex_tokens.specs.Bytes.{begins, is_sign};
 ghost use Rattle.regex_tokens.specs.Reading.{IsRead, closes, first_of, longest_first, spaced_at, spaced_by};
 
@@ -62,9 +62,16 @@ pub fn operator(text: &str) -> Option<(Token, usize)>
 fn operator_at(text: &[u8]) -> Option<Operator>
     ensures { result ≡ first_of longest_first text.now }
 {
-    for operator in LONGEST_FIRST {
+    first_of(&LONGEST_FIRST, text)
+}
+
+/// The first of these operators that the text begins with.
+fn first_of(operators: &[Operator], text: &[u8]) -> Option<Operator>
+    ensures { result ≡ first_of operators.now text.now }
+{
+    for operator in operators {
         if text.starts_with(operator.spelling().as_bytes()) {
-            return Some(operator);
+            return Some(*operator);
         }
     }
     None

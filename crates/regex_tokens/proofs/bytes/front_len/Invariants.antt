@@ -1,5 +1,5 @@
 use Rattle.std.proofs.Common.{◌≡◌, ℕ, ◌<◌, ◌≤◌, ◌-◌, true, length, slice_index}
-use Rattle.regex_tokens.specs.Bytes.{is_of}
+use Rattle.regex_tokens.specs.Reading.{is_of}
 use Rattle.regex_tokens.proofs.bytes.front_len.Given as goal
 
 abbrev pub invariant-front : goal.invariant-front
