@@ -88,7 +88,7 @@ flag_behind a k dot rest feature (c ∷ after) ea ed er hf e = or_cases _ _ e
     (λ kind. inl (valued k feature (taken is_feature_byte after) kind hf hv spelled))
     (λ negative. inr (record { feature = feature; value = taken is_feature_byte after; feature_is = hf; value_is = hv; spelled = spelled ∙ ap (λ n. 64 ∷ n ∷ 46 ∷ feature ++ 46 ∷ taken is_feature_byte after ++ 64 ∷ []) negative })))
 
-flag_takes : (text : List ℕ) → is_flag text ≡ true → IsFlag text ⊎ IsNegativeFlag text
+pub flag_takes : (text : List ℕ) → is_flag text ≡ true → IsFlag text ⊎ IsNegativeFlag text
 flag_takes [] e = absurd cc
 flag_takes (a ∷ []) e = absurd cc
 flag_takes (a ∷ k ∷ []) e = absurd cc

@@ -1,6 +1,5 @@
 -- The longest operator at the front of a text.
-use Rattle.std.proofs.Common.{◌≡◌, ◌≢◌, ◌≤◌, ◌<◌, ℕ, zero, suc, ◌+◌, Bool, true, false, cond, not, ◌&&◌, ◌||◌, ◌==◌, nat_eq, nat_le, List, [], ◌∷◌, ◌++◌, length, take, drop, Option, Some, None, refl, sym, ap, subst, ◌∙◌, inl, inr, arith, append_assoc, append-nil, length-append, get_or, drop-cons}
-use Rattle.std.proofs.Math.ListN.{drop_of_length-le}
+use Rattle.std.proofs.Common.{◌≡◌, ◌≢◌, ◌≤◌, ◌<◌, ℕ, zero, suc, ◌+◌, Bool, true, false, cond, not, ◌&&◌, ◌||◌, ◌==◌, nat_eq, nat_le, List, [], ◌∷◌, ◌++◌, length, take, drop, Option, Some, None, refl, sym, ap, subst, ◌∙◌, inl, inr, arith, append_assoc, append-nil, length-append}
 use Rattle.std.specs.List.{list_all, starts_with}
 use Rattle.std.specs.Str.{IsUtf8, bytes_eq}
 use Rattle.std.specs.Bool.{Decides}
@@ -118,7 +117,7 @@ first_begins (q ∷ os) text o e = by (starts_with nat_eq text (spelling q)) ref
 pub operator_found : (text rest : List ℕ) (o : Operator) → text ≡ spelling o ++ rest → Found longest_first text (spelling o)
 operator_found text rest o e = found longest_first text (spelling o) refl (listed o) (again text (spelling o) rest e)
 
-short : (o : Operator) → length (spelling o) ≤ 4
+pub short : (o : Operator) → length (spelling o) ≤ 4
 short o = listed_within (spelling o) 4 longest_first (listed o) refl
 
 -- Insertions with blanks.
@@ -297,11 +296,3 @@ operator_none text first none e token front rest spelled h = among_signs text (�
         let clash : None ≡ Some there.operator = e ∙ there.is in
         cc
     by q longer behind spelled (inr h) = let clash : None ≡ Some (length longer) = none ∙ spaced_again text longer behind (spaced_any q longer h) spelled in cc
-
--- The loop over the table.
-
-pub first_step : (os : List Operator) (text : List ℕ) (k : ℕ) (o : Operator) (b : Bool) → k < length os → o ≡ get_or os k o → b ≡ starts_with nat_eq text (spelling o) → first_of (drop k os) text ≡ cond b (Some o) (first_of (drop (suc k) os) text)
-first_step os text k o b less e is = ap (λ qs. first_of qs text) (drop-cons os k o less) ∙ ap (λ q. cond (starts_with nat_eq text (spelling q)) (Some q) (first_of (drop (suc k) os) text)) (sym e) ∙ sym (ap (λ x. cond x (Some o) (first_of (drop (suc k) os) text)) is)
-
-pub first_end : (os : List Operator) (text : List ℕ) (k : ℕ) → length os ≤ k → first_of (drop k os) text ≡ None
-first_end os text k past = ap (λ qs. first_of qs text) (drop_of_length-le os past)

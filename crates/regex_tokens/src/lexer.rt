@@ -78,10 +78,13 @@ fn line_behind(line: u32, text: &[u8]) -> u32
 fn first(alloc: Global, text: &str) -> Result<Option<(Token, usize)>, AllocError>
     ensures { IfOk result (IsTaken text.now) }
 {
-    match longest(alloc, text)? {
-        Some((token, len)) if !is_refused(&token) => Ok(Some((token, len))),
-        _ => Ok(None),
+    let Some((token, len)) = longest(alloc, text)? else {
+        return Ok(None);
+    };
+    if is_refused(&token) {
+        return Ok(None);
     }
+    Ok(Some((token, len)))
 }
 
 /// Whether it is a quoted text or run that is a flag.
