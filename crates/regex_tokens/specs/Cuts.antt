@@ -64,3 +64,10 @@ Cuts line text (token ∷ tokens) (place ∷ places) ending =
     × Cuts (place.line + newlines front) rest tokens places ending
 Cuts line text [] (place ∷ places) ending = ⊥
 Cuts line text (token ∷ tokens) [] ending = ⊥
+
+-- a text is cut in one way
+abbrev pub HasOneCut : Type 0
+HasOneCut =
+    (line : ℕ) (text : List ℕ) (tokens others : List Token) (places them : List Place) (ending other : Ending)
+    → Cuts line text tokens places ending → Cuts line text others them other
+    → (tokens ≡ others) × (places ≡ them) × (ending ≡ other)

@@ -3,6 +3,7 @@
 //! - [`tokens`]: the tokens of a text, with their places.
 //! - [`Token`]: an [`Operator`], a quoted text, [`Letters`] in braces or a [`Run`].
 //! - [`after`]: the tokens behind an operator.
+//! - [`one_cut`]: the law that a text is cut in one way, as a contract.
 #![tactic(auto)]
 
 mod bytes;
@@ -10,6 +11,7 @@ mod characters;
 mod flag;
 mod front;
 mod gap;
+mod laws;
 mod lexer;
 mod operator;
 #[cfg(test)]
@@ -17,5 +19,6 @@ mod tests;
 mod token;
 
 pub use front::after;
+pub use laws::one_cut;
 pub use lexer::tokens;
 pub use token::{Ending, Letters, Operator, Place, Run, Token, Tokens};
