@@ -14,10 +14,11 @@
 --   10  `.x.` `.o.`
 --
 -- Operators of one level in a row are one node, and a row of one operand is its operand.
-use Rattle.std.specs.Prelude.{ℕ, zero, suc, Bool, true, false, IsTrue, List, [], ◌∷◌, length, map, codes, ⊤, Option, None, Some, if◌then◌else◌, min, ◌+◌, ◌-◌, ◌*◌, ◌&&◌, ◌==◌, not, nat_lt}
+use Rattle.std.specs.Prelude.{◌≡◌, ℕ, zero, suc, Bool, true, false, IsTrue, List, [], ◌∷◌, length, map, codes, ⊤, Option, None, Some, if◌then◌else◌, min, ◌+◌, ◌-◌, ◌*◌, ◌&&◌, ◌==◌, not, nat_lt}
 use Rattle.std.specs.List.{list_all}
+use Rattle.std.specs.Option.{option_map}
 use Rattle.std.specs.Str.{bytes_eq}
-use Rattle.regex_ast.specs.Terms.{Term, Terms, Links, Contexts, Steps, Mappings, Groups, empty, any, edge, atom, letters, group, maybe, not_one, cross, suffixed, prefixed, ignore, concat, chain, only, rules, steps, terms_of, no_link, or, and, less, no_context, between, no_step, cross_with, then, no_mapping, plain, markup, insert, no_group, then_group}
+use Rattle.regex_ast.specs.Terms.{Term, Terms, Links, Contexts, Steps, Mappings, Groups, empty, any, edge, atom, letters, group, maybe, not_one, cross, suffixed, prefixed, ignore, concat, chain, only, rules, steps, terms_of, no_link, or, and, less, no_context, between, no_step, cross_with, then as compose, no_mapping, plain, markup, insert, no_group, then_group}
 use Rattle.regex_ast.specs.declared.expr.Raw.{Raw}
 use Rattle.regex_ast.specs.declared.expr.Raw.TheVariants.{Run as run_symbol, Quoted as quoted_symbol}
 use Rattle.regex_ast.specs.declared.expr.Suffix.{Suffix}
@@ -508,7 +509,7 @@ step_value says (composing n) = composing (says n)
 abbrev pub steps_by : {A : Type 0} → List (StepForm (Term A)) → Steps A
 steps_by [] = no_step
 steps_by (crossing t ∷ more) = cross_with t (steps_by more)
-steps_by (composing t ∷ more) = then t (steps_by more)
+steps_by (composing t ∷ more) = compose t (steps_by more)
 
 abbrev pub with_steps : Term Raw → List (StepForm (Term Raw)) → Term Raw
 with_steps t [] = t

@@ -1,6 +1,6 @@
 -- Reading as a function on tokens, step by step, which a parser computes. Its answers are proved to be those of the
 -- grammar (proofs/Levels.antt).
-use Rattle.std.specs.Prelude.{ℕ, zero, suc, Bool, true, false, List, [], ◌∷◌, ◌==◌, ◌||◌, ◌&&◌, not, ⊤, tt, Option, None, Some, if◌then◌else◌}
+use Rattle.std.specs.Prelude.{ℕ, zero, suc, Bool, true, false, List, [], ◌∷◌, ◌==◌, ◌||◌, ◌&&◌, not, ⊤, Option, None, Some, if◌then◌else◌}
 use Rattle.std.specs.Option.{option_map, option_and_then}
 use Rattle.regex_ast.specs.Terms.{Term, empty, any, edge, group, maybe}
 use Rattle.regex_ast.specs.declared.expr.Raw.{Raw}
