@@ -1,3 +1,4 @@
 pub mod Cases
 pub mod Exact
 pub mod Loops
+pub mod Operators
