@@ -2,3 +2,5 @@ pub mod Cases
 pub mod Exact
 pub mod Loops
 pub mod Operators
+pub mod Levels1to4
+pub mod Levels5to8

@@ -23,7 +23,7 @@ above l m n h e = grind (arith, nat_tests)
 other : (l n : ℕ) → nat_le l n ≡ false → (l == n) ≡ false
 other l n e = grind (arith, nat_tests)
 
-tighter : (l m n : ℕ) → m < n → (l == n) ≡ true → nat_le l m ≡ false
+pub tighter : (l m n : ℕ) → m < n → (l == n) ≡ true → nat_le l m ≡ false
 tighter l m n h e = grind (arith, nat_tests)
 
 below : (l m n : ℕ) → m < n → nat_le l n ≡ false → (l == m) ≡ false
