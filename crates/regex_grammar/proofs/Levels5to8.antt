@@ -1,5 +1,5 @@
 -- Prefixes, `/`, concatenation and `|`, `&`, `-` are read exactly.
-use Rattle.std.proofs.Common.{◌≡◌, ◌&&◌, not, Bool, true, false, Option, Some, None, List, [], ◌∷◌, refl, arith}
+use Rattle.std.proofs.Common.{◌≡◌, ◌&&◌, not, Bool, true, false, Option, Some, None, List, [], ◌∷◌, refl, ap, arith}
 use Rattle.std.specs.Option.{option_map, option_and_then}
 use Rattle.regex_ast.specs.Terms.{Term}
 use Rattle.regex_ast.specs.declared.expr.Raw.{Raw}
@@ -12,6 +12,7 @@ use Rattle.regex_tokens.specs.declared.token.Token.TheVariants.{Operator as oper
 use Rattle.regex_grammar.specs.Rows.{Reader}
 use Rattle.regex_grammar.specs.Grammar.{Linked, or_else, and_also, but_not, put_prefix, put_prefixed, put_ignored, put_concat, put_linked, put_chain, with_prefixes, prefixed_term, ignoring, ignored_term, side_by_side, concat_term, linked_value, with_links, chain_term}
 use Rattle.regex_grammar.specs.Reading.{level, is_level, is_prefix, one_of, prefix_of, prefixed_at, ignored_at, concat_at, linked_of, link_at, chain_at}
+use Rattle.regex_grammar.proofs.Cases.{same_some}
 use Rattle.regex_grammar.proofs.Exact.{Exact, Lead, row_exact, led_exact, mapped_exact}
 use Rattle.regex_grammar.proofs.Operators.{goes_on, tighter, follow, Marks, marks_exact, Forms, forms_exact, behind_exact}
 use Rattle.regex_grammar.proofs.Levels1to4.{begins_negated, Inside, level_seven, suffixed_exact}
@@ -73,9 +74,9 @@ linked_forms : {C T : Type 0} (put : C → List Token → List Token) (says : C 
 linked_forms {C} {T} put says = record { known = known; spelled = spelled }
   where
     known : (o : Operator) (make : T → Linked T) → linked_of o ≡ Some make → (c : C) → (l : Linked C) × ((rest : List Token) → put_linked put l rest ≡ operator o ∷ put c rest) × (linked_value says l ≡ make (says c))
-    known Bar make e c = (or_else c, (λ rest. refl), cc)
-    known Ampersand make e c = (and_also c, (λ rest. refl), cc)
-    known Minus make e c = (but_not c, (λ rest. refl), cc)
+    known Bar make e c = (or_else c, (λ rest. refl), ap (λ (f : T → Linked T). f (says c)) (same_some or_else make e))
+    known Ampersand make e c = (and_also c, (λ rest. refl), ap (λ (f : T → Linked T). f (says c)) (same_some and_also make e))
+    known Minus make e c = (but_not c, (λ rest. refl), ap (λ (f : T → Linked T). f (says c)) (same_some but_not make e))
     known _ make e c = absurd cc
 
     spelled : (l : Linked C) → (o : Operator) × (make : T → Linked T) × (c : C) × (linked_of o ≡ Some make) × ((rest : List Token) → put_linked put l rest ≡ operator o ∷ put c rest) × (linked_value says l ≡ make (says c)) × (is_level 8 (operator o) ≡ true)
