@@ -4,3 +4,4 @@ pub mod Loops
 pub mod Operators
 pub mod Levels1to4
 pub mod Levels5to8
+pub mod Level9
