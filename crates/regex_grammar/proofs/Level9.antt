@@ -11,8 +11,8 @@ use Rattle.regex_tokens.specs.declared.token.Operator.TheVariants.{Optional, Arr
 use Rattle.regex_tokens.specs.declared.token.Token.{Token}
 use Rattle.regex_tokens.specs.declared.token.Token.TheVariants.{Operator as operator}
 use Rattle.regex_tokens.proofs.Fronts.{after_takes, after_again}
-use Rattle.regex_grammar.specs.Rows.{Reader, Tailed, put_option, put_tailed, tailed_value, begins, option_at, tailed_at}
-use Rattle.regex_grammar.specs.Grammar.{ContextForm, ContextRow, Sided, RightSide, result, marks, MappingForm, GroupTail, GroupForm, Ruling, restricted, replaced, Nine, ruled, inserted, put_context, put_contexts, side_operator, put_sided, put_right, arrow_operator, put_mapping, put_group_tail, put_group, put_ruling, put_nine, part, ContextTerm, context_value, in_a_row, contexts_value, SidedTerm, sided_value, RightTerm, result_term, marks_term, right_value, mapping_by, mapping_value, right_and_more, group_tail_by, group_tail_value, group_by, group_value, RulingTerm, restriction, replacement_by, ruling_value, with_ruling, insertion_by, nine_term}
+use Rattle.regex_grammar.specs.Rows.{Reader, Tailed, put_option, put_row, put_tailed, row_value, tailed_value, begins, option_at, tailed_at}
+use Rattle.regex_grammar.specs.Grammar.{ContextForm, ContextRow, Sided, RightSide, result, marks, MappingForm, GroupTail, GroupForm, Ruling, restricted, replaced, Nine, ruled, inserted, put_context, put_contexts, side_operator, put_sided, put_right, arrow_operator, put_mapping, put_group_tail, put_group, put_ruling, put_nine, part, ContextTerm, context_value, in_a_row, contexts_value, SidedTerm, sided_value, RightTerm, result_term, marks_term, right_value, mapping_by, mapping_value, right_and_more, group_tail_by, group_tail_value, group_by, group_value, RulingTerm, restriction, replacement_by, ruling_value, with_ruling, insertion_by, nine_term, put_behind}
 use Rattle.regex_grammar.specs.Reading.{level, is_level, is_insertion, one_of, context_behind, context_at, contexts_at, side_of, sided_at, dots_at, right_by, right_from, right_at, mapping_at, group_tail_at, group_at, replacement_at, ruling_at, arrow_of, insertion_at, nine_by, nine_at}
 use Rattle.regex_grammar.proofs.Cases.{map_some, then_some, same_some, either_way}
 use Rattle.regex_grammar.proofs.Exact.{Exact, Held, front_fails, front_passes, option_takes, option_again, option_grows, option_begun, row_exact, tailed_exact, mapped_exact}
@@ -194,3 +194,103 @@ group_joins arrow put says = record {
 
 pub group_exact : {C : Type 0} {read : Reader Token (Term Raw)} {put : C → List Token → List Token} {says : C → Term Raw} (arrow : Bool) → IsEight read put says → Exact (group_at arrow read) (put_group arrow put) (group_value says) (is_level 7) (goes_on 12)
 group_exact {put = put} {says = says} arrow h = joins_exact (arrow_ends arrow) h (group_tail_exact arrow h) (group_joins arrow put says)
+
+pub replacement_exact : {C : Type 0} {read : Reader Token (Term Raw)} {put : C → List Token → List Token} {says : C → Term Raw} (arrow : Bool) → IsEight read put says
+    → Exact (replacement_at arrow read) (put_row (put_group_tail arrow put) (put_behind GroupComma (put_group arrow put))) (row_value (replacement_by arrow) (group_tail_value says) (group_value says)) begins_right (goes_on 13)
+replacement_exact arrow h = row_exact (replacement_by arrow) (group_tail_exact arrow h) (behind_exact GroupComma (is_level 13) (λ g. g) refl (group_exact arrow h)) (follow 12 12 13 (omega arith) (omega arith))
+
+-- What stands behind a level 8.
+
+restricted_found : {C : Type 0} (put : C → List Token → List Token) (says : C → Term Raw) (rest : List Token) (z : RulingTerm Raw × List Token) → (x : ContextRow C) × (rest ≡ put_contexts put x z.1) × (restriction (contexts_value says x) ≡ z.0) → Found (put_ruling put) (ruling_value says) (operator Only ∷ rest) z
+restricted_found put says rest z (x, spelled, value) = (restricted x, ap (λ us. operator Only ∷ us) spelled, value)
+
+replaced_found : {C : Type 0} (put : C → List Token → List Token) (says : C → Term Raw) (arrow : Bool) (rest : List Token) (z : RulingTerm Raw × List Token)
+    → Found (put_row (put_group_tail arrow put) (put_behind GroupComma (put_group arrow put))) (row_value (replacement_by arrow) (group_tail_value says) (group_value says)) rest z → Found (put_ruling put) (ruling_value says) (operator (arrow_operator arrow) ∷ rest) z
+replaced_found put says arrow rest z (x, spelled, value) = (replaced arrow x, ap (λ us. operator (arrow_operator arrow) ∷ us) spelled, value)
+
+ruling_takes : {C : Type 0} {read : Reader Token (Term Raw)} {put : C → List Token → List Token} {says : C → Term Raw} → IsEight read put says → (tokens : List Token) (z : RulingTerm Raw × List Token) → ruling_at read tokens ≡ Some z → Found (put_ruling put) (ruling_value says) tokens z
+ruling_takes h [] z e = absurd cc
+ruling_takes {put = put} {says = says} h (operator Only ∷ rest) z e = restricted_found put says rest z ((mapped_exact restriction (contexts_exact h)).takes rest z e)
+ruling_takes {put = put} {says = says} h (operator Optional ∷ rest) z e = replaced_found put says true rest z ((replacement_exact true h).takes rest z e)
+ruling_takes {put = put} {says = says} h (operator Arrow ∷ rest) z e = replaced_found put says false rest z ((replacement_exact false h).takes rest z e)
+ruling_takes h (_ ∷ rest) z e = absurd cc
+
+ruling_again : {C : Type 0} {read : Reader Token (Term Raw)} {put : C → List Token → List Token} {says : C → Term Raw} → IsEight read put says → (r : Ruling C) (rest : List Token) → begins (goes_on 13) rest ≡ false → ruling_at read (put_ruling put r rest) ≡ Some (ruling_value says r, rest)
+ruling_again h (restricted x) rest stop = (mapped_exact restriction (contexts_exact h)).again x rest (front_fails (goes_on 13) (goes_on 11) (ends_smaller 11 13 (omega arith)) rest stop)
+ruling_again h (replaced true x) rest stop = (replacement_exact true h).again x rest stop
+ruling_again h (replaced false x) rest stop = (replacement_exact false h).again x rest stop
+
+ruling_begun : {C : Type 0} (put : C → List Token → List Token) (r : Ruling C) (rest : List Token) → begins (is_level 14) (put_ruling put r rest) ≡ true
+ruling_begun put (restricted x) rest = refl
+ruling_begun put (replaced true x) rest = refl
+ruling_begun put (replaced false x) rest = refl
+
+ruling_grows : {C : Type 0} {read : Reader Token (Term Raw)} {put : C → List Token → List Token} {says : C → Term Raw} → IsEight read put says → (r : Ruling C) (rest : List Token) → length rest < length (put_ruling put r rest)
+ruling_grows h (restricted x) rest = let item = (contexts_exact h).grows x rest in omega (arith, item)
+ruling_grows h (replaced arrow x) rest = let item = (replacement_exact arrow h).grows x rest in omega (arith, item)
+
+pub ruling_exact : {C : Type 0} {read : Reader Token (Term Raw)} {put : C → List Token → List Token} {says : C → Term Raw} → IsEight read put says → Exact (ruling_at read) (put_ruling put) (ruling_value says) (is_level 14) (goes_on 13)
+ruling_exact {put = put} h = record { takes = ruling_takes h; again = ruling_again h; begun = ruling_begun put; grows = ruling_grows h }
+
+-- Insertions: what stands behind `[..]`, by its arrow.
+
+abbrev pub put_insertion : {C : Type 0} → (C → List Token → List Token) → Bool × Tailed C (Sided C) → List Token → List Token
+put_insertion put x rest = operator (arrow_operator x.0) ∷ put_tailed put (put_sided put) x.1 rest
+
+abbrev pub insertion_term : {C : Type 0} → (C → Term Raw) → Bool × Tailed C (Sided C) → Term Raw
+insertion_term says x = tailed_value (insertion_by x.0) says (sided_value says) x.1
+
+insertion_forms : {C : Type 0} (put : C → List Token → List Token) (says : C → Term Raw) → Forms arrow_of (put_tailed put (put_sided put)) (λ arrow. λ x. tailed_value (insertion_by arrow) says (sided_value says) x) (put_insertion put) (insertion_term says) (is_level 14)
+insertion_forms {C} put says = record { known = known; spelled = spelled }
+  where
+    known : (o : Operator) (arrow : Bool) → arrow_of o ≡ Some arrow → (x : Tailed C (Sided C)) → (f : Bool × Tailed C (Sided C)) × ((rest : List Token) → put_insertion put f rest ≡ operator o ∷ put_tailed put (put_sided put) x rest) × (insertion_term says f ≡ tailed_value (insertion_by arrow) says (sided_value says) x)
+    known Optional arrow e x = ((true, x), (λ rest. refl), ap (λ a. tailed_value (insertion_by a) says (sided_value says) x) (same_some true arrow e))
+    known Arrow arrow e x = ((false, x), (λ rest. refl), ap (λ a. tailed_value (insertion_by a) says (sided_value says) x) (same_some false arrow e))
+    known _ arrow e x = absurd cc
+
+    spelled : (f : Bool × Tailed C (Sided C)) → (o : Operator) × (arrow : Bool) × (x : Tailed C (Sided C)) × (arrow_of o ≡ Some arrow) × ((rest : List Token) → put_insertion put f rest ≡ operator o ∷ put_tailed put (put_sided put) x rest) × (insertion_term says f ≡ tailed_value (insertion_by arrow) says (sided_value says) x) × (is_level 14 (operator o) ≡ true)
+    spelled (true, x) = (Optional, true, x, refl, (λ rest. refl), refl, refl)
+    spelled (false, x) = (Arrow, false, x, refl, (λ rest. refl), refl, refl)
+
+pub insertion_exact : {C : Type 0} {read : Reader Token (Term Raw)} {put : C → List Token → List Token} {says : C → Term Raw} → IsEight read put says → Exact (insertion_at read) (put_insertion put) (insertion_term says) (is_level 14) (goes_on 12)
+insertion_exact {put = put} {says = says} h = forms_exact (insertion_forms put says) (λ arrow. tailed_exact (insertion_by arrow) h (sided_exact h) (follow 8 11 12 (omega arith) (omega arith)))
+
+-- Level 9.
+
+-- a level 8, and what may stand behind it
+abbrev pub ruled_at : Reader Token (Term Raw) → Reader Token (Term Raw)
+ruled_at read tokens = tailed_at (is_level 14) with_ruling read (ruling_at read) tokens
+
+pub ruled_exact : {C : Type 0} {read : Reader Token (Term Raw)} {put : C → List Token → List Token} {says : C → Term Raw} → IsEight read put says → Exact (ruled_at read) (put_tailed put (put_ruling put)) (tailed_value with_ruling says (ruling_value says)) (is_level 7) (goes_on 14)
+ruled_exact h = tailed_exact with_ruling h (ruling_exact h) (follow 8 13 14 (omega arith) (omega arith))
+
+ruled_found : {C : Type 0} (put : C → List Token → List Token) (says : C → Term Raw) (tokens : List Token) (z : Term Raw × List Token) → Found (put_tailed put (put_ruling put)) (tailed_value with_ruling says (ruling_value says)) tokens z → Found (put_nine put) (nine_term says) tokens z
+ruled_found put says tokens z (x, spelled, value) = (ruled x, spelled, value)
+
+inserted_found : {C : Type 0} (put : C → List Token → List Token) (says : C → Term Raw) (tokens rest : List Token) (z : Term Raw × List Token) → tokens ≡ operator Insertion ∷ rest → Found (put_insertion put) (insertion_term says) rest z → Found (put_nine put) (nine_term says) tokens z
+inserted_found put says tokens rest z first (x, spelled, value) = (inserted x.0 x.1, first ∙ ap (λ us. operator Insertion ∷ us) spelled, value)
+
+nine_takes : {C : Type 0} {read : Reader Token (Term Raw)} {put : C → List Token → List Token} {says : C → Term Raw} → IsEight read put says → (tokens : List Token) (z : Term Raw × List Token) → nine_at read tokens ≡ Some z → Found (put_nine put) (nine_term says) tokens z
+nine_takes {read = read} {put = put} {says = says} h tokens z e = either_way (after Insertion tokens)
+    (λ none. ruled_found put says tokens z ((ruled_exact h).takes tokens z (sym (ap (λ o. nine_by read o tokens) none) ∙ e)))
+    (λ rest some. inserted_found put says tokens rest z (after_takes Insertion tokens rest some) ((insertion_exact h).takes rest z (sym (ap (λ o. nine_by read o tokens) some) ∙ e)))
+
+nine_again : {C : Type 0} {read : Reader Token (Term Raw)} {put : C → List Token → List Token} {says : C → Term Raw} → IsEight read put says → (n : Nine C) (rest : List Token) → begins (goes_on 14) rest ≡ false → nine_at read (put_nine put n rest) ≡ Some (nine_term says n, rest)
+nine_again {read = read} {put = put} h (ruled x) rest stop =
+    let tokens = put_tailed put (put_ruling put) x rest in
+    ap (λ o. nine_by read o tokens) (no_after Insertion (is_level 7) refl tokens ((ruled_exact h).begun x rest)) ∙ (ruled_exact h).again x rest stop
+nine_again {read = read} {put = put} h (inserted arrow x) rest stop =
+    let tokens = put_insertion put (arrow, x) rest in
+    ap (λ o. nine_by read o (operator Insertion ∷ tokens)) (after_again Insertion tokens)
+    ∙ (insertion_exact h).again (arrow, x) rest (front_fails (goes_on 14) (goes_on 12) (ends_smaller 12 14 (omega arith)) rest stop)
+
+nine_begun : {C : Type 0} {read : Reader Token (Term Raw)} {put : C → List Token → List Token} {says : C → Term Raw} → IsEight read put says → (n : Nine C) (rest : List Token) → begins begins_nine (put_nine put n rest) ≡ true
+nine_begun {put = put} h (ruled x) rest = front_passes (is_level 7) begins_nine (λ t e. or_left (is_level 7 t) (is_insertion t) e) (put_tailed put (put_ruling put) x rest) ((ruled_exact h).begun x rest)
+nine_begun h (inserted arrow x) rest = refl
+
+nine_grows : {C : Type 0} {read : Reader Token (Term Raw)} {put : C → List Token → List Token} {says : C → Term Raw} → IsEight read put says → (n : Nine C) (rest : List Token) → length rest < length (put_nine put n rest)
+nine_grows h (ruled x) rest = (ruled_exact h).grows x rest
+nine_grows h (inserted arrow x) rest = let item = (insertion_exact h).grows (arrow, x) rest in omega (arith, item)
+
+pub nine_exact : {C : Type 0} {read : Reader Token (Term Raw)} {put : C → List Token → List Token} {says : C → Term Raw} → IsEight read put says → Exact (nine_at read) (put_nine put) (nine_term says) begins_nine (goes_on 14)
+nine_exact h = record { takes = nine_takes h; again = nine_again h; begun = nine_begun h; grows = nine_grows h }

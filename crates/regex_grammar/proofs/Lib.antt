@@ -5,3 +5,4 @@ pub mod Operators
 pub mod Levels1to4
 pub mod Levels5to8
 pub mod Level9
+pub mod Level10
