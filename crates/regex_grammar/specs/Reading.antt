@@ -17,6 +17,7 @@ use Rattle.regex_tokens.specs.declared.token.Operator.TheVariants.{OpenSquare, C
 use Rattle.regex_tokens.specs.declared.token.Token.{Token}
 use Rattle.regex_tokens.specs.declared.token.Token.TheVariants.{Operator as operator, Quoted as quoted_token, Braced as braced_token, Run as run_token}
 use Rattle.regex_grammar.specs.Rows.{Reader, begins, many, option_at, row_at, tailed_at, led_at}
+use Rattle.regex_grammar.specs.Whole.{most_open}
 use Rattle.regex_grammar.specs.Grammar.{run_term, quoted_term, braced_term, is_number, power_value, with_backslashes, with_lower, with_suffixes, with_prefixes, ignoring, side_by_side, Linked, or_else, and_also, but_not, with_links, part, ContextTerm, in_a_row, SidedTerm, RightTerm, result_term, marks_term, MappingTerm, mapping_by, GroupTailTerm, right_and_more, group_tail_by, GroupTerm, group_by, RulingTerm, restriction, replacement_by, with_ruling, insertion_by, arrow_operator, StepForm, crossing, composing, with_steps}
 
 -- The row that a token goes on, by the level whose operands it stands behind; within level 9 by what it goes on there: 9 a
@@ -272,3 +273,12 @@ steps_at inner tokens = row_at (is_level 15) with_steps (nine_at (chain_at inner
 unfoldable pub expression_at : ℕ → Reader Token (Term Raw)
 expression_at zero tokens = None
 expression_at (suc n) tokens = steps_at (expression_at n) tokens
+
+-- what was read, where no token is left
+abbrev pub all_read : {T : Type 0} → T → List Token → Option T
+all_read t [] = Some t
+all_read t (_ ∷ rest) = None
+
+-- the expression that the tokens are
+abbrev pub whole_at : List Token → Option (Term Raw)
+whole_at tokens = option_and_then (λ x. all_read x.0 x.1) (expression_at (suc most_open) tokens)
