@@ -1,6 +1,5 @@
 -- `.x.`, `.o.` and whole expressions are read exactly.
-use Rattle.std.proofs.Common.{◌≡◌, ℕ, zero, suc, Option, Some, None, true, List, ◌∷◌, Bool, refl, ap, arith}
-use Rattle.std.specs.Option.{option_map, option_and_then}
+use Rattle.std.proofs.Common.{◌≡◌, ℕ, zero, suc, Some, true, List, ◌∷◌, Bool, refl, ap, arith}
 use Rattle.regex_ast.specs.Terms.{Term}
 use Rattle.regex_ast.specs.declared.expr.Raw.{Raw}
 use Rattle.regex_tokens.specs.declared.token.Operator.{Operator}
@@ -9,7 +8,7 @@ use Rattle.regex_tokens.specs.declared.token.Token.{Token}
 use Rattle.regex_tokens.specs.declared.token.Token.TheVariants.{Operator as operator}
 use Rattle.regex_grammar.specs.Rows.{Reader}
 use Rattle.regex_grammar.specs.Grammar.{StepForm, crossing, composing, put_step, put_steps, put_expression, step_value, with_steps, steps_term, expression_term}
-use Rattle.regex_grammar.specs.Reading.{is_level, one_of, step_of, step_at, steps_at, expression_at}
+use Rattle.regex_grammar.specs.Reading.{is_level, step_of, step_at, steps_at, expression_at}
 use Rattle.regex_grammar.proofs.Cases.{same_some}
 use Rattle.regex_grammar.proofs.Exact.{Exact, row_exact, mapped_exact}
 use Rattle.regex_grammar.proofs.Operators.{goes_on, follow, Forms, forms_exact}

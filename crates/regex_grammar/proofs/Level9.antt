@@ -1,5 +1,5 @@
 -- Contexts, rules and restrictions are read exactly, where level 8 is.
-use Rattle.std.proofs.Common.{◌≡◌, ℕ, ◌<◌, ◌≤◌, ◌||◌, Bool, true, false, Option, Some, None, List, [], ◌∷◌, length, refl, sym, ap, ◌∙◌, arith}
+use Rattle.std.proofs.Common.{◌≡◌, ◌<◌, ◌||◌, Bool, true, false, Option, Some, None, List, [], ◌∷◌, length, refl, sym, ap, ◌∙◌, arith}
 use Rattle.std.specs.Option.{option_map, option_and_then}
 use Rattle.regex_ast.specs.Terms.{Term, empty}
 use Rattle.regex_ast.specs.declared.expr.Raw.{Raw}
@@ -12,8 +12,8 @@ use Rattle.regex_tokens.specs.declared.token.Token.{Token}
 use Rattle.regex_tokens.specs.declared.token.Token.TheVariants.{Operator as operator}
 use Rattle.regex_tokens.proofs.Fronts.{after_takes, after_again}
 use Rattle.regex_grammar.specs.Rows.{Reader, Tailed, put_option, put_row, put_tailed, row_value, tailed_value, begins, option_at, tailed_at}
-use Rattle.regex_grammar.specs.Grammar.{ContextForm, ContextRow, Sided, RightSide, result, marks, MappingForm, GroupTail, GroupForm, Ruling, restricted, replaced, Nine, ruled, inserted, put_context, put_contexts, side_operator, put_sided, put_right, arrow_operator, put_mapping, put_group_tail, put_group, put_ruling, put_nine, part, ContextTerm, context_value, in_a_row, contexts_value, SidedTerm, sided_value, RightTerm, result_term, marks_term, right_value, mapping_by, mapping_value, right_and_more, group_tail_by, group_tail_value, group_by, group_value, RulingTerm, restriction, replacement_by, ruling_value, with_ruling, insertion_by, nine_term, put_behind}
-use Rattle.regex_grammar.specs.Reading.{level, is_level, is_insertion, one_of, context_behind, context_at, contexts_at, side_of, sided_at, dots_at, right_by, right_from, right_at, mapping_at, group_tail_at, group_at, replacement_at, ruling_at, arrow_of, insertion_at, nine_by, nine_at}
+use Rattle.regex_grammar.specs.Grammar.{ContextForm, ContextRow, Sided, RightSide, result, marks, Ruling, restricted, replaced, Nine, ruled, inserted, put_context, put_contexts, side_operator, put_sided, put_right, arrow_operator, put_mapping, put_group_tail, put_group, put_ruling, put_nine, part, ContextTerm, context_value, in_a_row, contexts_value, SidedTerm, sided_value, RightTerm, result_term, marks_term, right_value, mapping_by, mapping_value, right_and_more, group_tail_by, group_tail_value, group_by, group_value, RulingTerm, restriction, replacement_by, ruling_value, with_ruling, insertion_by, nine_term, put_behind}
+use Rattle.regex_grammar.specs.Reading.{is_level, is_insertion, context_behind, context_at, contexts_at, side_of, sided_at, dots_at, right_by, right_from, right_at, mapping_at, group_tail_at, group_at, replacement_at, ruling_at, arrow_of, insertion_at, nine_by, nine_at}
 use Rattle.regex_grammar.proofs.Cases.{map_some, then_some, same_some, either_way}
 use Rattle.regex_grammar.proofs.Exact.{Exact, Held, front_fails, front_passes, option_takes, option_again, option_grows, option_begun, row_exact, tailed_exact, mapped_exact}
 use Rattle.regex_grammar.proofs.Operators.{goes_on, ends_smaller, starts_none, follow, no_after, stopped_after, Found, Forms, forms_exact, behind_exact, Joins, joins_exact}

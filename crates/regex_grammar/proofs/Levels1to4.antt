@@ -1,5 +1,5 @@
 -- Leaves, brackets, `\`, `:` and suffixes are read exactly.
-use Rattle.std.proofs.Common.{◌≡◌, ℕ, ◌<◌, ◌&&◌, ◌||◌, ◌==◌, not, Bool, true, false, cond, Option, Some, None, List, [], ◌∷◌, length, refl, sym, ap, ◌∙◌, arith}
+use Rattle.std.proofs.Common.{◌≡◌, ◌<◌, ◌&&◌, ◌||◌, not, Bool, true, false, cond, Some, None, List, [], ◌∷◌, length, refl, sym, ap, ◌∙◌, arith}
 use Rattle.std.specs.Prelude.{⊤}
 use Rattle.std.specs.Option.{option_map, option_and_then}
 use Rattle.regex_ast.specs.Terms.{Term, empty, any, edge, group, maybe}
@@ -9,13 +9,13 @@ use Rattle.regex_ast.specs.declared.expr.Suffix.TheVariants.{Star as any_number,
 use Rattle.regex_tokens.specs.Fronts.{after}
 use Rattle.regex_tokens.specs.declared.token.Run.{Run}
 use Rattle.regex_tokens.specs.declared.token.Operator.{Operator}
-use Rattle.regex_tokens.specs.declared.token.Operator.TheVariants.{OpenSquare, CloseSquare, OpenRound, CloseRound, Backslash, Tilde, Dollar, Star, Plus, Caret, Colon, Question, Upper, Lower, Inverse, Reverse, Edge}
+use Rattle.regex_tokens.specs.declared.token.Operator.TheVariants.{OpenSquare, CloseSquare, OpenRound, CloseRound, Backslash, Star, Plus, Caret, Colon, Question, Upper, Lower, Inverse, Reverse, Edge}
 use Rattle.regex_tokens.specs.declared.token.Token.{Token}
 use Rattle.regex_tokens.specs.declared.token.Token.TheVariants.{Operator as operator, Quoted as quoted_token, Braced as braced_token, Run as run_token}
 use Rattle.regex_tokens.proofs.Fronts.{after_takes, after_again}
 use Rattle.regex_grammar.specs.Rows.{Reader, begins}
-use Rattle.regex_grammar.specs.Grammar.{Leaf, run, quoted, braced, Primary, leaf, question, boundary, blank, grouped, optional, is_number, power_value, SuffixForm, star, plus, power, upper, lower, inverted, reversed, token_of, put_primary, put_backslash, put_behind, put_negated, put_crossed, put_suffix, put_suffixed, run_term, quoted_term, braced_term, leaf_term, primary_term, with_backslashes, negated_term, with_lower, crossed_term, suffix_of, with_suffixes, suffixed_term}
-use Rattle.regex_grammar.specs.Reading.{level, is_level, is_backslash, is_prefix, one_of, behind_at, bracket_at, square_by, square_at, primary_at, backslash_of, negated_at, crossed_at, power_of, power_at, suffix_at, suffixed_at}
+use Rattle.regex_grammar.specs.Grammar.{run, quoted, braced, Primary, leaf, question, boundary, blank, grouped, optional, is_number, power_value, SuffixForm, star, plus, power, upper, lower, inverted, reversed, put_primary, put_backslash, put_negated, put_crossed, put_suffix, put_suffixed, run_term, quoted_term, braced_term, primary_term, with_backslashes, negated_term, with_lower, crossed_term, suffix_of, with_suffixes, suffixed_term}
+use Rattle.regex_grammar.specs.Reading.{level, is_level, is_backslash, is_prefix, bracket_at, square_by, square_at, primary_at, backslash_of, negated_at, crossed_at, power_of, power_at, suffix_at, suffixed_at}
 use Rattle.regex_grammar.proofs.Cases.{if_cases, map_some, then_some, same_some, either_way}
 use Rattle.regex_grammar.proofs.Exact.{Exact, Lead, row_exact, tailed_exact, led_exact}
 use Rattle.regex_grammar.proofs.Operators.{goes_on, tighter, follow, no_after, Found, Marks, marks_exact, behind_exact}

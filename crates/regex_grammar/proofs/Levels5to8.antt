@@ -1,6 +1,5 @@
 -- Prefixes, `/`, concatenation and `|`, `&`, `-` are read exactly.
-use Rattle.std.proofs.Common.{◌≡◌, ◌&&◌, not, Bool, true, false, Option, Some, None, List, [], ◌∷◌, refl, ap, arith}
-use Rattle.std.specs.Option.{option_map, option_and_then}
+use Rattle.std.proofs.Common.{◌≡◌, ◌&&◌, not, Bool, true, false, Some, List, ◌∷◌, refl, ap, arith}
 use Rattle.regex_ast.specs.Terms.{Term}
 use Rattle.regex_ast.specs.declared.expr.Raw.{Raw}
 use Rattle.regex_ast.specs.declared.expr.Prefix.{Prefix}
@@ -11,7 +10,7 @@ use Rattle.regex_tokens.specs.declared.token.Token.{Token}
 use Rattle.regex_tokens.specs.declared.token.Token.TheVariants.{Operator as operator}
 use Rattle.regex_grammar.specs.Rows.{Reader}
 use Rattle.regex_grammar.specs.Grammar.{Linked, or_else, and_also, but_not, put_prefix, put_prefixed, put_ignored, put_concat, put_linked, put_chain, with_prefixes, prefixed_term, ignoring, ignored_term, side_by_side, concat_term, linked_value, with_links, chain_term}
-use Rattle.regex_grammar.specs.Reading.{level, is_level, is_prefix, one_of, prefix_of, prefixed_at, ignored_at, concat_at, linked_of, link_at, chain_at}
+use Rattle.regex_grammar.specs.Reading.{level, is_level, is_prefix, prefix_of, prefixed_at, ignored_at, concat_at, linked_of, link_at, chain_at}
 use Rattle.regex_grammar.proofs.Cases.{same_some}
 use Rattle.regex_grammar.proofs.Exact.{Exact, Lead, row_exact, led_exact, mapped_exact}
 use Rattle.regex_grammar.proofs.Operators.{goes_on, tighter, follow, Marks, marks_exact, Forms, forms_exact, behind_exact}

@@ -7,3 +7,4 @@ pub mod Levels5to8
 pub mod Level9
 pub mod Level10
 pub mod Whole
+mod Examples

@@ -1,5 +1,5 @@
 -- What tokens begin with, and items behind operators.
-use Rattle.std.proofs.Common.{◌≡◌, ℕ, suc, ◌<◌, ◌==◌, nat_le, Bool, true, false, Option, Some, None, List, [], ◌∷◌, length, refl, sym, ap, ◌∙◌, arith}
+use Rattle.std.proofs.Common.{◌≡◌, ℕ, ◌<◌, ◌==◌, nat_le, Bool, true, false, Option, Some, None, List, [], ◌∷◌, length, sym, ap, ◌∙◌, arith}
 use Rattle.std.specs.Option.{option_map, option_and_then}
 use Rattle.std.proofs.lemmas.Bool.Decides.{nat_tests}
 use Rattle.regex_tokens.specs.Fronts.{after}
@@ -9,7 +9,7 @@ use Rattle.regex_tokens.specs.declared.token.Token.TheVariants.{Operator as oper
 use Rattle.regex_tokens.proofs.Fronts.{after_takes, after_again}
 use Rattle.regex_grammar.specs.Rows.{Reader, begins}
 use Rattle.regex_grammar.specs.Grammar.{put_behind}
-use Rattle.regex_grammar.specs.Reading.{operator_level, level, is_level, behind_at, one_of}
+use Rattle.regex_grammar.specs.Reading.{level, is_level, behind_at, one_of}
 use Rattle.regex_grammar.proofs.Cases.{map_some, then_some, either_way}
 use Rattle.regex_grammar.proofs.Exact.{Exact, Follow}
 

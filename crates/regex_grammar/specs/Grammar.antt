@@ -14,11 +14,11 @@
 --   10  `.x.` `.o.`
 --
 -- Operators of one level in a row are one node, and a row of one operand is its operand.
-use Rattle.std.specs.Prelude.{◌≡◌, ℕ, zero, suc, Bool, true, false, IsTrue, List, [], ◌∷◌, length, map, codes, ⊤, Option, None, Some, if◌then◌else◌, min, ◌+◌, ◌-◌, ◌*◌, ◌&&◌, ◌==◌, not, nat_lt}
+use Rattle.std.specs.Prelude.{◌≡◌, ℕ, zero, suc, Bool, true, false, IsTrue, List, [], ◌∷◌, length, map, codes, ⊤, Option, None, Some, if◌then◌else◌, min, ◌+◌, ◌-◌, ◌*◌, ◌&&◌, nat_lt}
 use Rattle.std.specs.List.{list_all}
 use Rattle.std.specs.Option.{option_map}
 use Rattle.std.specs.Str.{bytes_eq}
-use Rattle.regex_ast.specs.Terms.{Term, Terms, Links, Contexts, Steps, Mappings, Groups, empty, any, edge, atom, letters, group, maybe, not_one, cross, suffixed, prefixed, ignore, concat, chain, only, rules, steps, terms_of, no_link, or, and, less, no_context, between, no_step, cross_with, then as compose, no_mapping, plain, markup, insert, no_group, then_group}
+use Rattle.regex_ast.specs.Terms.{Term, Links, Contexts, Steps, Mappings, Groups, empty, any, edge, atom, letters, group, maybe, not_one, cross, suffixed, prefixed, ignore, concat, chain, only, rules, steps, terms_of, no_link, or, and, less, no_context, between, no_step, cross_with, then as compose, no_mapping, plain, markup, insert, no_group, then_group}
 use Rattle.regex_ast.specs.declared.expr.Raw.{Raw}
 use Rattle.regex_ast.specs.declared.expr.Raw.TheVariants.{Run as run_symbol, Quoted as quoted_symbol}
 use Rattle.regex_ast.specs.declared.expr.Suffix.{Suffix}
@@ -27,7 +27,7 @@ use Rattle.regex_ast.specs.declared.expr.Prefix.{Prefix}
 use Rattle.regex_ast.specs.declared.expr.Prefix.TheVariants.{Not, Contains}
 use Rattle.regex_ast.specs.declared.expr.Side.{Side}
 use Rattle.regex_ast.specs.declared.expr.Side.TheVariants.{UpUp as up_up, LowUp as low_up, UpLow as up_low, LowLow as low_low}
-use Rattle.regex_grammar.specs.Rows.{Row, Tailed, Led, put_more, put_option, put_row, put_tailed, put_led, row_value, tailed_value, led_value}
+use Rattle.regex_grammar.specs.Rows.{Row, Tailed, Led, put_option, put_row, put_tailed, put_led, row_value, tailed_value, led_value}
 use Rattle.regex_tokens.specs.declared.token.Run.{Run}
 use Rattle.regex_tokens.specs.declared.token.Operator.{Operator}
 use Rattle.regex_tokens.specs.declared.token.Operator.TheVariants.{OpenSquare, CloseSquare, OpenRound, CloseRound, Optional, Arrow, Only, UpUp, Bar, LowUp, Slash, UpLow, LowLow, Backslash, Ampersand, Minus, Tilde, Dollar, Star, Plus, Caret, Colon, GroupComma, Comma, Question, Underscore, Dots, CrossWith, Then, Upper, Lower, Inverse, Reverse, Edge, Insertion}

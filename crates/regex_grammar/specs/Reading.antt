@@ -1,6 +1,6 @@
 -- Reading as a function on tokens, step by step, which a parser computes. Its answers are proved to be those of the
 -- grammar (proofs/Levels.antt).
-use Rattle.std.specs.Prelude.{ℕ, zero, suc, Bool, true, false, List, [], ◌∷◌, ◌==◌, ◌||◌, ◌&&◌, not, ⊤, Option, None, Some, if◌then◌else◌}
+use Rattle.std.specs.Prelude.{ℕ, zero, suc, Bool, true, false, List, [], ◌∷◌, ◌==◌, ⊤, Option, None, Some, if◌then◌else◌}
 use Rattle.std.specs.Option.{option_map, option_and_then}
 use Rattle.regex_ast.specs.Terms.{Term, empty, any, edge, group, maybe}
 use Rattle.regex_ast.specs.declared.expr.Raw.{Raw}
@@ -11,12 +11,11 @@ use Rattle.regex_ast.specs.declared.expr.Prefix.TheVariants.{Not, Contains}
 use Rattle.regex_ast.specs.declared.expr.Side.{Side}
 use Rattle.regex_ast.specs.declared.expr.Side.TheVariants.{UpUp as up_up, LowUp as low_up, UpLow as up_low, LowLow as low_low}
 use Rattle.regex_tokens.specs.Fronts.{after}
-use Rattle.regex_tokens.specs.declared.token.Run.{Run}
 use Rattle.regex_tokens.specs.declared.token.Operator.{Operator}
 use Rattle.regex_tokens.specs.declared.token.Operator.TheVariants.{OpenSquare, CloseSquare, OpenRound, CloseRound, Optional, Arrow, Only, UpUp, Bar, LowUp, Slash, UpLow, LowLow, Backslash, Ampersand, Minus, Tilde, Dollar, Star, Plus, Caret, Colon, Semicolon, GroupComma, Comma, Question, Underscore, Dots, CrossWith, Then, Upper, Lower, Inverse, Reverse, Edge, Insertion}
 use Rattle.regex_tokens.specs.declared.token.Token.{Token}
 use Rattle.regex_tokens.specs.declared.token.Token.TheVariants.{Operator as operator, Quoted as quoted_token, Braced as braced_token, Run as run_token}
-use Rattle.regex_grammar.specs.Rows.{Reader, begins, many, option_at, row_at, tailed_at, led_at}
+use Rattle.regex_grammar.specs.Rows.{Reader, option_at, row_at, tailed_at, led_at}
 use Rattle.regex_grammar.specs.Whole.{most_open}
 use Rattle.regex_grammar.specs.Grammar.{run_term, quoted_term, braced_term, is_number, power_value, with_backslashes, with_lower, with_suffixes, with_prefixes, ignoring, side_by_side, Linked, or_else, and_also, but_not, with_links, part, ContextTerm, in_a_row, SidedTerm, RightTerm, result_term, marks_term, MappingTerm, mapping_by, GroupTailTerm, right_and_more, group_tail_by, GroupTerm, group_by, RulingTerm, restriction, replacement_by, with_ruling, insertion_by, arrow_operator, StepForm, crossing, composing, with_steps}
 
