@@ -1,4 +1,0 @@
-pub mod Bytes
-pub mod Spelling
-pub mod Cuts
-pub mod Fronts
