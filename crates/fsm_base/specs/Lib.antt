@@ -1,6 +1,7 @@
 pub mod Alphabet
 pub mod Cut
 pub mod Longest
+pub mod Normal
 pub mod Sorted
 pub mod Symbols
 pub mod Tokens

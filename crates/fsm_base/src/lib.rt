@@ -2,6 +2,8 @@
 //!
 //! - [`Letter`], [`Sym`], [`Pair`], [`Bound`]: what automata read.
 //! - [`Text`]: a text, ordered by its bytes.
+//! - [`normal`]: the text of a source from its bytes; [`nfc`] brings a text into the same form,
+//!   Normalization Form C.
 //! - [`SymbolTable`]: the texts of the symbols, by their numbers.
 //! - [`Alphabet`]: symbols with their texts; [`Alphabet::tokens`] cuts a text into symbols, and
 //!   [`Alphabet::text`] joins them again.
@@ -12,6 +14,7 @@ mod alphabet;
 mod laws;
 mod letters;
 mod longest;
+mod normalize;
 mod symbols;
 #[cfg(test)]
 mod tests;
@@ -20,5 +23,6 @@ mod text;
 pub use alphabet::{Alphabet, TokensError};
 pub use laws::cut_takes_longest;
 pub use letters::{Bound, Letter, Pair, Sym};
+pub use normalize::{TextError, nfc, normal};
 pub use symbols::SymbolTable;
 pub use text::Text;

@@ -1,8 +1,9 @@
-ghost use Rattle.std.specs.Prelude.{◌≡◌, [], ◌∷◌, IfOk};
+ghost use Rattle.std.specs.Prelude.{◌≡◌, ◌<◌, [], ◌∷◌, length, IfOk};
 ghost use Rattle.fsm_base.specs.Alphabet.{symbols_of};
 
 use crate::{
-    Alphabet, Bound, Letter, Pair, Sym, SymbolTable, Text, TokensError, cut_takes_longest,
+    Alphabet, Bound, Letter, Pair, Sym, SymbolTable, Text, TextError, TokensError,
+    cut_takes_longest, nfc, normal,
 };
 use std::alloc::{AllocError, Global};
 use std::cmp::Ordering;
@@ -109,4 +110,43 @@ fn a_word_is_joined(rt: HostRuntime) -> Result<(), Fail> {
     );
     cut_takes_longest();
     Ok(())
+}
+
+#[test]
+fn an_accent_is_composed(rt: HostRuntime) -> Result<(), Fail> {
+    assert_eq!(rt; nfc(rt.alloc(), "e\u{301}")?.as_str(), "\u{e9}");
+    Ok(())
+}
+
+#[test]
+fn a_source_gives_its_text(rt: HostRuntime) -> Result<(), Fail> {
+    for (source, want) in [
+        ("e\u{301}\r\n", "\u{e9}\n"),
+        ("\u{feff}\u{feff}a", "\u{feff}a"),
+        ("a\tb\n", "a\tb\n"),
+    ] {
+        assert_eq!(rt; normal(rt.alloc(), source.as_bytes())?.as_str(), want);
+    }
+    Ok(())
+}
+
+// The line of a source that is not UTF-8, and that of a control character.
+fn fault_lines(alloc: Global, source: &[u8]) -> (Option<u32>, Option<u32>)
+    requires { length source.now < 100 }
+{
+    match normal(alloc, source) {
+        Err(TextError::NotUtf8 { line }) => (Some(line), None),
+        Err(TextError::Control { line }) => (None, Some(line)),
+        _ => (None, None),
+    }
+}
+
+#[test]
+fn a_fault_of_a_source_has_its_line(rt: HostRuntime) {
+    let alloc = rt.alloc();
+    assert_eq!(rt; fault_lines(alloc, b"a\n\xff"), (Some(2), None));
+    assert_eq!(rt; fault_lines(alloc, b"\x07\xff"), (Some(1), None));
+    assert_eq!(rt; fault_lines(alloc, b"a\x07"), (None, Some(1)));
+    assert_eq!(rt; fault_lines(alloc, b"\r\r\n"), (None, Some(1)));
+    assert_eq!(rt; fault_lines(alloc, b"\n\xc2\x85"), (None, Some(2)));
 }
