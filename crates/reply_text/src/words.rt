@@ -1,0 +1,67 @@
+ghost use Rattle.std.specs.Prelude.{◌≡◌, ◌++◌, ◌∷◌, codes, decimal, IfOk};
+ghost use Rattle.std.specs.String.{string_bytes};
+ghost use Rattle.fsm_meaning.specs.Answers.{strings};
+ghost use Rattle.fsm_meaning.specs.Replies.{answer_bytes, headed};
+ghost use Rattle.lookup.specs.Answering.{found_of};
+
+use fsm_base::Text;
+use lookup::Answer;
+use std::alloc::{AllocError, Global};
+
+/// How many texts there are, and each on a line.
+fn listed(alloc: Global, number: u64, word: &str, texts: &[Text]) -> Result<String, AllocError>
+    ensures { IfOk result (λ reply. string_bytes reply ≡ answer_bytes number word.now (strings texts.now)) }
+{
+    let count = texts.len();
+    let mut reply = format!(in alloc; "{number} {count} {word}\n")?;
+    'texts: for text in texts {
+        reply.push_str(text.as_str())?;
+        reply.push('\n')?;
+    }
+    Ok(reply)
+}
+
+/// The reply to `word` at the version `number`, by what was found:
+///
+/// - `V n WORD` and the n texts, each on a line;
+/// - `V more WORD` where there are more texts than are listed;
+/// - `V loop WORD` and three lines, what stands before the round, the round, and what stands after it.
+pub fn answer(
+    alloc: Global,
+    number: u64,
+    word: &str,
+    answer: &Answer,
+) -> Result<Vec<u8>, AllocError>
+    ensures { IfOk result (λ bytes. bytes.items ≡ answer_bytes number word.now (found_of answer.now)) }
+{
+    let reply = match answer {
+        Answer::Strings(texts) => listed(alloc, number, word, texts)?,
+        Answer::More => format!(in alloc; "{number} more {word}\n")?,
+        Answer::Loop {
+            before,
+            round,
+            after,
+        } => {
+            let (before, round, after) = (before.as_str(), round.as_str(), after.as_str());
+            format!(in alloc; "{number} loop {word}\n{before}\n{round}\n{after}\n")?
+        }
+    };
+    Ok(reply.into_bytes())
+}
+
+/// The reply to `word` at the version `number`, where no symbol begins at the character `at`, counted from 1:
+/// `V symbol AT WORD`.
+pub fn symbol(alloc: Global, number: u64, at: u32, word: &str) -> Result<Vec<u8>, AllocError>
+    ensures { IfOk result (λ bytes. bytes.items ≡ headed number (codes "symbol " ++ decimal at ++ 32 ∷ word.now)) }
+{
+    let reply = format!(in alloc; "{number} symbol {at} {word}\n")?;
+    Ok(reply.into_bytes())
+}
+
+/// The reply at the version `number`, which has no such name: `V net NAME`.
+pub fn no_net(alloc: Global, number: u64, name: &str) -> Result<Vec<u8>, AllocError>
+    ensures { IfOk result (λ bytes. bytes.items ≡ headed number (codes "net " ++ name.now)) }
+{
+    let reply = format!(in alloc; "{number} net {name}\n")?;
+    Ok(reply.into_bytes())
+}
