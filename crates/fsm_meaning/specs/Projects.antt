@@ -1,5 +1,5 @@
 -- What a set of sources means once it is read: an alphabet, and a relation for each name.
-use Rattle.std.specs.Prelude.{◌≡◌, ℕ, Bool, false, List, [], ◌∷◌, ◌++◌, map, Contains, cond}
+use Rattle.std.specs.Prelude.{◌≡◌, ℕ, Bool, false, not, ◌&&◌, nat_lt, List, [], ◌∷◌, ◌++◌, length, map, Contains, cond}
 use Rattle.std.specs.List.{flat_map, list_any}
 use Rattle.std.specs.Str.{bytes_eq}
 use Rattle.regex_ast.specs.declared.expr.Raw.{Raw}
@@ -95,9 +95,13 @@ abbrev pub names_one_of : List (List ℕ) → Raw → Bool
 names_one_of names (Run text) = list_any (bytes_eq text) names
 names_one_of names (Quoted text) = false
 
--- the symbol that a leaf is where these names are defined; a leaf that is a name is none
+-- where these names are defined a leaf is a symbol, unless it is one of them or empty
+abbrev pub is_symbol : List (List ℕ) → Raw → Bool
+is_symbol names leaf = nat_lt 0 (length (symbol_of leaf)) && not (names_one_of names leaf)
+
+-- the symbol that a leaf is where these names are defined, if it is one
 abbrev pub symbol_beside : List (List ℕ) → Raw → List (List ℕ)
-symbol_beside names leaf = cond (names_one_of names leaf) [] (symbol_alone leaf)
+symbol_beside names leaf = cond (is_symbol names leaf) (symbol_alone leaf) []
 
 -- the symbols that stand in an expression where these names are defined
 abbrev pub symbols_beside : List (List ℕ) → Term Raw → List (List ℕ)
