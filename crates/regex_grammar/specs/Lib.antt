@@ -1,0 +1,4 @@
+pub mod Rows
+pub mod Grammar
+pub mod Whole
+pub mod Reading
