@@ -1,12 +1,2 @@
-pub mod Lists
-pub mod Cases
-pub mod Exact
-pub mod Loops
-pub mod Flags
-pub mod Levels
-pub mod Tokens
-pub mod Texts
-pub mod Whole
 pub mod Rows
-pub mod Numbers
-pub mod Parsing
+pub mod Found

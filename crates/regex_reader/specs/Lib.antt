@@ -1,4 +1,2 @@
-pub mod Bytes
-pub mod Rows
-pub mod Form
-pub mod Reading
+pub mod Tests
+pub mod Found
