@@ -47,12 +47,6 @@ go_on found item new whole front rest all new_is item_is all_is so_far =
 pub finish : (found whole : Findings) (all : List Node) → all ≡ [] → either found (found_in all) ≡ whole → found ≡ whole
 finish found whole all none so_far = sym (either_none found) ∙ ap (λ ns. either found (found_in ns)) (sym none) ∙ so_far
 
-pub none_left : {X : Type 0} (xs : List X) (i : ℕ) → length xs ≤ i → drop i xs ≡ []
-none_left [] zero below = refl
-none_left [] (suc i) below = refl
-none_left (x ∷ xs) zero below = absurd (omega arith)
-none_left (x ∷ xs) (suc i) below = none_left xs i (omega arith)
-
 parts_left : (inside : Bool) (parts : List (Expr Raw)) (i : ℕ) (part : Expr Raw) → i < length parts → part ≡ get_or parts i part
     → each_of inside (terms_of (map term (drop i parts))) ≡ nodes inside (term part) ++ each_of inside (terms_of (map term (drop (i + 1) parts)))
 parts_left inside parts i part below is = ap (λ (z : List (Expr Raw)). each_of inside (terms_of (map term z))) (left_behind parts i part below is)

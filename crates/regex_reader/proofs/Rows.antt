@@ -1,5 +1,5 @@
 -- Rows of rules and groups by the items of the `Vec`s that hold them.
-use Rattle.std.proofs.Common.{◌≡◌, ◌+◌, ◌<◌, Bool, ℕ, suc, List, ◌∷◌, length, drop, get_or, sym, ap, ◌∙◌, arith}
+use Rattle.std.proofs.Common.{◌≡◌, ◌+◌, ◌<◌, ◌≤◌, refl, Bool, ℕ, zero, suc, List, [], ◌∷◌, length, drop, get_or, sym, ap, ◌∙◌, arith}
 use lib.Seq.{drop-cons}
 use Rattle.regex_ast.specs.Terms.{term, rules, maps_of, contexts_in, groups_of}
 use Rattle.regex_ast.specs.declared.expr.Raw.{Raw}
@@ -39,3 +39,9 @@ left_behind {X} xs i x below is = drop-cons xs i x below ∙ ap (λ (y : X). y �
   where
     one_more : (i : ℕ) → suc i ≡ i + 1
     one_more i = omega arith
+
+pub none_left : {X : Type 0} (xs : List X) (i : ℕ) → length xs ≤ i → drop i xs ≡ []
+none_left [] zero below = refl
+none_left [] (suc i) below = refl
+none_left (x ∷ xs) zero below = absurd (omega arith)
+none_left (x ∷ xs) (suc i) below = none_left xs i (omega arith)

@@ -1,2 +1,5 @@
 pub mod Tests
 pub mod Found
+pub mod Files
+pub mod Reads
+pub mod Verdicts

@@ -7,8 +7,8 @@ use Rattle.regex_ast.specs.declared.expr.Mapping.{Mapping}
 use Rattle.regex_ast.proofs.Rows.{term-Concat, term-Chain, term-Ignore, term-Only, term-Steps}
 use Rattle.regex_reader.specs.Found.{found_in, either}
 use Rattle.regex_reader.specs.Tests.{at, nodes, each_of, each_context, each_step, each_link, each_group, each_mapping}
-use Rattle.regex_reader.proofs.Rows.{term_rules, optional_in, maps_of_is, contexts_in_is}
-use Rattle.regex_reader.proofs.Found.{finish, both, in_front, context_count_is, none_left, operand_term, step_term, parts_go_on, links_go_on, steps_go_on, contexts_go_on, groups_go_on, mappings_go_on}
+use Rattle.regex_reader.proofs.Rows.{none_left, term_rules, optional_in, maps_of_is, contexts_in_is}
+use Rattle.regex_reader.proofs.Found.{finish, both, in_front, context_count_is, operand_term, step_term, parts_go_on, links_go_on, steps_go_on, contexts_go_on, groups_go_on, mappings_go_on}
 use Rattle.regex_reader.proofs.findings.+walk.Goals as goal
 
 pub in_contexts-contexts-preserved : goal.in_contexts-contexts-preserved
