@@ -17,7 +17,7 @@ tokens_append [] last = refl
 tokens_append (p ∷ ps) last = ap (λ (more : List Token). p.token ∷ more) (tokens_append ps last)
 
 -- the tokens of a statement of this form
-form_tokens : (p : List Placed) (name : List ℕ) (expression : List Placed) → IsForm p name expression → tokens_of p ≡ plain_run (codes "define") ∷ plain_run name ∷ tokens_of expression ++ operator Semicolon ∷ []
+pub form_tokens : (p : List Placed) (name : List ℕ) (expression : List Placed) → IsForm p name expression → tokens_of p ≡ plain_run (codes "define") ∷ plain_run name ∷ tokens_of expression ++ operator Semicolon ∷ []
 form_tokens p name expression form =
     ap tokens_of form.whole ∙ ap (λ (more : List Token). form.command.token ∷ form.name.token ∷ more) (tokens_append expression form.last) ∙ rw (form.command_is, form.name_is, form.last_is) refl
 
@@ -28,13 +28,13 @@ abbrev run_of : Token → List ℕ
 run_of (run r) = r.text
 run_of _ = []
 
-run_text : (a b : List ℕ) (r s : List Token) → plain_run a ∷ r ≡ plain_run b ∷ s → a ≡ b
+pub run_text : (a b : List ℕ) (r s : List Token) → plain_run a ∷ r ≡ plain_run b ∷ s → a ≡ b
 run_text a b r s e = let first : plain_run a ≡ plain_run b = cc in ap run_of first
 
-run_rest : (a b : List ℕ) (r s : List Token) → plain_run a ∷ r ≡ plain_run b ∷ s → r ≡ s
+pub run_rest : (a b : List ℕ) (r s : List Token) → plain_run a ∷ r ≡ plain_run b ∷ s → r ≡ s
 run_rest a b r s e = cc
 
-fronts_same : (xs ys : List Token) (t : Token) → xs ++ t ∷ [] ≡ ys ++ t ∷ [] → xs ≡ ys
+pub fronts_same : (xs ys : List Token) (t : Token) → xs ++ t ∷ [] ≡ ys ++ t ∷ [] → xs ≡ ys
 fronts_same [] [] t e = refl
 fronts_same [] (y ∷ []) t e = absurd cc
 fronts_same [] (y ∷ z ∷ ys) t e = absurd cc

@@ -5,3 +5,5 @@ pub mod Placed
 pub mod Saying
 pub mod Readings
 pub mod Forms
+pub mod Statements
+pub mod Stepping

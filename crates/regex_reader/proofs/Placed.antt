@@ -1,7 +1,8 @@
 -- Tokens with their places.
-use Rattle.std.proofs.Common.{◌≡◌, ◌≤◌, ◌<◌, ◌+◌, ℕ, zero, suc, Bool, true, false, ◌||◌, List, [], ◌∷◌, ◌++◌, length, map, take, drop, get_or, Some, refl, sym, ap, ◌∙◌, arith}
-use Rattle.std.specs.List.{list_any, position}
+use Rattle.std.proofs.Common.{◌≡◌, ◌-◌, ◌^◌, Option, None, IfSome, ◌≤◌, ◌<◌, ◌+◌, ℕ, zero, suc, Bool, cond, true, false, ◌||◌, List, [], ◌∷◌, ◌++◌, length, map, take, drop, get_or, Some, refl, sym, ap, ◌∙◌, arith}
+use Rattle.std.specs.List.{list_any, position, position_from}
 use Rattle.std.proofs.lemmas.List.Quantifiers.{position-Some}
+use Rattle.std.proofs.lemmas.Iterator.Adapters.{position_from-zero}
 use Rattle.regex_tokens.specs.declared.token.Operator.TheVariants.{Semicolon}
 use Rattle.regex_tokens.specs.declared.token.Place.{Place}
 use Rattle.regex_tokens.specs.declared.token.Token.{Token}
@@ -68,3 +69,19 @@ one_statement ts ps k same first =
 
 pub semicolon_below : (ts : List Token) (k : ℕ) → Some k ≡ position is_semicolon ts → k < length ts
 semicolon_below ts k first = let d : Token = operator Semicolon in (position-Some is_semicolon ts k d (sym first)).0
+
+none_from : (ts : List Token) (i : ℕ) → position_from is_semicolon i ts ≡ None → list_any is_semicolon ts ≡ false
+none_from [] i e = refl
+none_from (t ∷ ts) i e = by (is_semicolon t) (none_from ts (i + 1)) e
+  where
+    by : (b : Bool) → (position_from is_semicolon (i + 1) ts ≡ None → list_any is_semicolon ts ≡ false) → cond b (Some i) (position_from is_semicolon (i + 1) ts) ≡ None → (b || list_any is_semicolon ts) ≡ false
+    by true more e = absurd cc
+    by false more e = more e
+
+-- where there is none
+pub no_semicolon : (ts : List Token) → None ≡ position is_semicolon ts → list_any is_semicolon ts ≡ false
+no_semicolon ts none = none_from ts 0 (sym (position_from-zero is_semicolon ts) ∙ sym none)
+
+pub semicolon_within : (n : ℕ) (o : Option ℕ) → n < 2 ^ 64 → IfSome o (λ k. k < n) → IfSome o (λ k. k < 2 ^ 64 - 1)
+semicolon_within n None short below = tt
+semicolon_within n (Some k) short below = omega arith

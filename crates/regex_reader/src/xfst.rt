@@ -1,4 +1,4 @@
-ghost use Rattle.std.specs.Prelude.{◌≡◌, ◌+◌, ◌-◌, ◌<◌, ◌^◌, length, false};
+ghost use Rattle.std.specs.Prelude.{◌≡◌, ◌+◌, ◌-◌, ◌<◌, ◌^◌, length, false, IfSome};
 ghost use Rattle.std.specs.List.{list_any, position};
 ghost use Rattle.regex_tokens.specs.Cuts.{newlines};
 ghost use Rattle.regex_reader.specs.Files.{Says, is_semicolon};
@@ -76,7 +76,8 @@ fn statements(
 
 /// The place of the first `;`, counted from 0.
 fn semicolon(tokens: &[Token]) -> Option<usize>
-    ensures { result ≡ position is_semicolon tokens.now }
+    ensures first { result ≡ position is_semicolon tokens.now }
+    ensures within { IfSome result (λ place. place < 2 ^ 64 - 1) }
 {
     tokens.iter().position(|token| is_semicolon(token))
 }
