@@ -7,3 +7,6 @@ pub mod Readings
 pub mod Forms
 pub mod Statements
 pub mod Stepping
+pub mod Texts
+pub mod Once
+pub mod Entries

@@ -81,7 +81,7 @@ pub deep_at_end : (ts : List Token) (ps : List Place) (ending : Ending) (line : 
 deep_at_end ts ps ending line reason same some none other at is reason_is =
     subst (λ (v : Why). Says (placed ts ps) ending (Err (record { line = line; why = v }))) (sym reason_is) (unended_there ts ps ending line why.LimitNesting same some none other (too_deep ts ps line same at is))
 
-has_semicolon : (xs : List Placed) (last : Placed) → last.token ≡ operator Semicolon → list_any is_semicolon (tokens_of (xs ++ last ∷ [])) ≡ true
+pub has_semicolon : (xs : List Placed) (last : Placed) → last.token ≡ operator Semicolon → list_any is_semicolon (tokens_of (xs ++ last ∷ [])) ≡ true
 has_semicolon [] last is = rw is refl
 has_semicolon (x ∷ xs) last is = any_more (is_semicolon x.token) _ (has_semicolon xs last is)
   where

@@ -1,0 +1,10 @@
+use Rattle.std.proofs.Common.{◌≡◌, length, ap, sym, ◌∙◌, arith}
+use Rattle.regex_reader.proofs.Texts.{as_many, is_read}
+use Rattle.regex_reader.proofs.xfst.read_xfst.Goals as goal
+
+pub statements-requires : goal.statements-requires
+statements-requires c =
+    ap length c.deref.ensures.value ∙ as_many c.in-Ok.found.tokens.items 1 c.args.text.now c.in-Ok.found.places.items c.in-Ok.found.ending c.in-Ok.ensures ∙ sym (ap length c.deref-2.ensures.value)
+
+pub returns : goal.returns
+returns c = is_read c.args.text.now c.in-Ok.found.tokens.items c.deref.result.now c.in-Ok.found.places.items c.deref-2.result.now c.in-Ok.found.ending c.statements.result c.in-Ok.ensures c.deref.ensures.value c.deref-2.ensures.value c.statements.ensures
