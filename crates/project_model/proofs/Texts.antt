@@ -1,0 +1,48 @@
+-- Whether a list of texts has a text, and at which place.
+use Rattle.std.proofs.Common.{◌≡◌, ℕ, ◌+◌, ◌<◌, Bool, true, false, cond, ◌||◌, List, [], ◌∷◌, ◌++◌, map, length, Option, Some, None, MatchOption, IfSome, refl, sym, ap, subst, ◌∙◌, inl, inr, true≢false, arith, String}
+use Rattle.std.proofs.lemmas.List.{length-map}
+use Rattle.std.proofs.lemmas.Option.{cond_some}
+use Rattle.std.proofs.lemmas.Slice.Eq.{bytes_eq-Decides}
+use Rattle.std.specs.List.{Contains, list_any, position, position_or_len}
+use Rattle.std.specs.Option.{is_some}
+use Rattle.std.specs.Str.{bytes_eq}
+use Rattle.std.specs.String.{string_bytes}
+use Rattle.fsm_base.specs.Symbols.{number_of, with_text}
+use Rattle.fsm_base.proofs.TableLemmas.{list_any-strings, position_or_len-strings}
+use Rattle.fsm_words.proofs.Members.{Contains-nil_cases, Contains-head, Contains-tail, Contains-cons_cases}
+
+or_true : (b : Bool) → (b || true) ≡ true
+or_true true = refl
+or_true false = refl
+
+-- a text that a list has is found in it
+pub any_from_has : (text : List ℕ) (texts : List (List ℕ)) → Contains texts text → list_any (bytes_eq text) texts ≡ true
+any_from_has text [] among = absurd (Contains-nil_cases text among)
+any_from_has text (t ∷ texts) among =
+    elim (Contains-cons_cases t texts text among) as (λ _. list_any (bytes_eq text) (t ∷ texts) ≡ true) [
+      | inl is ↦ ap (λ (b : Bool). b || list_any (bytes_eq text) texts) ((bytes_eq-Decides text t).1 (sym is))
+      | inr behind ↦ ap (λ (b : Bool). bytes_eq text t || b) (any_from_has text texts behind) ∙ or_true (bytes_eq text t)
+    ]
+
+pub has_from_any : (text : List ℕ) (texts : List (List ℕ)) → list_any (bytes_eq text) texts ≡ true → Contains texts text
+has_from_any text [] any = cc
+has_from_any text (t ∷ texts) any = by (bytes_eq text t) refl (has_from_any text texts)
+  where
+    by : (b : Bool) → bytes_eq text t ≡ b → (list_any (bytes_eq text) texts ≡ true → Contains texts text) → Contains (t ∷ texts) text
+    by true e rest = subst (λ (u : List ℕ). Contains (u ∷ texts) text) ((bytes_eq-Decides text t).0 e) (Contains-head text texts)
+    by false e rest = Contains-tail t texts text (rest (subst (λ (b : Bool). (b || list_any (bytes_eq text) texts) ≡ true) e any))
+
+pub not_had : (text : List ℕ) (texts : List (List ℕ)) → list_any (bytes_eq text) texts ≡ false → ¬ (Contains texts text)
+not_had text texts none among = absurd (true≢false (sym (any_from_has text texts among) ∙ none))
+
+pub with_text-new : (text : List ℕ) (texts : List (List ℕ)) → list_any (bytes_eq text) texts ≡ false → with_text text texts ≡ texts ++ text ∷ []
+with_text-new text texts none = ap (λ b. cond b texts (texts ++ text ∷ [])) none
+
+-- the place of a text among strings
+pub placed : {Y : Type 0} (text : List ℕ) (ks : List (String Y)) (place : Option ℕ) → place ≡ position (λ k. bytes_eq text (string_bytes k)) ks → is_some place ≡ list_any (λ k. bytes_eq text (string_bytes k)) ks → IfSome place (λ i. i < length ks)
+    → MatchOption place (list_any (bytes_eq text) (map string_bytes ks) ≡ false) (λ i. (i ≡ number_of text (map string_bytes ks)) × (i < length (map string_bytes ks)))
+placed text ks None index found within = sym (list_any-strings text ks) ∙ sym found
+placed text ks (Some i) index found within = (
+  sym (cond_some _ _ _ (sym index)).1 ∙ position_or_len-strings text ks,
+  omega (arith, within, length-map ks string_bytes),
+)
