@@ -10,12 +10,6 @@ left_behind {X} xs i x below is = drop-cons xs i x below ∙ ap (λ (y : X). y �
     one_more : (i : ℕ) → suc i ≡ i + 1
     one_more i = omega arith
 
-pub front_and_rest : {X : Type 0} (xs : List X) (i : ℕ) → xs ≡ take i xs ++ drop i xs
-front_and_rest [] zero = refl
-front_and_rest [] (suc i) = refl
-front_and_rest (x ∷ xs) zero = refl
-front_and_rest {X} (x ∷ xs) (suc i) = ap (λ (ys : List X). x ∷ ys) (front_and_rest xs i)
-
 pub none_left : {X : Type 0} (xs : List X) (i : ℕ) → length xs ≤ i → drop i xs ≡ []
 none_left [] zero h = refl
 none_left [] (suc i) h = refl

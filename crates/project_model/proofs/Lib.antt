@@ -3,3 +3,4 @@ mod Parts
 mod Rows
 mod Texts
 mod NameSteps
+mod Gathering

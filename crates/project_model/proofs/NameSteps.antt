@@ -1,6 +1,6 @@
 -- A loop over definitions that gathers their names: a definition more, and where it ends with a fault.
 use Rattle.std.proofs.Common.{◌≡◌, ℕ, ◌+◌, ◌<◌, ◌≤◌, Bool, true, false, not, List, [], ◌∷◌, ◌++◌, map, take, drop, length, get_or, Ok, Err, refl, sym, ap, subst, ◌∙◌, arith, length-append}
-use Rattle.std.proofs.lemmas.List.{take_more, map-append, length-map, length-take}
+use Rattle.std.proofs.lemmas.List.{take_more, map-append, take-append-drop, length-map, length-take}
 use Rattle.std.specs.List.{Contains, list_any}
 use Rattle.std.specs.Str.{bytes_eq}
 use Rattle.fsm_words.specs.Words.{IsDistinct}
@@ -13,7 +13,7 @@ use Rattle.fsm_meaning.specs.Projects.{Definition, names_of}
 use Rattle.project_model.specs.Together.{HaveNames, IsRefusal, IsWhyNoPlan, NameFault, again, too_many, SayTogether, names, defined_by, definitions_of, definition_of, fault, most_names}
 use Rattle.project_model.specs.declared.plan_error.PlanError.{PlanError}
 use Rattle.project_model.specs.declared.plan_error.PlanError.TheVariants.{Refused, Memory}
-use Rattle.project_model.proofs.Behind.{left_behind, front_and_rest}
+use Rattle.project_model.proofs.Behind.{left_behind}
 use Rattle.project_model.proofs.Texts.{has_from_any, not_had}
 
 pub not_false : (b : Bool) → false ≡ not b → b ≡ true
@@ -34,7 +34,7 @@ module _ (xs : List (Define Raw)) (i : ℕ) (d : Define Raw) (below : i < length
   front = map statement_of (take i xs)
 
   pub split_here : map statement_of xs ≡ front ++ statement_of d ∷ map statement_of (drop (i + 1) xs)
-  split_here = ap (map statement_of) (front_and_rest xs i) ∙ map-append statement_of (take i xs) (drop i xs) ∙ ap (λ (z : List (Define Raw)). front ++ map statement_of z) (left_behind xs i d below is)
+  split_here = ap (map statement_of) (sym (take-append-drop i xs)) ∙ map-append statement_of (take i xs) (drop i xs) ∙ ap (λ (z : List (Define Raw)). front ++ map statement_of z) (left_behind xs i d below is)
 
   front_more : take (i + 1) xs ≡ take i xs ++ d ∷ []
   front_more = take_more xs i d below ∙ ap (λ (e : Define Raw). take i xs ++ e ∷ []) (sym is)
