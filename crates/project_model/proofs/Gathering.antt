@@ -84,13 +84,6 @@ module _ (names : List (List ℕ)) (leaf : Raw) (table : List (List ℕ)) (short
       few true = omega arith
       few false = omega (arith, length-append table (symbol_of leaf ∷ []))
 
-pub symbol_some : (names : List (List ℕ)) (leaf : Raw) → is_symbol names leaf ≡ true → 0 < length (symbol_of leaf)
-symbol_some names leaf passes = by (nat_lt 0 (length (symbol_of leaf))) refl passes
-  where
-    by : (b : Bool) → nat_lt 0 (length (symbol_of leaf)) ≡ b → (b && not (names_one_of names leaf)) ≡ true → 0 < length (symbol_of leaf)
-    by true e passes = grind (arith, nat_tests)
-    by false e passes = cc
-
 -- what is listed of each leaf is listed of the leaves
 module _ {A B : Type 0} (of : A → List B) where
   abbrev alone : A → List A

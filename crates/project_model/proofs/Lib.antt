@@ -4,3 +4,4 @@ mod Rows
 mod Texts
 mod NameSteps
 mod Gathering
+mod BuiltRows
