@@ -1,10 +1,13 @@
 -- Loops over expressions and over operands of a row that ask of each whether it is built.
-use Rattle.std.proofs.Common.{◌≡◌, ◌↔◌, ◌+◌, ◌<◌, ◌≤◌, ℕ, Bool, true, false, IsTrue, List, [], ◌∷◌, map, drop, length, get_or, refl, sym, ap, subst, arith}
+use Rattle.std.proofs.Common.{◌≡◌, ◌↔◌, ◌+◌, ◌<◌, ◌≤◌, ℕ, Bool, true, false, IsTrue, List, [], ◌∷◌, map, drop, length, get_or, refl, sym, ap, subst, ◌∙◌, ◌&&◌, arith}
+use Rattle.std.specs.Borrow.{Bor}
+use Rattle.std.specs.List.{list_all}
 use Rattle.regex_ast.specs.Terms.{term, terms_of, links_of}
 use Rattle.regex_ast.specs.declared.expr.Raw.{Raw}
 use Rattle.regex_ast.specs.declared.expr.Expr.{Expr}
 use Rattle.regex_ast.specs.declared.expr.Link.{Link, Or, And, Less}
 use Rattle.fsm_meaning.specs.Built.{IsBuilt, AreBuilt, AreBuiltLinks}
+use Rattle.project_model.specs.Leaves.{seen}
 use Rattle.project_model.proofs.Behind.{left_behind, none_left}
 
 -- the first is built, and so are the others
@@ -48,3 +51,16 @@ module _ (links : List (Link Raw)) (i : ℕ) (link : Link Raw) (below : i < leng
 
 pub links_end : (links : List (Link Raw)) (i : ℕ) → length links ≤ i → LinksBuilt (drop i links) ↔ LinksBuilt links → LinksBuilt links
 links_end links i over so_far = so_far.0 (subst LinksBuilt (sym (none_left links i over)) tt)
+
+module _ (test : Raw → Bool) (leaves : List (Bor Raw)) (i : ℕ) (leaf : Bor Raw) (below : i < length leaves) (is : leaf ≡ get_or leaves i leaf) where
+  abbrev all_of : List (Bor Raw) → Bool
+  all_of z = list_all test (seen z)
+
+  first_tested : (b : Bool) → test leaf.now ≡ b → all_of (drop i leaves) ≡ (b && all_of (drop (i + 1) leaves))
+  first_tested b tested = ap all_of (left_behind leaves i leaf below is) ∙ ap (λ (b : Bool). b && all_of (drop (i + 1) leaves)) tested
+
+  pub all_more : test leaf.now ≡ true → all_of (drop i leaves) ≡ all_of leaves → all_of (drop (i + 1) leaves) ≡ all_of leaves
+  all_more tested so_far = sym (first_tested true tested) ∙ so_far
+
+  pub all_never : test leaf.now ≡ false → all_of (drop i leaves) ≡ all_of leaves → false ≡ all_of leaves
+  all_never tested so_far = sym (first_tested false tested) ∙ so_far

@@ -5,3 +5,4 @@ mod Texts
 mod NameSteps
 mod Gathering
 mod BuiltRows
+pub mod Alphabets

@@ -30,19 +30,22 @@ why_refused file statements f (Refused found) says is = subst (λ (g : Fault). S
 why_refused file statements f (Memory refused) says is = tt
 
 module _ (xs : List (Define Raw)) (i : ℕ) (d : Define Raw) (below : i < length xs) (is : d ≡ get_or xs i d) where
-  abbrev front : List Statement
+  abbrev pub front : List Statement
   front = map statement_of (take i xs)
 
+  -- the statements before a definition, its own, and those behind it
   pub split_here : map statement_of xs ≡ front ++ statement_of d ∷ map statement_of (drop (i + 1) xs)
   split_here = ap (map statement_of) (sym (take-append-drop i xs)) ∙ map-append statement_of (take i xs) (drop i xs) ∙ ap (λ (z : List (Define Raw)). front ++ map statement_of z) (left_behind xs i d below is)
 
   front_more : take (i + 1) xs ≡ take i xs ++ d ∷ []
   front_more = take_more xs i d below ∙ ap (λ (e : Define Raw). take i xs ++ e ∷ []) (sym is)
 
+  pub statements_more : map statement_of (take (i + 1) xs) ≡ front ++ statement_of d ∷ []
+  statements_more = ap (map statement_of) front_more ∙ map-append statement_of (take i xs) (d ∷ [])
+
   pub names_more : defined_by (map statement_of (take (i + 1) xs)) ≡ defined_by front ++ d.name ∷ []
   names_more =
-      ap (λ z. defined_by (map statement_of z)) front_more
-      ∙ ap defined_by (map-append statement_of (take i xs) (d ∷ []))
+      ap defined_by statements_more
       ∙ ap names_of (map-append definition_of front (statement_of d ∷ []))
       ∙ map-append (λ (d : Definition). d.name) (definitions_of front) (definition_of (statement_of d) ∷ [])
 

@@ -19,26 +19,30 @@ symbols_below (suc n) = symbols_below n ++ record { 0 = n } ∷ []
 abbrev pub numbered : List (List ℕ) → List (Sym × List ℕ)
 numbered texts = listed texts (symbols_below (length texts))
 
--- the project, and its alphabet with the numbers of the symbols
+-- the definitions as trees, and the alphabet with the numbers of the symbols
 pub record PlanView : Type 0 where
-  pub project : Project
+  pub defines : List (Define Raw)
   pub alphabet : List (Sym × List ℕ)
+
+-- the definition of a tree
+abbrev pub defined : Define Raw → Definition
+defined define = record { name = define.name; term = term define.expr }
+
+-- the project that is planned
+abbrev pub project_in : PlanView → Project
+project_in plan = record { alphabet = texts_of plan.alphabet; definitions = map defined plan.defines }
 
 -- the form of the definition is built, and its symbols are of the alphabet
 pub record IsCompiledOver (alphabet : List (List ℕ)) (d : Definition) : Type 0 where
   pub built : IsBuilt d.term
   pub symbols : All (Contains alphabet) (symbols_in d.term)
 
+-- the symbols are numbered in turn, and each definition has a name of its own and is compiled
 pub record IsPlan (plan : PlanView) : Type 0 where
   pub formed : IsAlphabet plan.alphabet
-  pub same : plan.project.alphabet ≡ texts_of plan.alphabet
-  pub in_turn : plan.alphabet ≡ numbered plan.project.alphabet
-  pub distinct : IsDistinct (names_of plan.project.definitions)
-  pub compiled : All (IsCompiledOver plan.project.alphabet) plan.project.definitions
-
--- the definition of a tree
-abbrev pub defined : Define Raw → Definition
-defined define = record { name = define.name; term = term define.expr }
+  pub in_turn : plan.alphabet ≡ numbered (texts_of plan.alphabet)
+  pub distinct : IsDistinct (names_of (project_in plan).definitions)
+  pub compiled : All (IsCompiledOver (texts_of plan.alphabet)) (project_in plan).definitions
 
 -- the tree defines the name in the project and no other definition does, and it can be compiled
 pub record IsFound (project : Project) (name : List ℕ) (define : Define Raw) : Type 0 where

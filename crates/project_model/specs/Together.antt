@@ -7,7 +7,7 @@ use Rattle.regex_ast.specs.declared.fault.Why.TheVariants as why
 use Rattle.regex_reader.specs.Files.{Statement, FaultAt}
 use Rattle.fsm_meaning.specs.Built.{IsCompiled}
 use Rattle.fsm_meaning.specs.Projects.{Project, Definition, names_of, alphabet_of, project_of}
-use Rattle.project_model.specs.Plans.{PlanView, IsPlan}
+use Rattle.project_model.specs.Plans.{PlanView, IsPlan, project_in}
 use Rattle.project_model.specs.declared.plan_error.PlanError.{PlanError}
 use Rattle.project_model.specs.declared.plan_error.PlanError.TheVariants.{Refused, Memory}
 
@@ -77,5 +77,5 @@ IsRefusal fault (Memory refused) = ⊤
 
 -- the plan of the statements of a file of this name, their first fault, or want of memory
 abbrev pub IsPlanned : List ℕ → List Statement → Result PlanView PlanError → Type 0
-IsPlanned name statements (Ok plan) = SayTogether name statements (Ok plan.project) × IsPlan plan
+IsPlanned name statements (Ok plan) = SayTogether name statements (Ok (project_in plan)) × IsPlan plan
 IsPlanned name statements (Err error) = IsWhyNoPlan name statements error

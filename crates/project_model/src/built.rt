@@ -1,8 +1,11 @@
 ghost use Rattle.std.specs.Prelude.{◌≡◌, ◌↔◌, All, map, IfOk, IsTrue, MatchOption};
+ghost use Rattle.std.specs.List.{list_all};
 ghost use Rattle.regex_ast.specs.Terms.{term, terms_of, links_of};
 ghost use Rattle.regex_reader.specs.Files.{statement_of};
 ghost use Rattle.fsm_meaning.specs.Built.{AreBuilt, AreBuiltLinks, IsBuilt, IsCompiled, IsRepeating};
 ghost use Rattle.fsm_meaning.specs.OnePair.{IsLeaf};
+ghost use Rattle.fsm_meaning.specs.Projects.{is_symbol};
+ghost use Rattle.project_model.specs.Leaves.{seen};
 ghost use Rattle.project_model.specs.Together.{FirstNotBuilt, IsCompiledIn, defined_by};
 
 use crate::leaves::leaves;
@@ -96,6 +99,18 @@ fn are_built_links(links: &[Link<Raw>]) -> bool
     true
 }
 
+/// Whether all leaves are symbols where these names are defined.
+fn are_symbols(leaves: &[&Raw], names: &Names) -> bool
+    ensures { result ≡ list_all (is_symbol names.now) (seen leaves.now) }
+{
+    'leaves: for leaf in leaves {
+        if !names.is_symbol(leaf) {
+            return false;
+        }
+    }
+    true
+}
+
 /// Whether an expression is compiled where these names are defined.
 fn is_compiled(alloc: Global, names: &Names, expr: &Expr<Raw>) -> Result<bool, AllocError>
     ensures { IfOk result (λ compiled. IsTrue compiled ↔ IsCompiled names.now (term expr.now)) }
@@ -103,8 +118,7 @@ fn is_compiled(alloc: Global, names: &Names, expr: &Expr<Raw>) -> Result<bool, A
     if !is_built(expr) {
         return Ok(false);
     }
-    let leaves = leaves(alloc, expr)?;
-    Ok(leaves.iter().all(|leaf| names.is_symbol(leaf)))
+    Ok(are_symbols(&leaves(alloc, expr)?, names))
 }
 
 /// The line of the first definition that isn't compiled, or `None` where all are.

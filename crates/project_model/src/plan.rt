@@ -1,8 +1,8 @@
 ghost use Rattle.std.specs.Prelude.{◌≡◌, length, map, IfOk, MatchOption};
-ghost use Rattle.fsm_base.specs.Alphabet.{IsAlphabet};
+ghost use Rattle.fsm_base.specs.Alphabet.{IsAlphabet, texts_of};
 ghost use Rattle.fsm_meaning.specs.Projects.{Defines};
 ghost use Rattle.regex_reader.specs.Files.{statement_of};
-ghost use Rattle.project_model.specs.Plans.{AreNames, IsFound, IsPlan, numbered, symbols_below};
+ghost use Rattle.project_model.specs.Plans.{AreNames, IsFound, IsPlan, numbered, project_in, symbols_below};
 ghost use Rattle.project_model.specs.Together.{IsPlanned, IsWhyNoPlan};
 
 use crate::built::first_not_built;
@@ -14,8 +14,8 @@ use regex_ast::{Define, Raw, Why};
 use std::alloc::{AllocError, Global};
 use std::marker::Model;
 
-/// The definitions of a project without fault, and its alphabet. Contracts see the project, and its alphabet with
-/// the numbers of the symbols.
+/// The definitions of a project without fault, and its alphabet. Contracts see the definitions as trees, and the
+/// alphabet with the numbers of the symbols.
 #[derive(Drop)]
 pub struct Plan {
     definitions: Vec<Define<Raw>>,
@@ -25,15 +25,23 @@ pub struct Plan {
 }
 
 impl Model for Plan {
-    ghost use Rattle.std.specs.Prelude.{◌≡◌, map};
-    ghost use Rattle.fsm_meaning.specs.Projects.{names_of};
-    ghost use Rattle.project_model.specs.Plans.{IsPlan, PlanView, defined};
+    ghost use Rattle.regex_ast.specs.contracts.expr.Define as define;
+    ghost use Rattle.regex_ast.specs.contracts.expr.Raw as raw;
+    ghost use Rattle.std.specs.Coded.{codes};
+    ghost use Rattle.project_model.specs.Plans.{PlanView};
 
     ghost Value = { PlanView };
 
-    ghost view = { λ p. record { project = record { alphabet = p.table; definitions = map defined p.definitions.items }; alphabet = p.alphabet } };
+    ghost coded = { Prim.hlevel (codes, (define.the_row raw.the_row).coded) };
 
-    ghost invariant = { λ p. IsPlan (record { project = record { alphabet = p.table; definitions = map defined p.definitions.items }; alphabet = p.alphabet }) × (p.names ≡ names_of (map defined p.definitions.items)) };
+    ghost use Rattle.std.specs.Prelude.{◌≡◌, map};
+    ghost use Rattle.fsm_base.specs.Alphabet.{texts_of};
+    ghost use Rattle.fsm_meaning.specs.Projects.{names_of};
+    ghost use Rattle.project_model.specs.Plans.{IsPlan, defined};
+
+    ghost view = { λ p. record { defines = p.definitions.items; alphabet = p.alphabet } };
+
+    ghost invariant = { λ p. IsPlan (record { defines = p.definitions.items; alphabet = p.alphabet }) × (p.names ≡ names_of (map defined p.definitions.items)) × (p.table ≡ texts_of p.alphabet) };
 }
 
 impl Plan {
@@ -47,7 +55,7 @@ impl Plan {
 
     /// The table of the symbols of the project, each under its number.
     pub fn table(&self) -> &SymbolTable
-        ensures table { result.now ≡ self.now.project.alphabet }
+        ensures table { result.now ≡ texts_of self.now.alphabet }
         ensures formed { IsPlan self.now }
     {
         &self.table
@@ -55,7 +63,7 @@ impl Plan {
 
     /// The definition of a name, or `None` where the project doesn't define the name.
     pub fn find(&self, name: &str) -> Option<&Define<Raw>>
-        ensures { MatchOption result (¬ (Defines self.now.project name.now)) (λ define. IsFound self.now.project name.now define.now) }
+        ensures { MatchOption result (¬ (Defines (project_in self.now) name.now)) (λ define. IsFound (project_in self.now) name.now define.now) }
     {
         let place = self.names.place_of(name)?;
         self.definitions.get(place)
@@ -63,7 +71,7 @@ impl Plan {
 
     /// The names of the project in the order of their bytes.
     pub fn names(&self, alloc: Global) -> Result<Vec<Text>, AllocError>
-        ensures { IfOk result (λ names. AreNames self.now.project names.items) }
+        ensures { IfOk result (λ names. AreNames (project_in self.now) names.items) }
     {
         let mut names = Vec::new(alloc);
         'definitions: for define in &self.definitions {
