@@ -25,7 +25,7 @@ with_text_behind text table = by (list_any (bytes_eq text) table)
     by true = ([], sym (append-nil table))
     by false = (text ∷ [], refl)
 
-with_texts_behind : (texts table : List (List ℕ)) → (more : List (List ℕ)) × (with_texts table texts ≡ table ++ more)
+pub with_texts_behind : (texts table : List (List ℕ)) → (more : List (List ℕ)) × (with_texts table texts ≡ table ++ more)
 with_texts_behind [] table = ([], sym (append-nil table))
 with_texts_behind (text ∷ texts) table =
     let one = with_text_behind text table in

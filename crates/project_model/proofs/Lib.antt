@@ -6,3 +6,5 @@ mod NameSteps
 mod Gathering
 mod BuiltRows
 pub mod Alphabets
+mod Ordered
+mod Planning

@@ -1,6 +1,6 @@
 -- Whether a list of texts has a text, and at which place.
-use Rattle.std.proofs.Common.{◌≡◌, ℕ, ◌+◌, ◌<◌, Bool, true, false, cond, ◌||◌, List, [], ◌∷◌, ◌++◌, map, length, Option, Some, None, MatchOption, IfSome, refl, sym, ap, subst, ◌∙◌, inl, inr, true≢false, arith, String}
-use Rattle.std.proofs.lemmas.List.{length-map}
+use Rattle.std.proofs.Common.{◌≡◌, ℕ, ◌+◌, ◌<◌, Bool, true, false, cond, not, suc, ◌||◌, List, [], ◌∷◌, ◌++◌, map, length, Option, Some, None, MatchOption, slice_get, refl, sym, ap, subst, ◌∙◌, inl, inr, true≢false, arith, String}
+use Rattle.std.proofs.lemmas.List.Elements.{Contains-append_right}
 use Rattle.std.proofs.lemmas.Option.{cond_some}
 use Rattle.std.proofs.lemmas.Slice.Eq.{bytes_eq-Decides}
 use Rattle.std.specs.List.{Contains, list_any, position, position_or_len}
@@ -38,11 +38,32 @@ not_had text texts none among = absurd (true≢false (sym (any_from_has text tex
 pub with_text-new : (text : List ℕ) (texts : List (List ℕ)) → list_any (bytes_eq text) texts ≡ false → with_text text texts ≡ texts ++ text ∷ []
 with_text-new text texts none = ap (λ b. cond b texts (texts ++ text ∷ [])) none
 
+-- a text that a list has stands at its number
+pub number_held : (text : List ℕ) (texts : List (List ℕ)) → list_any (bytes_eq text) texts ≡ true → slice_get texts (number_of text texts) ≡ Some text
+number_held text [] any = cc
+number_held text (t ∷ texts) any = by (bytes_eq text t) refl (number_held text texts)
+  where
+    one_more : (n : ℕ) → 1 + n ≡ suc n
+    one_more n = omega arith
+
+    by : (b : Bool) → bytes_eq text t ≡ b → (list_any (bytes_eq text) texts ≡ true → slice_get texts (number_of text texts) ≡ Some text) → slice_get (t ∷ texts) (number_of text (t ∷ texts)) ≡ Some text
+    by true e rest = subst (λ b. slice_get (t ∷ texts) (cond (not b) (1 + number_of text texts) 0) ≡ Some text) (sym e) (ap (λ (x : List ℕ). Some x) (sym ((bytes_eq-Decides text t).0 e)))
+    by false e rest =
+        let behind = rest (subst (λ (b : Bool). (b || list_any (bytes_eq text) texts) ≡ true) e any) in
+        subst (λ b. slice_get (t ∷ texts) (cond (not b) (1 + number_of text texts) 0) ≡ Some text) (sym e) (subst (λ n. slice_get (t ∷ texts) n ≡ Some text) (sym (one_more (number_of text texts))) behind)
+
+-- a table has a text that is put into it
+pub text_with : (text : List ℕ) (texts : List (List ℕ)) → Contains (with_text text texts) text
+text_with text texts = by (list_any (bytes_eq text) texts) refl
+  where
+    by : (b : Bool) → list_any (bytes_eq text) texts ≡ b → Contains (with_text text texts) text
+    by true e = subst (λ b. Contains (cond b texts (texts ++ text ∷ [])) text) (sym e) (has_from_any text texts e)
+    by false e = subst (λ b. Contains (cond b texts (texts ++ text ∷ [])) text) (sym e) (Contains-append_right texts (text ∷ []) text (Contains-head text []))
+
 -- the place of a text among strings
-pub placed : {Y : Type 0} (text : List ℕ) (ks : List (String Y)) (place : Option ℕ) → place ≡ position (λ k. bytes_eq text (string_bytes k)) ks → is_some place ≡ list_any (λ k. bytes_eq text (string_bytes k)) ks → IfSome place (λ i. i < length ks)
-    → MatchOption place (list_any (bytes_eq text) (map string_bytes ks) ≡ false) (λ i. (i ≡ number_of text (map string_bytes ks)) × (i < length (map string_bytes ks)))
-placed text ks None index found within = sym (list_any-strings text ks) ∙ sym found
-placed text ks (Some i) index found within = (
-  sym (cond_some _ _ _ (sym index)).1 ∙ position_or_len-strings text ks,
-  omega (arith, within, length-map ks string_bytes),
-)
+pub placed : {Y : Type 0} (text : List ℕ) (ks : List (String Y)) (place : Option ℕ) → place ≡ position (λ k. bytes_eq text (string_bytes k)) ks → is_some place ≡ list_any (λ k. bytes_eq text (string_bytes k)) ks
+    → MatchOption place (list_any (bytes_eq text) (map string_bytes ks) ≡ false) (λ i. slice_get (map string_bytes ks) i ≡ Some text)
+placed text ks None index found = sym (list_any-strings text ks) ∙ sym found
+placed text ks (Some i) index found =
+    let number = sym (cond_some _ _ _ (sym index)).1 ∙ position_or_len-strings text ks in
+    subst (λ n. slice_get (map string_bytes ks) n ≡ Some text) (sym number) (number_held text (map string_bytes ks) (sym (list_any-strings text ks) ∙ sym found))

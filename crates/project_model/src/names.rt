@@ -1,7 +1,7 @@
-ghost use Rattle.std.specs.Prelude.{◌≡◌, ◌<◌, false, not, [], length, map, MatchOption, IfOk, IfErr, OnOk};
+ghost use Rattle.std.specs.Prelude.{◌≡◌, Some, false, not, [], length, map, slice_get, MatchOption, IfOk, IfErr, OnOk};
 ghost use Rattle.std.specs.List.{list_any};
 ghost use Rattle.std.specs.Str.{bytes_eq};
-ghost use Rattle.fsm_base.specs.Symbols.{number_of, with_text};
+ghost use Rattle.fsm_base.specs.Symbols.{with_text};
 ghost use Rattle.fsm_words.specs.Words.{IsDistinct};
 ghost use Rattle.fsm_meaning.specs.Projects.{is_symbol};
 ghost use Rattle.regex_reader.specs.Files.{statement_of};
@@ -74,7 +74,7 @@ impl Names {
 
     /// The place of a name, counted from 0, or `None` where it's none of them.
     pub fn place_of(&self, name: &str) -> Option<usize>
-        ensures { MatchOption result (list_any (bytes_eq name.now) self.now ≡ false) (λ place. (place ≡ number_of name.now self.now) × (place < length self.now)) }
+        ensures { MatchOption result (list_any (bytes_eq name.now) self.now ≡ false) (λ place. slice_get self.now place ≡ Some name.now) }
     {
         self.texts.get_index_of(name)
     }

@@ -66,7 +66,7 @@ impl Plan {
         ensures { MatchOption result (¬ (Defines (project_in self.now) name.now)) (λ define. IsFound (project_in self.now) name.now define.now) }
     {
         let place = self.names.place_of(name)?;
-        self.definitions.get(place)
+        Some(&self.definitions[place])
     }
 
     /// The names of the project in the order of their bytes.
