@@ -6,7 +6,7 @@ use Rattle.regex_ast.specs.declared.expr.Expr.{Rules, items_hidden-the_row-Conte
 use Rattle.regex_ast.specs.declared.expr.Expr.TheViews.{out-RuleSet, roll-RuleSet, roll-out-RuleSet, out-Group, roll-Group, roll-out-Group}
 use Rattle.regex_ast.specs.declared.expr.RuleSet.{RuleSet, RuleSet', items-the_row-Group, items_hidden-the_row-Group-5}
 use Rattle.regex_ast.specs.declared.expr.Group.{Group, items_hidden-the_row-Mapping-4}
-use Rattle.regex_ast.proofs.Rows.{term-Rules}
+use Rattle.regex_ast.proofs.Rows.{term-RuleSet}
 
 abbrev groups_in : RuleSet Raw → List (Group Raw)
 groups_in (RuleSet' optional shape row) = items-the_row-Group Raw _ row
@@ -20,7 +20,7 @@ optional_in (RuleSet' optional shape row) = optional
 
 -- what stands for a set of rules
 pub term_rules : (r : RuleSet Raw) → term (Rules r) ≡ rules (optional_in r) (groups_of (out-RuleSet Raw r).groups.items)
-term_rules r = term-Rules r ∙ ap (λ gs. rules (optional_in r) (groups_of gs)) (groups_in_is r)
+term_rules r = term-RuleSet r ∙ ap (λ gs. rules (optional_in r) (groups_of gs)) (groups_in_is r)
 
 pub maps_of_is : (g : Group Raw) → maps_of g ≡ (out-Group Raw g).maps.items
 unfolding roll-Group denote.Hole.Carrier.roll
