@@ -1,5 +1,5 @@
 -- What the tokens are behind an operator.
-use Rattle.std.proofs.Common.{◌≡◌, ◌↔◌, Bool, true, false, cond, Some, None, List, [], ◌∷◌, refl, sym, ap, subst, ◌∙◌, rules}
+use Rattle.std.proofs.Common.{◌≡◌, ◌↔◌, Bool, true, false, cond, Some, None, List, [], ◌∷◌, refl, sym, ap, ◌∙◌, rules}
 use denote.Enum.Bare.{sameb, same_true, true_same}
 use Rattle.regex_tokens.specs.contracts.token.Operator.{the_type}
 use Rattle.regex_tokens.specs.Fronts.{is_operator, after}

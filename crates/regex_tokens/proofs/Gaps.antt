@@ -1,6 +1,6 @@
 -- The blanks and comments in front of a text.
-use Rattle.std.proofs.Common.{◌≡◌, ◌≢◌, ◌≤◌, ◌<◌, ℕ, zero, suc, ◌+◌, ◌-◌, Bool, true, false, cond, not, ◌&&◌, ◌||◌, ◌==◌, List, [], ◌∷◌, ◌++◌, length, take, drop, Some, None, refl, sym, ap, subst, ◌∙◌, arith, append_assoc, append-nil, length-append}
-use Rattle.std.specs.List.{list_all, prefix_len}
+use Rattle.std.proofs.Common.{◌≡◌, ◌≤◌, ◌<◌, ℕ, ◌+◌, ◌-◌, Bool, true, false, cond, not, ◌==◌, List, [], ◌∷◌, ◌++◌, length, take, drop, Some, None, refl, sym, ap, subst, ◌∙◌, arith, length-append}
+use Rattle.std.specs.List.{prefix_len}
 use Rattle.std.specs.Str.{IsUtf8, IsCharBoundary}
 use Rattle.std.proofs.lemmas.Str.{IsCharBoundary-after_ascii}
 use Rattle.std.proofs.lemmas.List.Sums.{prefix_len-le-length}
@@ -8,7 +8,7 @@ use Rattle.std.proofs.lemmas.Bool.Decides.{Decides-eqb, nat_tests}
 use Rattle.regex_tokens.specs.Bytes.{begins, is_blank, begins_comment}
 use Rattle.regex_tokens.specs.Cuts.{gap_from, behind_gap_from, gap, behind_gap}
 use Rattle.regex_tokens.specs.Reading.{gap_step, left}
-use Rattle.regex_tokens.proofs.Lists.{and_left, and_right, false_by, drop-prefix_len, begins-left, suc_of}
+use Rattle.regex_tokens.proofs.Lists.{drop-prefix_len, begins-left}
 use Rattle.regex_tokens.proofs.Utf8.{blank_is_ascii, boundary_by}
 
 -- a gap and what is behind it make up the text

@@ -1,22 +1,19 @@
 -- The longest operator at the front of a text.
-use Rattle.std.proofs.Common.{◌≡◌, ◌≢◌, ◌≤◌, ◌<◌, ℕ, zero, suc, ◌+◌, Bool, true, false, cond, not, ◌&&◌, ◌||◌, ◌==◌, nat_eq, nat_le, List, [], ◌∷◌, ◌++◌, length, take, drop, Option, Some, None, refl, sym, ap, subst, ◌∙◌, inl, inr, arith, append_assoc, append-nil, length-append}
+use Rattle.std.proofs.Common.{◌≡◌, ◌≤◌, ℕ, ◌+◌, Bool, true, false, cond, not, ◌&&◌, ◌||◌, ◌==◌, nat_eq, nat_le, List, [], ◌∷◌, ◌++◌, length, drop, Option, Some, None, refl, sym, ap, subst, ◌∙◌, inl, inr, arith, append_assoc, length-append}
 use Rattle.std.specs.List.{list_all, starts_with}
 use Rattle.std.specs.Str.{IsUtf8, bytes_eq}
-use Rattle.std.specs.Bool.{Decides}
 use Rattle.std.proofs.lemmas.Slice.Eq.{starts_is, bytes_eq-Decides}
 use Rattle.std.proofs.lemmas.Bool.Decides.{Decides-eqb, nat_tests}
 use Rattle.regex_tokens.specs.Bytes.{begins, is_blank, is_sign}
 use Rattle.regex_tokens.specs.Spelling.{spelling, IsSpaced, Spells}
-use Rattle.regex_tokens.specs.Cuts.{IsLongest}
 use Rattle.regex_tokens.specs.Reading.{longest_first, first_of, closes, spaced_by, spaced_at, HasNone, IsRead, taken, left}
 use Rattle.regex_tokens.specs.declared.token.Operator.{Operator}
 use Rattle.regex_tokens.specs.declared.token.Operator.TheVariants.{OpenSquare, CloseSquare, OpenRound, CloseRound, Optional, Arrow, Only, UpUp, Bar, LowUp, Slash, UpLow, LowLow, Backslash, Ampersand, Minus, Tilde, Dollar, Star, Plus, Caret, Colon, Semicolon, GroupComma, Comma, Question, Underscore, Dots, CrossWith, Then, Upper, Lower, Inverse, Reverse, Edge, Insertion}
 use Rattle.regex_tokens.specs.declared.token.Token.{Token}
 use Rattle.regex_tokens.specs.declared.token.Token.TheVariants.{Operator as operator, Quoted as quoted, Braced as braced, Run as run}
-use Rattle.regex_tokens.proofs.Lists.{and_left, and_right, and_true, false_by, taken-left, list_all-taken, begins-left, split_once, taken-front, left-front}
-use Rattle.regex_tokens.proofs.Cases.{either_way}
-use Rattle.regex_tokens.proofs.Spells.{Kind, sign, quote, brace, piece, Head, sign_head, kind_here, spaced_is, spaced_any, read_some}
-use Rattle.regex_tokens.proofs.Utf8.{is_ascii, past_ascii, blank_is_ascii}
+use Rattle.regex_tokens.proofs.Lists.{and_left, and_right, and_true, false_by, taken-left, list_all-taken, taken-front, left-front}
+use Rattle.regex_tokens.proofs.Spells.{sign, quote, brace, piece, sign_head, kind_here, spaced_any, read_some}
+use Rattle.regex_tokens.proofs.Utf8.{is_ascii, past_ascii}
 
 starts : (text p : List ℕ) → starts_with nat_eq text p ≡ true → text ≡ p ++ drop (length p) text
 starts text p e = (starts_is Decides-eqb text p true (sym e)).0 refl

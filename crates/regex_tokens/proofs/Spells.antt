@@ -1,12 +1,12 @@
 -- Tokens are told apart by their first byte. The longest token of each kind, quotes, braces and runs.
-use Rattle.std.proofs.Common.{◌≡◌, ◌≢◌, ◌≤◌, ◌<◌, ℕ, zero, suc, ◌+◌, Bool, true, false, cond, not, ◌&&◌, ◌||◌, ◌==◌, List, [], ◌∷◌, ◌++◌, length, take, drop, refl, sym, ap, subst, ◌∙◌, inl, inr, arith, append_assoc, append-nil, length-append, None, Some}
+use Rattle.std.proofs.Common.{◌≡◌, ◌≢◌, ◌≤◌, ◌<◌, ℕ, ◌+◌, Bool, true, false, not, ◌||◌, ◌==◌, List, [], ◌∷◌, ◌++◌, length, take, drop, refl, sym, ap, subst, ◌∙◌, inl, inr, arith, append_assoc, length-append, Some}
 use Rattle.std.specs.List.{list_all, list_any, concat, prefix_len}
 use Rattle.std.specs.Str.{IsUtf8, IsCharBoundary}
 use Rattle.std.proofs.lemmas.Str.{IsCharBoundary-at_seam, IsUtf8-drop}
 use Rattle.std.proofs.lemmas.Bool.Decides.{Decides-eqb}
 use Rattle.std.proofs.lemmas.List.{take-append-drop}
-use Rattle.regex_tokens.specs.Bytes.{begins, is_blank, is_sign, is_run_byte, is_quoted_byte, is_braced_byte, is_character}
-use Rattle.regex_tokens.specs.Spelling.{spelling, IsSpaced, Piece, plain, escaped, is_piece, is_escape, written, meant, IsQuoted, IsBraced, IsRun, Spells}
+use Rattle.regex_tokens.specs.Bytes.{begins, is_sign, is_run_byte, is_quoted_byte, is_braced_byte, is_character}
+use Rattle.regex_tokens.specs.Spelling.{spelling, IsSpaced, Piece, plain, escaped, is_piece, written, meant, IsQuoted, IsBraced, IsRun, Spells}
 use Rattle.regex_tokens.specs.Cuts.{IsLongest}
 use Rattle.regex_tokens.specs.Reading.{piece_len, IsPiecesLen, undone_from, HasNone, IsRead, taken, left}
 use Rattle.regex_tokens.specs.declared.token.Run.{Run}
@@ -14,9 +14,9 @@ use Rattle.regex_tokens.specs.declared.token.Operator.{Operator}
 use Rattle.regex_tokens.specs.declared.token.Operator.TheVariants.{OpenSquare, CloseSquare, OpenRound, CloseRound, Optional, Arrow, Only, UpUp, Bar, LowUp, Slash, UpLow, LowLow, Backslash, Ampersand, Minus, Tilde, Dollar, Star, Plus, Caret, Colon, Semicolon, GroupComma, Comma, Question, Underscore, Dots, CrossWith, Then, Upper, Lower, Inverse, Reverse, Edge, Insertion}
 use Rattle.regex_tokens.specs.declared.token.Token.{Token}
 use Rattle.regex_tokens.specs.declared.token.Token.TheVariants.{Operator as operator, Quoted as quoted, Braced as braced, Run as run}
-use Rattle.regex_tokens.proofs.Lists.{and_left, and_right, and_true, false_by, taken-left, list_all-taken, begins-left, split_once, take-prefix_len, drop-prefix_len}
+use Rattle.regex_tokens.proofs.Lists.{and_left, false_by, list_all-taken, begins-left, split_once, take-prefix_len, drop-prefix_len}
 use Rattle.regex_tokens.proofs.Pieces.{begins_fine, Reach, reach, once, undone-written, escape_shows}
-use Rattle.regex_tokens.proofs.Utf8.{past_ascii, ascii_test, boundary_by, stop_here, quoted_boundary, pieces_boundary, run_stops, braced_stops}
+use Rattle.regex_tokens.proofs.Utf8.{past_ascii, ascii_test, quoted_boundary, pieces_boundary, run_stops, braced_stops}
 
 -- Kinds.
 
@@ -152,8 +152,7 @@ drop-front (b ∷ front) rest = drop-front front rest
 pub read_some : (text : List ℕ) (t : Token) (front rest : List ℕ) (n : ℕ) → IsLongest text t front rest → length front ≡ n → IsUtf8 rest → IsRead text (Some (t, n))
 read_some text t front rest n h e utf8 =
     let same_front : take n text ≡ front = sym (ap (λ k. take k text) e) ∙ ap (take (length front)) h.stands ∙ take-front front rest in
-    let same_rest : drop n text ≡ rest = sym (ap (λ k. drop k text) e) ∙ ap (drop (length front)) h.stands ∙ drop-front front rest in
-    (
+    let same_rest : drop n text ≡ rest = sym (ap (λ k. drop k text) e) ∙ ap (drop (length front)) h.stands ∙ drop-front front rest in (
       subst (λ bs. IsLongest text t (take n text) bs) (sym same_rest) (subst (λ bs. IsLongest text t bs rest) (sym same_front) h),
       subst (IsCharBoundary text) e (IsCharBoundary-at_seam text front rest h.stands utf8),
     )

@@ -1,11 +1,11 @@
 -- A text has one cut.
-use Rattle.std.proofs.Common.{◌≡◌, ◌≢◌, ◌≤◌, ◌<◌, ℕ, zero, suc, ◌+◌, Bool, true, false, cond, not, List, [], ◌∷◌, ◌++◌, length, take, drop, Option, Some, None, refl, sym, ap, subst, ◌∙◌, ◌⊎◌, inl, inr, arith, append_assoc, append-nil, length-append}
-use Rattle.std.specs.List.{list_all, list_any, concat}
+use Rattle.std.proofs.Common.{◌≡◌, ◌≤◌, ℕ, ◌+◌, true, false, cond, not, List, [], ◌∷◌, ◌++◌, length, take, drop, Option, Some, None, refl, sym, ap, subst, ◌∙◌, ◌⊎◌, inl, inr, arith, append-nil, length-append}
+use Rattle.std.specs.List.{list_any}
 use Rattle.std.specs.Str.{bytes_eq}
 use Rattle.regex_ast.specs.Flags.{IsFlag, IsNegativeFlag}
 use Rattle.regex_tokens.specs.Bytes.{is_quoted_byte, is_braced_byte, is_run_byte}
-use Rattle.regex_tokens.specs.Spelling.{spelling, IsSpaced, Piece, is_escape, written, meant, IsQuoted, IsBraced, IsRun, Spells}
-use Rattle.regex_tokens.specs.Cuts.{IsLongest, IsFirst, HasNoFirst, IsRefused, Cuts, gap, behind_gap, newlines}
+use Rattle.regex_tokens.specs.Spelling.{spelling, IsSpaced, is_escape, written, meant, IsQuoted, IsBraced, IsRun, Spells}
+use Rattle.regex_tokens.specs.Cuts.{IsLongest, IsFirst, HasNoFirst, IsRefused, Cuts, behind_gap, newlines}
 use Rattle.regex_tokens.specs.Reading.{longest_first, is_flag, is_refused, HasNone, IsRead, IsTaken}
 use Rattle.regex_tokens.specs.declared.token.Run.{Run}
 use Rattle.regex_tokens.specs.declared.token.Ending.{Ending}
@@ -19,7 +19,7 @@ use Rattle.regex_tokens.proofs.Lists.{split_once}
 use Rattle.regex_tokens.proofs.Pieces.{once}
 use Rattle.regex_tokens.proofs.Utf8.{characters_once}
 use Rattle.regex_tokens.proofs.Flags.{flag_takes, no_flag}
-use Rattle.regex_tokens.proofs.Spells.{Kind, sign, quote, brace, piece, kind_of, Head, head, kind_here, spaced_is}
+use Rattle.regex_tokens.proofs.Spells.{kind_of, Head, head, kind_here, spaced_is}
 use Rattle.regex_tokens.proofs.Operators.{short}
 
 -- Operators differ in their spelling.

@@ -1,9 +1,9 @@
 -- The loop over the tokens: what was found, and what is behind it.
-use Rattle.std.proofs.Common.{◌≡◌, ◌≢◌, ◌≤◌, ◌<◌, ℕ, zero, suc, ◌+◌, Bool, true, false, cond, not, ◌==◌, List, [], ◌∷◌, ◌++◌, length, take, drop, Option, Some, None, refl, sym, ap, subst, ◌∙◌, arith, append_assoc, append-nil, length-append}
+use Rattle.std.proofs.Common.{◌≡◌, ◌≢◌, ◌≤◌, ◌<◌, ℕ, ◌+◌, false, cond, not, ◌==◌, List, [], ◌∷◌, ◌++◌, length, take, drop, Option, Some, None, refl, sym, ap, subst, ◌∙◌, arith, append_assoc, append-nil, length-append}
 use Rattle.std.specs.Str.{IsCharBoundary}
 use Rattle.regex_tokens.specs.Reading.{IsTaken}
 use Rattle.std.proofs.lemmas.List.{take-append-drop}
-use Rattle.std.proofs.lemmas.List.Sums.{sum_by-append}
+use Rattle.std.proofs.lemmas.List.Sums.{sum_by-append, count_by-le-length}
 use Rattle.regex_tokens.specs.Cuts.{IsFirst, HasNoFirst, Cuts, gap, behind_gap, newlines}
 use Rattle.regex_tokens.specs.declared.token.Ending.{Ending}
 use Rattle.regex_tokens.specs.declared.token.Ending.TheVariants.{Whole, NoToken}
@@ -14,6 +14,9 @@ use Rattle.regex_tokens.proofs.Spells.{Head, head, kind_of}
 
 newlines-append : (xs ys : List ℕ) → newlines (xs ++ ys) ≡ newlines xs + newlines ys
 newlines-append xs ys = sum_by-append (λ b. cond (b == 10) 1 0) xs ys
+
+pub newlines_within : (text : List ℕ) → newlines text ≤ length text
+newlines_within text = count_by-le-length (λ b. b == 10) text
 
 -- Any cut of the rest goes on with what was found to a cut of the text.
 pub record SoFar (line : ℕ) (text : List ℕ) (tokens : List Token) (places : List Place) (here : ℕ) (rest : List ℕ) : Type 0 where

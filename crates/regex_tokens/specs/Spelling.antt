@@ -1,6 +1,6 @@
 -- How the tokens of an xfst text are spelled (Beesley and Karttunen, Finite State Morphology, 2003, chapters 2
 -- and 3). Texts are lists of bytes.
-use Rattle.std.specs.Prelude.{◌≡◌, ℕ, Bool, true, false, IsTrue, ◌⊎◌, ⊤, List, [], ◌∷◌, ◌++◌, codes}
+use Rattle.std.specs.Prelude.{◌≡◌, ℕ, Bool, true, false, IsTrue, ◌⊎◌, List, [], ◌∷◌, ◌++◌, codes}
 use Rattle.std.specs.List.{list_any, list_all, concat}
 use Rattle.regex_tokens.specs.Bytes.{is_blank, is_run_byte, is_escapable, is_quoted_byte, is_braced_byte, is_character}
 use Rattle.regex_tokens.specs.declared.token.Run.{Run}

@@ -3,7 +3,9 @@ ghost use Rattle.regex_tokens.specs.Bytes.{begins, is_run_byte};
 ghost use Rattle.regex_tokens.specs.Cuts.{Cuts, newlines};
 ghost use Rattle.regex_tokens.specs.Reading.{IsRead, IsTaken, is_refused};
 
-use crate::bytes::{ByteClass, begins_with, front_len, has_escape, is_run_byte, newlines, pieces_len};
+use crate::bytes::{
+    ByteClass, begins_with, front_len, has_escape, is_run_byte, newlines, pieces_len,
+};
 use crate::characters::{letters, undone};
 use crate::flag::is_flag;
 use crate::gap::split_gap;

@@ -12,8 +12,12 @@ fn shown_token(alloc: Global, token: &Token) -> Result<String, AllocError> {
     }
 }
 
-/// The tokens of a text that begins in line 1, each with its line, and `'` before what stands apart.
+/// The tokens of a text of at most 99 bytes that begins in line 1, each with its line, and `'` before what stands
+/// apart.
 fn shown(alloc: Global, text: &str) -> Result<String, AllocError> {
+    if text.len() > 99 {
+        return Ok(String::new(alloc));
+    }
     let found = tokens(alloc, text, 1)?;
     let mut shown = String::new(alloc);
     for (token, place) in found.tokens.iter().zip(found.places.iter()) {

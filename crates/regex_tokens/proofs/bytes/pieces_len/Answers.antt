@@ -1,6 +1,6 @@
-use Rattle.std.proofs.Common.{◌≡◌, ◌≢◌, ◌≤◌, ℕ, ◌+◌, length, drop, sym, ap, subst, ◌∙◌, arith, rules, length-drop}
-use Rattle.regex_tokens.specs.Reading.{IsPiecesLen, is_of, piece_len}
-use Rattle.regex_tokens.proofs.Pieces.{no_pieces, piece_within, go_on, past_end, piece_none}
+use Rattle.std.proofs.Common.{sym, ap, ◌∙◌}
+use Rattle.regex_tokens.specs.Reading.{is_of, piece_len}
+use Rattle.regex_tokens.proofs.Pieces.{go_on, past_end, piece_none}
 use Rattle.regex_tokens.proofs.bytes.pieces_len.Goals as goal
 
 pub pieces-preserved : goal.pieces-preserved

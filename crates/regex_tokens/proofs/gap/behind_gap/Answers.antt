@@ -1,4 +1,4 @@
-use Rattle.std.proofs.Common.{◌≡◌, ℕ, Some, length, drop, sym, ap, subst, ◌∙◌, arith, rules, length-drop}
+use Rattle.std.proofs.Common.{sym, ap, subst, ◌∙◌, arith}
 use Rattle.std.specs.Str.{IsUtf8}
 use Rattle.std.proofs.lemmas.Str.{IsUtf8-drop}
 use Rattle.regex_tokens.specs.Cuts.{behind_gap}
@@ -11,8 +11,7 @@ split_at-requires c = (step_some c.gap.rest.now c.in-Some.len c.gap.invariant.1 
 
 pub gap-preserved : goal.gap-preserved
 gap-preserved c =
-    let step : Step c.gap.rest.now c.in-Some.len = step_some c.gap.rest.now c.in-Some.len c.gap.invariant.1 (sym (c.in-Some.ensures ∙ ap gap_step c.as_bytes.ensures.value)) in
-    (
+    let step : Step c.gap.rest.now c.in-Some.len = step_some c.gap.rest.now c.in-Some.len c.gap.invariant.1 (sym (c.in-Some.ensures ∙ ap gap_step c.as_bytes.ensures.value)) in (
       c.gap.invariant.0 ∙ step.same ∙ sym (ap behind_gap c.split_at.ensures.back),
       subst IsUtf8 (sym c.split_at.ensures.back) (IsUtf8-drop c.gap.rest.now c.in-Some.len c.gap.invariant.1 step.cut),
     )

@@ -1,5 +1,4 @@
-use Rattle.std.proofs.Common.{◌≡◌, ◌-◌, take, refl, length, ap, sym, ◌∙◌, arith}
-use Rattle.regex_tokens.specs.Cuts.{behind_gap}
+use Rattle.std.proofs.Common.{◌-◌, take, refl, length, ap, ◌∙◌, arith}
 use Rattle.regex_tokens.proofs.Gaps.{gap_is, behind_within}
 use Rattle.regex_tokens.proofs.gap.split_gap.Goals as goal
 

@@ -1,7 +1,6 @@
-use Rattle.std.proofs.Common.{◌≡◌, ◌==◌, ◌+◌, ℕ, List, false, refl, length, take, drop, sym, ap, subst, ◌∙◌, arith}
-use Rattle.std.specs.Str.{IsCharBoundary}
+use Rattle.std.proofs.Common.{◌==◌, ◌+◌, refl, length, sym, ap, subst, ◌∙◌, arith}
 use Rattle.regex_tokens.specs.Bytes.{begins, is_braced_byte}
-use Rattle.regex_tokens.specs.Reading.{IsPiecesLen, undone_from}
+use Rattle.regex_tokens.specs.Reading.{IsPiecesLen}
 use Rattle.regex_tokens.proofs.Spells.{Braces, braced_some, braced_nothing}
 use Rattle.regex_tokens.proofs.Utf8.{first_boundary, pieces_boundary, braced_stops}
 use Rattle.regex_tokens.proofs.lexer.braced.Goals as goal

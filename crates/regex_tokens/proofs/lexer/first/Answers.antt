@@ -1,4 +1,4 @@
-use Rattle.std.proofs.Common.{◌≡◌, None, Some, sym, ap, subst, ◌∙◌, rules}
+use Rattle.std.proofs.Common.{sym, subst}
 use Rattle.regex_tokens.specs.Reading.{IsRead}
 use Rattle.regex_tokens.proofs.Texts.{first_some, first_refused, first_none}
 use Rattle.regex_tokens.proofs.lexer.first.Goals as goal

@@ -1,4 +1,4 @@
-use Rattle.std.proofs.Common.{◌≡◌, length, None, Some, sym, ap, subst, ◌∙◌, rules}
+use Rattle.std.proofs.Common.{length, sym, ap, ◌∙◌}
 use Rattle.regex_tokens.proofs.Texts.{nothing_empty}
 use Rattle.regex_tokens.proofs.lexer.longest.Goals as goal
 

@@ -1,10 +1,8 @@
-use Rattle.std.proofs.Common.{◌≡◌, ◌==◌, ◌+◌, not, List, ℕ, [], ◌∷◌, ◌++◌, length, take, drop, Some, sym, ap, subst, ◌∙◌, arith, rules}
-use Rattle.std.specs.Str.{IsUtf8}
-use Rattle.std.proofs.lemmas.Str.{IsUtf8-drop}
-use Rattle.regex_tokens.specs.Cuts.{IsFirst, behind_gap, gap, newlines}
+use Rattle.std.proofs.Common.{◌≡◌, ◌==◌, ◌+◌, not, [], ◌∷◌, ◌++◌, length, take, drop, sym, ap, ◌∙◌, arith, rules}
+use Rattle.regex_tokens.specs.Cuts.{behind_gap, gap, newlines}
 use Rattle.regex_tokens.specs.declared.token.Place.{Place}
 use Rattle.regex_tokens.proofs.Lists.{some_of, none_of}
-use Rattle.regex_tokens.proofs.Whole.{SoFar, gap_room, first_room, go_on, whole, no_token, first_shorter, first_is, none_first, same_so_far}
+use Rattle.regex_tokens.proofs.Whole.{gap_room, first_room, go_on, whole, no_token, first_shorter, first_is, none_first, same_so_far}
 use Rattle.regex_tokens.proofs.lexer.tokens.Goals.{After-split_at}
 use Rattle.regex_tokens.proofs.lexer.tokens.Goals as goal
 
@@ -44,11 +42,10 @@ tokens-preserved c =
     let at : place.line ≡ c.tokens.here + newlines (gap c.tokens.rest.now) = c.line_behind-here.ensures ∙ ap (λ bs. c.tokens.here + newlines bs) c.split_gap.ensures.front in
     let apart : place.apart ≡ not (length (gap c.tokens.rest.now) == 0) = ap not (c.is_empty-in-tokens.ensures ∙ ap (λ bs. length bs == 0) c.split_gap.ensures.front) in
     let front = c.as_bytes.ensures.value ∙ c.split_at.ensures.front ∙ ap (take c.in-Some.len) c.split_gap.ensures.behind in
-    let behind = c.split_at.ensures.back ∙ ap (drop c.in-Some.len) c.split_gap.ensures.behind in
-    (
+    let behind = c.split_at.ensures.back ∙ ap (drop c.in-Some.len) c.split_gap.ensures.behind in (
       same_so_far c.args.line c.args.text.now c.push.new.self.items (c.tokens.tokens.items ++ c.in-Some.token ∷ []) c.push-in-tokens.new.self.items (c.tokens.places.items ++ place ∷ [])
-        c.line_behind-here-in-tokens.result (place.line + newlines (take c.in-Some.len (behind_gap c.tokens.rest.now))) c.split_at.result.1.now (drop c.in-Some.len (behind_gap c.tokens.rest.now))
-        c.in_ok-push.ensures.items c.in_ok-push-2.ensures.items (c.line_behind-here-in-tokens.ensures ∙ ap (λ bs. place.line + newlines bs) front) behind
-        (go_on c.args.line c.args.text.now c.tokens.tokens.items c.tokens.places.items c.tokens.here c.tokens.rest.now c.in-Some.token place c.in-Some.len c.tokens.invariant.0 first.0 at apart),
+          c.line_behind-here-in-tokens.result (place.line + newlines (take c.in-Some.len (behind_gap c.tokens.rest.now))) c.split_at.result.1.now (drop c.in-Some.len (behind_gap c.tokens.rest.now))
+          c.in_ok-push.ensures.items c.in_ok-push-2.ensures.items (c.line_behind-here-in-tokens.ensures ∙ ap (λ bs. place.line + newlines bs) front) behind
+          (go_on c.args.line c.args.text.now c.tokens.tokens.items c.tokens.places.items c.tokens.here c.tokens.rest.now c.in-Some.token place c.in-Some.len c.tokens.invariant.0 first.0 at apart),
       search rules,
     )

@@ -1,4 +1,4 @@
-use Rattle.std.proofs.Common.{◌≡◌, length, sym, ap, subst, ◌∙◌}
+use Rattle.std.proofs.Common.{length, sym, ap, subst, ◌∙◌}
 use Rattle.regex_tokens.specs.Reading.{IsRead, spaced_at, first_of, longest_first}
 use Rattle.regex_tokens.proofs.Operators.{spaced_read, operator_read, operator_none}
 use Rattle.regex_tokens.proofs.operator.operator.Goals as goal
