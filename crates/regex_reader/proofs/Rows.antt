@@ -6,24 +6,14 @@ use Rattle.regex_ast.specs.declared.expr.Raw.{Raw}
 use Rattle.regex_ast.specs.declared.expr.Context.{Context}
 use Rattle.regex_ast.specs.declared.expr.Mapping.{Mapping}
 use Rattle.regex_ast.specs.declared.expr.Expr.{Rules, items_hidden-the_row-Context-2}
-use Rattle.regex_ast.specs.declared.expr.Expr.TheViews.{out-RuleSet, roll-RuleSet, roll-out-RuleSet, out-Group, roll-Group, roll-out-Group}
-use Rattle.regex_ast.specs.declared.expr.RuleSet.{RuleSet, RuleSet', items-the_row-Group, items_hidden-the_row-Group-5}
+use Rattle.regex_ast.specs.declared.expr.Expr.TheViews.{out-RuleSet, roll-out-RuleSet, out-Group, roll-Group, roll-out-Group}
+use Rattle.regex_ast.specs.declared.expr.RuleSet.{RuleSet}
 use Rattle.regex_ast.specs.declared.expr.Group.{Group, items_hidden-the_row-Mapping-4}
 use Rattle.regex_ast.proofs.Rows.{term-Rules}
 
-abbrev groups_in : RuleSet Raw → List (Group Raw)
-groups_in (RuleSet' optional shape row) = items-the_row-Group Raw _ row
-
-groups_in_is : (r : RuleSet Raw) → groups_in r ≡ (out-RuleSet Raw r).groups.items
-unfolding roll-RuleSet denote.Hole.Carrier.roll
-groups_in_is r = ap (λ s. groups_in s) (sym (roll-out-RuleSet Raw r)) ∙ items_hidden-the_row-Group-5 Raw (out-RuleSet Raw r).groups
-
-abbrev pub optional_in : RuleSet Raw → Bool
-optional_in (RuleSet' optional shape row) = optional
-
 -- what stands for a set of rules
-pub term_rules : (r : RuleSet Raw) → term (Rules r) ≡ rules (optional_in r) (groups_of (out-RuleSet Raw r).groups.items)
-term_rules r = term-Rules r ∙ ap (λ gs. rules (optional_in r) (groups_of gs)) (groups_in_is r)
+pub term_rules : (r : RuleSet Raw) → term (Rules r) ≡ rules (out-RuleSet Raw r).optional (groups_of (out-RuleSet Raw r).groups.items)
+term_rules r = ap (λ s. term (Rules s)) (sym (roll-out-RuleSet Raw r)) ∙ term-Rules (out-RuleSet Raw r).optional (out-RuleSet Raw r).groups
 
 pub maps_of_is : (g : Group Raw) → maps_of g ≡ (out-Group Raw g).maps.items
 unfolding roll-Group denote.Hole.Carrier.roll
