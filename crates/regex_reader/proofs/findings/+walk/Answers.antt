@@ -13,7 +13,7 @@ use Rattle.regex_reader.proofs.findings.+walk.Goals as goal
 
 pub in_contexts-contexts-preserved : goal.in_contexts-contexts-preserved
 in_contexts-contexts-preserved t c =
-    contexts_go_on c.args.contexts.now c.contexts.context-index c.context-item.result c.contexts.found _ _ _ _ (omega arith) c.context-item.is c.or-found.ensures c.or.ensures c.in_expression.ensures c.in_expression-in-contexts.ensures c.contexts.invariant
+    contexts_go_on c.args.contexts.now c.contexts.context-index c.context-item.result c.contexts.found _ _ _ _ (omega arith) c.context-item.is c.or-found.ensures c.or-both.ensures c.in_expression.ensures c.in_expression-in-contexts.ensures c.contexts.invariant
 
 pub in_contexts-returns : goal.in_contexts-returns
 in_contexts-returns t c = finish _ _ (each_context (contexts_of (drop c.contexts.context-index c.args.contexts.now))) (ap (λ z. each_context (contexts_of z)) (none_left c.args.contexts.now c.contexts.context-index (omega arith))) c.contexts.invariant
