@@ -1,6 +1,5 @@
 mod Behind
 mod Parts
-mod Rows
 mod Texts
 mod NameSteps
 mod Gathering

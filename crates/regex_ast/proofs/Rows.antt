@@ -137,11 +137,10 @@ groups_below {A} (RuleSet' optional shape row) = items-the_row-Group A _ row
 abbrev optional_in : {A : Type 0} → RuleSet A → Bool
 optional_in (RuleSet' optional shape row) = optional
 
--- what stands for a set of rules
-pub term-RuleSet : {A : Type 0} (set : RuleSet A) → term (Rules set) ≡ rules (optional_in set) (groups_of (groups_below set))
-term-RuleSet (RuleSet' optional shape row) = ap (rules optional) (groups_of_row row)
+term_groups : {A : Type 0} (set : RuleSet A) → term (Rules set) ≡ rules (optional_in set) (groups_of (groups_below set))
+term_groups (RuleSet' optional shape row) = ap (rules optional) (groups_of_row row)
 
 -- what stands for a set of rules with the groups of a `Vec`
 pub term-Rules : {A : Type 0} (optional : Bool) (all : Vec (Group A) Global) → term (Rules (roll-RuleSet A (record { optional = optional; groups = all }))) ≡ rules optional (groups_of all.items)
 unfolding roll-RuleSet denote.Hole.Carrier.roll
-term-Rules {A} optional all = term-RuleSet (roll-RuleSet A (record { optional = optional; groups = all })) ∙ ap (λ v. rules optional (groups_of v)) (items_hidden-the_row-Group-5 A all)
+term-Rules {A} optional all = term_groups (roll-RuleSet A (record { optional = optional; groups = all })) ∙ ap (λ v. rules optional (groups_of v)) (items_hidden-the_row-Group-5 A all)

@@ -78,7 +78,7 @@ no_fit ts ps command name rest more es d same first second third unfit n express
     let expression_is : es ≡ tokens_of expression = fronts_same _ _ _ (sym third ∙ run_rest _ _ _ _ two) in
     let places = sym (places_placed ts ps same) ∙ form_places (placed ts ps) n expression form in
     let fit : fits (codes "define") n (tokens_of expression) (get_or (form.command.place ∷ form.name.place ∷ places_of (expression ++ form.last ∷ [])) 2 d).apart ≡ true =
-      fits_all _ _ _ refl form.fine (no_joined expression form.last form.command.place form.name.place d form.no_parameters) in
+    fits_all _ _ _ refl form.fine (no_joined expression form.last form.command.place form.name.place d form.no_parameters) in
     true_false (sym (rw (command_is, name_is, expression_is, places) fit) ∙ unfit)
 
 bytes_same : (a b : List ℕ) → bytes_eq a b ≡ true → a ≡ b
@@ -121,18 +121,21 @@ made command name es d [] same fit = absurd (omega (arith, length-append es (ope
 made command name es d (p0 ∷ []) same fit = absurd (omega (arith, length-append es (operator Semicolon ∷ [])))
 made command name es d (p0 ∷ p1 ∷ ps) same fit =
     let long : length ps ≡ length es + 1 = omega (arith, length-append es (operator Semicolon ∷ [])) in
-    let last = placed_last es (operator Semicolon) ps long in
-    (placed es (take (length es) ps), record {
-      command = record { token = plain_run command; place = p0 };
-      name = record { token = plain_run name; place = p1 };
-      last = record { token = operator Semicolon; place = last.0 };
-      whole = ap (λ (more : List Placed). record { token = plain_run command; place = p0 } ∷ record { token = plain_run name; place = p1 } ∷ more) last.1;
-      command_is = ap plain_run (bytes_same command (codes "define") (fits_command _ _ _ fit));
-      name_is = refl;
-      last_is = refl;
-      fine = fits_name (bytes_eq command (codes "define")) _ (begins is_round es && not (get_or (p0 ∷ p1 ∷ ps) 2 d).apart) fit;
-      no_parameters = not_joined es p0 p1 d ps long (fits_expression (bytes_eq command (codes "define")) (is_name name) _ fit);
-    }, tokens_placed es (take (length es) ps) (sym (take_front (length es) ps (omega arith))))
+    let last = placed_last es (operator Semicolon) ps long in (
+      placed es (take (length es) ps),
+      record {
+        command = record { token = plain_run command; place = p0 };
+        name = record { token = plain_run name; place = p1 };
+        last = record { token = operator Semicolon; place = last.0 };
+        whole = ap (λ (more : List Placed). record { token = plain_run command; place = p0 } ∷ record { token = plain_run name; place = p1 } ∷ more) last.1;
+        command_is = ap plain_run (bytes_same command (codes "define") (fits_command _ _ _ fit));
+        name_is = refl;
+        last_is = refl;
+        fine = fits_name (bytes_eq command (codes "define")) _ (begins is_round es && not (get_or (p0 ∷ p1 ∷ ps) 2 d).apart) fit;
+        no_parameters = not_joined es p0 p1 d ps long (fits_expression (bytes_eq command (codes "define")) (is_name name) _ fit);
+      },
+      tokens_placed es (take (length es) ps) (sym (take_front (length es) ps (omega arith))),
+    )
 
 pub is_form : (ts : List Token) (ps : List Place) (command name : List ℕ) (rest more es : List Token) (d : Place) → length ts ≡ length ps → ts ≡ plain_run command ∷ rest → rest ≡ plain_run name ∷ more → more ≡ es ++ operator Semicolon ∷ [] → fits command name es (get_or ps 2 d).apart ≡ true
     → (x : List Placed) × IsForm (placed ts ps) name x × (tokens_of x ≡ es)

@@ -1,37 +1,6 @@
--- Rows of rules and groups by the items of the `Vec`s that hold them.
-use Rattle.std.proofs.Common.{◌≡◌, ◌+◌, ◌<◌, ◌≤◌, refl, Bool, ℕ, zero, suc, List, [], ◌∷◌, length, drop, get_or, sym, ap, ◌∙◌, arith}
+-- What is left of a list behind a place.
+use Rattle.std.proofs.Common.{◌≡◌, ◌+◌, ◌<◌, ◌≤◌, refl, ℕ, zero, suc, List, [], ◌∷◌, length, drop, get_or, sym, ap, ◌∙◌, arith}
 use lib.Seq.{drop-cons}
-use Rattle.regex_ast.specs.Terms.{term, rules, maps_of, contexts_in, groups_of}
-use Rattle.regex_ast.specs.declared.expr.Raw.{Raw}
-use Rattle.regex_ast.specs.declared.expr.Context.{Context}
-use Rattle.regex_ast.specs.declared.expr.Mapping.{Mapping}
-use Rattle.regex_ast.specs.declared.expr.Expr.{Rules, items_hidden-the_row-Context-2}
-use Rattle.regex_ast.specs.declared.expr.Expr.TheViews.{out-RuleSet, roll-RuleSet, roll-out-RuleSet, out-Group, roll-Group, roll-out-Group}
-use Rattle.regex_ast.specs.declared.expr.RuleSet.{RuleSet, RuleSet', items-the_row-Group, items_hidden-the_row-Group-5}
-use Rattle.regex_ast.specs.declared.expr.Group.{Group, items_hidden-the_row-Mapping-4}
-use Rattle.regex_ast.proofs.Rows.{term-RuleSet}
-
-abbrev groups_in : RuleSet Raw → List (Group Raw)
-groups_in (RuleSet' optional shape row) = items-the_row-Group Raw _ row
-
-groups_in_is : (r : RuleSet Raw) → groups_in r ≡ (out-RuleSet Raw r).groups.items
-unfolding roll-RuleSet denote.Hole.Carrier.roll
-groups_in_is r = ap (λ s. groups_in s) (sym (roll-out-RuleSet Raw r)) ∙ items_hidden-the_row-Group-5 Raw (out-RuleSet Raw r).groups
-
-abbrev pub optional_in : RuleSet Raw → Bool
-optional_in (RuleSet' optional shape row) = optional
-
--- what stands for a set of rules
-pub term_rules : (r : RuleSet Raw) → term (Rules r) ≡ rules (optional_in r) (groups_of (out-RuleSet Raw r).groups.items)
-term_rules r = term-RuleSet r ∙ ap (λ gs. rules (optional_in r) (groups_of gs)) (groups_in_is r)
-
-pub maps_of_is : (g : Group Raw) → maps_of g ≡ (out-Group Raw g).maps.items
-unfolding roll-Group denote.Hole.Carrier.roll
-maps_of_is g = ap (λ (s : Group Raw). maps_of s) (sym (roll-out-Group Raw g)) ∙ items_hidden-the_row-Mapping-4 Raw (out-Group Raw g).maps
-
-pub contexts_in_is : (g : Group Raw) → contexts_in g ≡ (out-Group Raw g).contexts.items
-unfolding roll-Group denote.Hole.Carrier.roll
-contexts_in_is g = ap (λ (s : Group Raw). contexts_in s) (sym (roll-out-Group Raw g)) ∙ items_hidden-the_row-Context-2 Raw (out-Group Raw g).contexts
 
 -- what is left of a list is the item at the place, and what is behind it
 pub left_behind : {X : Type 0} (xs : List X) (i : ℕ) (x : X) → i < length xs → x ≡ get_or xs i x → drop i xs ≡ x ∷ drop (i + 1) xs

@@ -102,8 +102,9 @@ pub fn in_expression(expr: &Expr<Raw>, inside: bool) -> Findings
         Expr::Ignore(operands) => in_each(operands, inside),
         Expr::Concat(operands) => in_each(operands, inside),
         Expr::Chain(first, links) => in_expression(first, inside).or(in_links(links, inside)),
-        Expr::Only(centre, contexts) => Findings::of_size(contexts.len() > MOST_IN_RULES)
-            .or(in_expression(centre, inside).or(in_contexts(contexts))),
+        Expr::Only(centre, contexts) => Findings::of_size(contexts.len() > MOST_IN_RULES).or(
+            in_expression(centre, inside).or(in_contexts(contexts)),
+        ),
         Expr::Rules(rules) => {
             Findings::of_size(are_large(&rules.groups)).or(in_groups(&rules.groups, inside))
         }
@@ -146,7 +147,8 @@ fn in_contexts(contexts: &[Context<Raw>]) -> Findings
 {
     let mut found = Findings::none();
     'contexts: for context in contexts {
-        found = found.or(in_expression(&context.left, true).or(in_expression(&context.right, true)));
+        let both = in_expression(&context.left, true).or(in_expression(&context.right, true));
+        found = found.or(both);
     }
     found
 }
@@ -204,8 +206,9 @@ fn in_mapping(mapping: &Mapping<Raw>, inside: bool) -> Findings
             centre,
             before,
             after,
-        } => in_expression(centre, inside)
-            .or(in_expression(before, inside).or(in_expression(after, inside))),
+        } => in_expression(centre, inside).or(in_expression(before, inside).or(in_expression(
+            after, inside,
+        ))),
         Mapping::Insert { result: by } => in_expression(by, inside),
     }
 }

@@ -62,8 +62,5 @@ fn split_end(tokens: &[Token]) -> Option<&[Token]>
 fn begins_with_round(tokens: &[Token]) -> bool
     ensures { result ≡ begins is_round tokens.now }
 {
-    matches!(
-        tokens.first(),
-        Some(Token::Operator(Operator::OpenRound))
-    )
+    matches!(tokens.first(), Some(Token::Operator(Operator::OpenRound)))
 }

@@ -53,10 +53,7 @@ fn reads_definitions(rt: HostRuntime) -> Result<(), AllocError> {
         ),
         ("define A (0) ;", "1 A = Maybe(Empty);"),
         ("define é 0 ;", "1 é = Empty;"),
-        (
-            "define A 0^255 ;",
-            "1 A = Suffixed(Empty, [Power(255)]);",
-        ),
+        ("define A 0^255 ;", "1 A = Suffixed(Empty, [Power(255)]);"),
         (
             "define A 0 => .#. _ ;",
             "1 A = Only(Empty, [Context { left: Edge, right: Empty }]);",
@@ -153,7 +150,14 @@ fn keeps_the_limits(rt: HostRuntime) -> Result<(), AllocError> {
         ("define A a => _", ", c _", "", "", 63, ""),
         ("define A a => _", ", c _", "", "", 64, "1 LimitRule"),
         ("define A a -> b || _", ", c _", "", "", 64, "1 LimitRule"),
-        ("define A a -> b || _", ", c _", " d^256", "", 64, "1 LimitPower"),
+        (
+            "define A a -> b || _",
+            ", c _",
+            " d^256",
+            "",
+            64,
+            "1 LimitPower",
+        ),
         ("define ", "n", " a", "", 64, ""),
         ("define ", "n", " a", "", 65, "1 Statement"),
     ] {

@@ -7,13 +7,14 @@ use Rattle.regex_ast.specs.declared.expr.Mapping.{Mapping}
 use Rattle.regex_ast.proofs.Rows.{term-Concat, term-Chain, term-Ignore, term-Only, term-Steps}
 use Rattle.regex_reader.specs.Found.{found_in, either}
 use Rattle.regex_reader.specs.Tests.{at, nodes, each_of, each_context, each_step, each_link, each_group, each_mapping}
-use Rattle.regex_reader.proofs.Rows.{none_left, term_rules, optional_in, maps_of_is, contexts_in_is}
+use Rattle.regex_reader.proofs.Rows.{none_left}
+use Rattle.regex_ast.proofs.Sets.{term_rules, maps_of_is, contexts_in_is}
 use Rattle.regex_reader.proofs.Found.{finish, both, in_front, context_count_is, operand_term, step_term, parts_go_on, links_go_on, steps_go_on, contexts_go_on, groups_go_on, mappings_go_on}
 use Rattle.regex_reader.proofs.findings.+walk.Goals as goal
 
 pub in_contexts-contexts-preserved : goal.in_contexts-contexts-preserved
 in_contexts-contexts-preserved t c =
-    contexts_go_on c.args.contexts.now c.contexts.context-index c.context-item.result c.contexts.found _ _ _ _ (omega arith) c.context-item.is c.or-found.ensures c.or.ensures c.in_expression.ensures c.in_expression-in-contexts.ensures c.contexts.invariant
+    contexts_go_on c.args.contexts.now c.contexts.context-index c.context-item.result c.contexts.found _ _ _ _ (omega arith) c.context-item.is c.or-found.ensures c.or-both.ensures c.in_expression.ensures c.in_expression-in-contexts.ensures c.contexts.invariant
 
 pub in_contexts-returns : goal.in_contexts-returns
 in_contexts-returns t c = finish _ _ (each_context (contexts_of (drop c.contexts.context-index c.args.contexts.now))) (ap (λ z. each_context (contexts_of z)) (none_left c.args.contexts.now c.contexts.context-index (omega arith))) c.contexts.invariant
@@ -61,7 +62,7 @@ in_expression-returns-in-Rules t c =
     let is = ap term c.in-Rules.is ∙ term_rules c.in-Rules.rules in
     let large = rw c.deref-in-Rules.ensures.value at c.are_large.ensures in
     let more = rw c.deref-in-Rules-2.ensures.value at c.in_groups.ensures in
-    in_front (at c.args.inside (rules (optional_in c.in-Rules.rules) (groups_of (out-RuleSet Raw c.in-Rules.rules).groups.items))) _ _ _ _ (each_group c.args.inside (groups_of (out-RuleSet Raw c.in-Rules.rules).groups.items)) refl refl (sym large) c.or-in-Rules.ensures c.of_size-in-Rules.ensures more ∙ ap (λ e. found_in (nodes c.args.inside e)) (sym is)
+    in_front (at c.args.inside (rules (out-RuleSet Raw c.in-Rules.rules).optional (groups_of (out-RuleSet Raw c.in-Rules.rules).groups.items))) _ _ _ _ (each_group c.args.inside (groups_of (out-RuleSet Raw c.in-Rules.rules).groups.items)) refl refl (sym large) c.or-in-Rules.ensures c.of_size-in-Rules.ensures more ∙ ap (λ e. found_in (nodes c.args.inside e)) (sym is)
 
 pub in_expression-returns-in-Steps : goal.in_expression-returns-in-Steps
 in_expression-returns-in-Steps t c =

@@ -2,7 +2,7 @@ use Rattle.std.proofs.Common.{◌≡◌, ◌+◌, length, drop, ap, sym, ◌∙�
 use Rattle.regex_ast.specs.Terms.{maps_of, contexts_in}
 use Rattle.regex_ast.specs.declared.expr.Raw.{Raw}
 use Rattle.regex_ast.specs.declared.expr.Expr.TheViews.{out-Group}
-use Rattle.regex_reader.proofs.Rows.{maps_of_is, contexts_in_is}
+use Rattle.regex_ast.proofs.Sets.{maps_of_is, contexts_in_is}
 use Rattle.regex_reader.proofs.Found.{mappings_counted, contexts_counted}
 use Rattle.regex_reader.proofs.findings.are_large.Goals as goal
 

@@ -18,5 +18,7 @@ returns-then-is_empty c =
 pub returns : goal.returns
 returns c =
     let some : length c.args.tokens.now ≢ 0 = λ e. empty_not _ e c.if-is_empty.ensures in
-    elim c.if-is_too_deep.branch [ then-is_too_deep w ↦ deep_at_end c.args.tokens.now c.args.places.now c.args.ending c.first_line-line.result c.if-is_too_deep.why c.requires.same some c.requires.none c.in_default.not-NoToken c.first_line-line.ensures w.if-is_too_deep.ensures w.why-is
-                                 | else-is_too_deep w ↦ open_at_end c.args.tokens.now c.args.places.now c.args.ending c.first_line-line.result c.if-is_too_deep.why c.requires.same some c.requires.none c.in_default.not-NoToken c.first_line-line.ensures w.if-is_too_deep.ensures w.why-is ]
+    elim c.if-is_too_deep.branch [
+      | then-is_too_deep w ↦ deep_at_end c.args.tokens.now c.args.places.now c.args.ending c.first_line-line.result c.if-is_too_deep.why c.requires.same some c.requires.none c.in_default.not-NoToken c.first_line-line.ensures w.if-is_too_deep.ensures w.why-is
+      | else-is_too_deep w ↦ open_at_end c.args.tokens.now c.args.places.now c.args.ending c.first_line-line.result c.if-is_too_deep.why c.requires.same some c.requires.none c.in_default.not-NoToken c.first_line-line.ensures w.if-is_too_deep.ensures w.why-is
+    ]
