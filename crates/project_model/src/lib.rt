@@ -4,7 +4,12 @@
 //! - [`Plan`], [`PlanError`].
 #![tactic(auto)]
 
+mod built;
 mod leaves;
+mod names;
 mod plan;
+mod plan_error;
+mod symbols;
 
-pub use plan::PlanError;
+pub use plan::{Plan, plan_of};
+pub use plan_error::PlanError;

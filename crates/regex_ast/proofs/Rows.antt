@@ -6,7 +6,7 @@ use Rattle.regex_ast.specs.declared.expr.Context.{Context}
 use Rattle.regex_ast.specs.declared.expr.Group.{Group, Group' as Group_of, Row_of-Mapping, end_of-Mapping, more_of-Mapping, items-the_row-Mapping}
 use Rattle.regex_ast.specs.declared.expr.Link.{Link, Or, And, Less}
 use Rattle.regex_ast.specs.declared.expr.Mapping.{Mapping, Plain, Markup, Insert}
-use Rattle.regex_ast.specs.declared.expr.RuleSet.{RuleSet, RuleSet', Row_of-Group, end_of-Group, more_of-Group, items-the_row-Group}
+use Rattle.regex_ast.specs.declared.expr.RuleSet.{RuleSet, RuleSet', Row_of-Group, end_of-Group, more_of-Group, items-the_row-Group, items_hidden-the_row-Group-5, roll-RuleSet}
 use Rattle.regex_ast.specs.declared.expr.Side.{Side}
 use Rattle.regex_ast.specs.declared.expr.Step.{Step, CrossWith, Then}
 
@@ -131,12 +131,16 @@ term_steps _ h = absurd h
 pub term-Steps : {A : Type 0} (first : Box (Expr A) Global) (more : Vec (Step A) Global) → term (Steps first more) ≡ steps (term first.value) (steps_by more.items)
 term-Steps {A} first more = term_steps (Steps first more) tt ∙ ap (λ v. steps (term first.value) (steps_by v)) (items_hidden-the_row-Step-3 A more)
 
--- what stands for a set of rules
-abbrev groups_in : {A : Type 0} → RuleSet A → List (Group A)
-groups_in {A} (RuleSet' optional shape row) = items-the_row-Group A _ row
+abbrev groups_below : {A : Type 0} → RuleSet A → List (Group A)
+groups_below {A} (RuleSet' optional shape row) = items-the_row-Group A _ row
 
 abbrev optional_in : {A : Type 0} → RuleSet A → Bool
 optional_in (RuleSet' optional shape row) = optional
 
-pub term-Rules : {A : Type 0} (set : RuleSet A) → term (Rules set) ≡ rules (optional_in set) (groups_of (groups_in set))
-term-Rules (RuleSet' optional shape row) = ap (rules optional) (groups_of_row row)
+term_groups : {A : Type 0} (set : RuleSet A) → term (Rules set) ≡ rules (optional_in set) (groups_of (groups_below set))
+term_groups (RuleSet' optional shape row) = ap (rules optional) (groups_of_row row)
+
+-- what stands for a set of rules with the groups of a `Vec`
+pub term-Rules : {A : Type 0} (optional : Bool) (all : Vec (Group A) Global) → term (Rules (roll-RuleSet A (record { optional = optional; groups = all }))) ≡ rules optional (groups_of all.items)
+unfolding roll-RuleSet denote.Hole.Carrier.roll
+term-Rules {A} optional all = term_groups (roll-RuleSet A (record { optional = optional; groups = all })) ∙ ap (λ v. rules optional (groups_of v)) (items_hidden-the_row-Group-5 A all)

@@ -7,7 +7,7 @@ use Rattle.fsm_meaning.specs.Projects.{leaves_in}
 use Rattle.project_model.specs.Leaves.{seen, leaves_in_each, leaves_in_links, leaves_in_contexts, leaves_in_steps, leaves_in_mappings, leaves_in_groups}
 use Rattle.project_model.proofs.Behind.{go_on, add_both, add_both_ok, flat_map-alone}
 use Rattle.project_model.proofs.Parts.{groups_left}
-use Rattle.project_model.proofs.Rows.{term_rules, maps_of_is, contexts_in_is}
+use Rattle.regex_ast.proofs.Sets.{term_rules, maps_of_is, contexts_in_is}
 use Rattle.project_model.proofs.leaves.+walk.Goals as goal
 
 pub add_groups-groups-preserved : goal.add_groups-groups-preserved

@@ -1,0 +1,11 @@
+pub mod Fronts
+pub mod Lists
+pub mod Cases
+pub mod Flags
+pub mod Pieces
+pub mod Spells
+pub mod Operators
+pub mod Gaps
+pub mod Utf8
+pub mod Texts
+pub mod Whole

@@ -1,0 +1,5 @@
+pub mod Bytes
+pub mod Spelling
+pub mod Cuts
+pub mod Fronts
+pub mod Reading

@@ -1,0 +1,24 @@
+//! The tokens of an xfst text (Beesley and Karttunen, Finite State Morphology, 2003, chapters 2 and 3).
+//!
+//! - [`tokens`]: the tokens of a text, with their places.
+//! - [`Token`]: an [`Operator`], a quoted text, [`Letters`] in braces or a [`Run`].
+//! - [`after`]: the tokens behind an operator.
+//! - [`one_cut`]: the law that a text is cut in one way, as a contract.
+#![tactic(auto)]
+
+mod bytes;
+mod characters;
+mod flag;
+mod front;
+mod gap;
+mod laws;
+mod lexer;
+mod operator;
+#[cfg(test)]
+mod tests;
+mod token;
+
+pub use front::after;
+pub use laws::one_cut;
+pub use lexer::tokens;
+pub use token::{Ending, Letters, Operator, Place, Run, Token, Tokens};
