@@ -11,5 +11,8 @@ mod plan;
 mod plan_error;
 mod symbols;
 
+#[cfg(test)]
+mod tests;
+
 pub use plan::{Plan, plan_of};
 pub use plan_error::PlanError;
