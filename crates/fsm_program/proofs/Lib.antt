@@ -2,7 +2,6 @@ pub mod Alphabets
 pub mod Endings
 pub mod LastByte
 pub mod Lawful
-pub mod Laws
 pub mod Loading
 pub mod Manifests
 pub mod Runs

@@ -18,7 +18,7 @@ use Rattle.project_model.specs.Together.{project_name, fault, SayTogether}
 use Rattle.fsm_program.specs.Files.{IsManifest, FileSays, large, not_utf8, control, has_text, TextSays, unread, read, Reads, no_project, no_manifest, no_file, says, IsRefusal, IsLoaded, IsLoadError, IsWhy, IsAnswer, most_bytes, most_read, Asks, for_both}
 use Rattle.fsm_program.specs.declared.load.LoadError.{LoadError}
 use Rattle.fsm_program.specs.declared.load.LoadError.TheVariants.{Failed, Memory, Refused}
-use Rattle.fsm_program.proofs.Laws.{one_text}
+use Rattle.regex_reader.proofs.Once as Once
 use Rattle.fsm_program.proofs.Manifests
 use Rattle.fsm_program.proofs.Manifests.{length-manifest}
 use Rattle.fsm_program.proofs.Together.{one_saying}
@@ -165,11 +165,11 @@ too_large : {P : Type 0} (bytes : List ℕ) → most_bytes < length bytes → le
 too_large bytes many small = absurd (omega (arith, many, small))
 
 one_text_says : (name text : List ℕ) (r q : Result Project Fault) → TextSays name text r → TextSays name text q → r ≡ q
-one_text_says name text r q (unread a f) (unread b g) = ap (λ (z : FaultAt). Err (fault name z.line z.why)) (same_err (Err a) a b refl (one_text text (Err a) (Err b) f g))
-one_text_says name text r q (unread a f) (read statements q' reads said) = ok_err (Ok statements) statements a refl (one_text text (Ok statements) (Err a) reads f)
-one_text_says name text r q (read statements r' reads said) (unread b g) = ok_err (Ok statements) statements b refl (one_text text (Ok statements) (Err b) reads g)
+one_text_says name text r q (unread a f) (unread b g) = ap (λ (z : FaultAt). Err (fault name z.line z.why)) (same_err (Err a) a b refl (Once.one_reading text (Err a) (Err b) f g))
+one_text_says name text r q (unread a f) (read statements q' reads said) = ok_err (Ok statements) statements a refl (Once.one_reading text (Ok statements) (Err a) reads f)
+one_text_says name text r q (read statements r' reads said) (unread b g) = ok_err (Ok statements) statements b refl (Once.one_reading text (Ok statements) (Err b) reads g)
 one_text_says name text r q (read statements r' reads said) (read statements' q' reads' said') =
-    one_saying name statements' r q (subst (λ z. SayTogether name z r) (same_ok (Ok statements) statements statements' refl (one_text text (Ok statements) (Ok statements') reads reads')) said) said'
+    one_saying name statements' r q (subst (λ z. SayTogether name z r) (same_ok (Ok statements) statements statements' refl (Once.one_reading text (Ok statements) (Ok statements') reads reads')) said) said'
 
 one_file : (name bytes : List ℕ) (r q : Result Project Fault) → FileSays name bytes r → FileSays name bytes q → r ≡ q
 one_file name bytes r q (large a) (large b) = refl
