@@ -2,6 +2,7 @@
 use Rattle.std.proofs.Common.{◌≡◌, ◌<◌, Bool, true, false, Option, Some, None, List, [], ◌∷◌, length, refl, sym, ap, ◌∙◌, arith}
 use Rattle.std.specs.Bool.{⊤}
 use Rattle.std.specs.Option.{option_map, option_and_then}
+use Rattle.regex_parser.specs.Values.{made}
 use Rattle.regex_ast.specs.Terms.{Term}
 use Rattle.regex_ast.specs.declared.expr.Prefix.{Prefix}
 use Rattle.regex_ast.specs.declared.expr.Raw.{Raw}
@@ -180,14 +181,14 @@ behind_fails {T} o make read tokens operand front item =
 
 -- what is read behind one of some operators
 pub formed_found : {T U : Type 0} (choose : Operator → Option (T → U)) (read : Reader Token T) (tokens : List Token) (make : T → U) (operand : List Token) (t : T) (behind : List Token) (u : U)
-    → one_of choose tokens ≡ Some (make, operand) → read operand ≡ Some (t, behind) → u ≡ make t → option_and_then (λ y. option_map (λ x. (y.0 x.0, x.1)) (read y.1)) (one_of choose tokens) ≡ Some (u, behind)
+    → one_of choose tokens ≡ Some (make, operand) → read operand ≡ Some (t, behind) → u ≡ make t → option_and_then (λ y. made y.0 (read y.1)) (one_of choose tokens) ≡ Some (u, behind)
 formed_found {T} {U} choose read tokens make operand t behind u front item same =
     ap (option_and_then (λ (y : (T → U) × List Token). option_map (λ (x : T × List Token). (y.0 x.0, x.1)) (read y.1))) front
     ∙ ap (option_map (λ (x : T × List Token). (make x.0, x.1))) item
     ∙ ap (λ v. Some (v, behind)) (sym same)
 
 pub formed_fails : {T U : Type 0} (choose : Operator → Option (T → U)) (read : Reader Token T) (tokens : List Token) (make : T → U) (operand : List Token)
-    → one_of choose tokens ≡ Some (make, operand) → None ≡ read operand → None ≡ option_and_then (λ y. option_map (λ x. (y.0 x.0, x.1)) (read y.1)) (one_of choose tokens)
+    → one_of choose tokens ≡ Some (make, operand) → None ≡ read operand → None ≡ option_and_then (λ y. made y.0 (read y.1)) (one_of choose tokens)
 formed_fails {T} {U} choose read tokens make operand front item =
     ap (option_map (λ (x : T × List Token). (make x.0, x.1))) item
     ∙ sym (ap (option_and_then (λ (y : (T → U) × List Token). option_map (λ (x : T × List Token). (y.0 x.0, x.1)) (read y.1))) front)

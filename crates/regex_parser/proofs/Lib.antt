@@ -3,4 +3,5 @@ pub mod Loops
 pub mod Fronts
 pub mod Terms
 pub mod Parsing
-pub mod Whole
+pub mod Rules
+pub mod Complete

@@ -1,5 +1,6 @@
 -- What the program's values stand for in the grammar.
-use Rattle.std.specs.Prelude.{ℕ, zero, suc, List, map}
+use Rattle.std.specs.Prelude.{ℕ, zero, suc, List, map, Option}
+use Rattle.std.specs.Option.{option_map}
 use Rattle.regex_ast.specs.Terms.{Term, term, not_one, maps_of, side_of, contexts_in}
 use Rattle.regex_ast.specs.declared.expr.Context.{Context}
 use Rattle.regex_ast.specs.declared.expr.Group.{Group}
@@ -13,6 +14,10 @@ use Rattle.regex_parser.specs.declared.front.LinkOperator.{LinkOperator}
 use Rattle.regex_parser.specs.declared.front.LinkOperator.TheVariants.{Or as or_operator, And as and_operator, Less as less_operator}
 use Rattle.regex_parser.specs.declared.front.StepOperator.{StepOperator}
 use Rattle.regex_parser.specs.declared.front.StepOperator.TheVariants.{CrossWith as cross_operator, Then as then_operator}
+
+-- what is made of what was read, and the tokens behind it
+abbrev pub made : {K T U : Type 0} → (T → U) → Option (T × List K) → Option (U × List K)
+made make read = option_map (λ x. (make x.0, x.1)) read
 
 -- an operand behind so many backslashes
 abbrev pub not_one_of : ℕ → Term Raw → Term Raw

@@ -1,4 +1,4 @@
-ghost use Rattle.std.specs.Prelude.{◌≡◌, ◌+◌, ℕ, ⊤, Bool, List, IfOk, IsTrue, Some, length};
+ghost use Rattle.std.specs.Prelude.{◌≡◌, ◌+◌, ⊤, Bool, List, IfOk, IsTrue, Some, length};
 ghost use Rattle.std.specs.List.{list_all};
 ghost use Rattle.std.specs.Option.{option_map};
 ghost use Rattle.regex_ast.specs.Terms.{Term};
@@ -6,7 +6,7 @@ ghost use Rattle.regex_ast.specs.declared.expr.Raw.{Raw};
 ghost use Rattle.regex_grammar.specs.Grammar.{is_digit, is_number, power_value, arrow_operator};
 ghost use Rattle.regex_grammar.specs.Reading.{is_level, is_backslash, is_prefix, one_of, backslash_of, prefix_of, linked_of, side_of, arrow_of, step_of, power_at, suffix_at};
 ghost use Rattle.regex_grammar.specs.Rows.{begins, many};
-ghost use Rattle.regex_parser.specs.Values.{linked_by, step_by};
+ghost use Rattle.regex_parser.specs.Values.{made, linked_by, step_by};
 
 use regex_ast::{Prefix, Side, Suffix};
 use regex_tokens::{Operator, Token};
@@ -112,7 +112,7 @@ pub fn arrow(optional: bool) -> Operator
 
 /// The number of backslashes at the front, and the tokens behind them.
 pub fn backslashes(tokens: &[Token]) -> (usize, &[Token])
-    ensures { option_map {U = ℕ × List Token} (λ y. (length y.0, y.1)) (many is_backslash (one_of backslash_of) (length tokens.now) tokens.now) ≡ Some (result.0, result.1.now) }
+    ensures { made length (many is_backslash (one_of backslash_of) (length tokens.now) tokens.now) ≡ Some (result.0, result.1.now) }
 {
     let mut marks = 0;
     let mut rest = tokens;

@@ -4,7 +4,7 @@ ghost use Rattle.regex_ast.specs.Terms.{term, maybe, only};
 ghost use Rattle.regex_grammar.specs.Grammar.{part, contexts_by, sided_by, mapping_by, group_by, with_ruling};
 ghost use Rattle.regex_grammar.specs.Reading.{is_level, primary_at, square_at, bracket_at, negated_at, crossed_at, suffixed_at, prefixed_at, ignored_at, concat_at, chain_at, context_at, contexts_at, sided_at, dots_at, right_at, mapping_at, group_tail_at, group_at, replacement_at, ruling_at, insertion_at, nine_at, steps_at, expression_at};
 ghost use Rattle.regex_grammar.specs.Rows.{option_at};
-ghost use Rattle.regex_parser.specs.Values.{context_value, sided_value, mapping_value, group_value};
+ghost use Rattle.regex_parser.specs.Values.{made, context_value, sided_value, mapping_value, group_value};
 
 use crate::build;
 use crate::front::{
@@ -105,7 +105,7 @@ fn ruling<'a>(
     tokens: &'a [Token],
     depth: u32,
 ) -> Result<Read<'a, Expr<Raw>>, AllocError>
-    ensures { IfOk result (λ read. option_map (λ x. (term x.0, x.1.now)) read ≡ option_map (λ y. (with_ruling (term centre) y.0, y.1)) (option_at (is_level 14) (ruling_at (chain_at (expression_at depth))) tokens.now)) }
+    ensures { IfOk result (λ read. option_map (λ x. (term x.0, x.1.now)) read ≡ made (with_ruling (term centre)) (option_at (is_level 14) (ruling_at (chain_at (expression_at depth))) tokens.now)) }
 {
     match tokens.split_first() {
         Some((Token::Operator(Operator::Only), rest)) => restriction(alloc, centre, rest, depth),
@@ -127,7 +127,7 @@ fn restriction<'a>(
     tokens: &'a [Token],
     depth: u32,
 ) -> Result<Read<'a, Expr<Raw>>, AllocError>
-    ensures { IfOk result (λ read. option_map (λ x. (term x.0, x.1.now)) read ≡ option_map (λ y. (only (term centre) (contexts_by y.0), y.1)) (contexts_at (chain_at (expression_at depth)) tokens.now)) }
+    ensures { IfOk result (λ read. option_map (λ x. (term x.0, x.1.now)) read ≡ made (λ y. only (term centre) (contexts_by y)) (contexts_at (chain_at (expression_at depth)) tokens.now)) }
 {
     let Some((allowed, rest)) = contexts(alloc, tokens, depth)? else {
         return Ok(None);
@@ -144,7 +144,7 @@ fn replacement<'a>(
     tokens: &'a [Token],
     depth: u32,
 ) -> Result<Read<'a, Expr<Raw>>, AllocError>
-    ensures { IfOk result (λ read. option_map (λ x. (term x.0, x.1.now)) read ≡ option_map (λ y. (with_ruling (term centre) (Some y.0), y.1)) (replacement_at optional (chain_at (expression_at depth)) tokens.now)) }
+    ensures { IfOk result (λ read. option_map (λ x. (term x.0, x.1.now)) read ≡ made (λ y. with_ruling (term centre) (Some y)) (replacement_at optional (chain_at (expression_at depth)) tokens.now)) }
 {
     let Some((first, mut rest)) = group_tail(alloc, optional, centre, tokens, depth)? else {
         return Ok(None);
@@ -189,7 +189,7 @@ fn group_tail<'a>(
     tokens: &'a [Token],
     depth: u32,
 ) -> Result<Read<'a, Group<Raw>>, AllocError>
-    ensures { IfOk result (λ read. option_map (λ x. (group_value x.0, x.1.now)) read ≡ option_map (λ y. (group_by (term centre) y.0, y.1)) (group_tail_at optional (chain_at (expression_at depth)) tokens.now)) }
+    ensures { IfOk result (λ read. option_map (λ x. (group_value x.0, x.1.now)) read ≡ made (group_by (term centre)) (group_tail_at optional (chain_at (expression_at depth)) tokens.now)) }
 {
     let Some((first, mut rest)) = right_side(alloc, centre, tokens, depth)? else {
         return Ok(None);
@@ -236,7 +236,7 @@ fn right_side<'a>(
     tokens: &'a [Token],
     depth: u32,
 ) -> Result<Read<'a, Mapping<Raw>>, AllocError>
-    ensures { IfOk result (λ read. option_map (λ x. (mapping_value x.0, x.1.now)) read ≡ option_map (λ y. (mapping_by (term centre) y.0, y.1)) (right_at (chain_at (expression_at depth)) tokens.now)) }
+    ensures { IfOk result (λ read. option_map (λ x. (mapping_value x.0, x.1.now)) read ≡ made (mapping_by (term centre)) (right_at (chain_at (expression_at depth)) tokens.now)) }
 {
     if let Some(behind) = after(tokens, Operator::Dots) {
         return marks(alloc, centre, Expr::Empty, behind, depth);
@@ -259,7 +259,7 @@ fn marks<'a>(
     tokens: &'a [Token],
     depth: u32,
 ) -> Result<Read<'a, Mapping<Raw>>, AllocError>
-    ensures { IfOk result (λ read. option_map (λ x. (mapping_value x.0, x.1.now)) read ≡ option_map (λ y. (mapping_by (term centre) y.0, y.1)) (dots_at (chain_at (expression_at depth)) (term before) tokens.now)) }
+    ensures { IfOk result (λ read. option_map (λ x. (mapping_value x.0, x.1.now)) read ≡ made (mapping_by (term centre)) (dots_at (chain_at (expression_at depth)) (term before) tokens.now)) }
 {
     let Some((after, rest)) = chain_or_empty(alloc, tokens, depth)? else {
         return Ok(None);
@@ -279,7 +279,7 @@ fn sided<'a>(
     tokens: &'a [Token],
     depth: u32,
 ) -> Result<Option<(Side, Vec<Context<Raw>>, &'a [Token])>, AllocError>
-    ensures { IfOk result (λ read. option_map (λ x. (sided_value x.0 x.1.items, x.2.now)) read ≡ option_map (λ y. (sided_by y.0, y.1)) (option_at (is_level 12) (sided_at (chain_at (expression_at depth))) tokens.now)) }
+    ensures { IfOk result (λ read. option_map (λ x. (sided_value x.0 x.1.items, x.2.now)) read ≡ made sided_by (option_at (is_level 12) (sided_at (chain_at (expression_at depth))) tokens.now)) }
 {
     let Some((side, rest)) = split_side(tokens) else {
         return Ok(Some((Side::UpUp, Vec::new(alloc), tokens)));
@@ -342,7 +342,7 @@ fn chain_or_empty<'a>(
     tokens: &'a [Token],
     depth: u32,
 ) -> Result<Read<'a, Expr<Raw>>, AllocError>
-    ensures { IfOk result (λ read. option_map (λ x. (term x.0, x.1.now)) read ≡ option_map (λ y. (part y.0, y.1)) (option_at (is_level 7) (chain_at (expression_at depth)) tokens.now)) }
+    ensures { IfOk result (λ read. option_map (λ x. (term x.0, x.1.now)) read ≡ made part (option_at (is_level 7) (chain_at (expression_at depth)) tokens.now)) }
 {
     if !begins_operand(tokens) {
         return Ok(Some((Expr::Empty, tokens)));

@@ -1,0 +1,239 @@
+use Rattle.std.proofs.Common.{◌≡◌, ◌∷◌, [], ◌++◌, true, false, None, Some, map, refl, sym, ap, ◌∙◌, rules}
+use Rattle.regex_ast.specs.Terms.{Term, term}
+use Rattle.regex_ast.specs.declared.expr.Raw.{Raw}
+use Rattle.regex_tokens.specs.Fronts.{after}
+use Rattle.regex_tokens.specs.declared.token.Operator.TheVariants.{Slash, Comma, GroupComma}
+use Rattle.regex_grammar.specs.Rows.{begins}
+use Rattle.regex_grammar.specs.Grammar.{ignoring, side_by_side, with_links, with_steps, in_a_row, ContextTerm, MappingTerm, GroupTerm}
+use Rattle.regex_grammar.specs.Reading.{is_level, behind_at, one_of, linked_of, step_of, prefixed_at, ignored_at, concat_at, link_at, chain_at, context_at, mapping_at, group_at, nine_at, step_at, expression_at}
+use Rattle.regex_grammar.proofs.Loops.{many_begin}
+use Rattle.regex_parser.specs.Values.{linked_by, step_by, link_value, step_value, context_value, mapping_value, group_value}
+use Rattle.regex_parser.proofs.Fronts.{link_begins, no_link, step_begins, no_step, no_slash, no_comma, no_group_comma, after_begins, behind_found, behind_fails, formed_found, formed_fails}
+use Rattle.regex_parser.proofs.Loops.{item_pushed, more_begin, more_pushed, row_read, row_fails}
+use Rattle.regex_parser.proofs.Parsing.{expression_none, expression_steps, ignored_shorter, slash_shorter, link_shorter, step_shorter, context_shorter, mapping_shorter, group_shorter, negated_read}
+use Rattle.regex_parser.proofs.parser.+parser.Goals as goal
+
+pub expression-returns-then-depth-eq0 : goal.expression-returns-then-depth-eq0
+expression-returns-then-depth-eq0 t c =
+    expression_none c.args.depth c.args.tokens.now c.if-depth-eq0.true
+
+pub expression-returns : goal.expression-returns
+expression-returns t c =
+    let e = expression_steps c.args.depth c.args.tokens.now c.if-depth-eq0.false in rw (← e) c.steps.ensures
+
+pub ignored-operands-init : goal.ignored-operands-init
+ignored-operands-init t c =
+    many_begin (is_level 6) (behind_at Slash (λ u. u) (prefixed_at (expression_at c.args.depth))) c.in-Some.rest.now
+
+pub ignored-operands-smaller : goal.ignored-operands-smaller
+ignored-operands-smaller t c =
+    let front : after Slash c.operands.rest.now ≡ Some c.in-Some-2.operand.now = search rules in
+    let read : (prefixed_at (expression_at c.args.depth)) c.in-Some-2.operand.now ≡ Some (term c.in-Some-3.expr, c.in-Some-3.behind.now) = search rules in
+    let item = behind_found Slash (λ (u : Term Raw). u) (prefixed_at (expression_at c.args.depth)) c.operands.rest.now c.in-Some-2.operand.now (term c.in-Some-3.expr) c.in-Some-3.behind.now (term c.in-Some-3.expr) front read refl in
+    slash_shorter c.args.depth c.operands.rest.now (term c.in-Some-3.expr, c.in-Some-3.behind.now) item
+
+pub ignored-operands-preserved : goal.ignored-operands-preserved
+ignored-operands-preserved t c =
+    let front : after Slash c.operands.rest.now ≡ Some c.in-Some-2.operand.now = search rules in
+    let here = after_begins Slash (is_level 6) refl c.operands.rest.now c.in-Some-2.operand.now front in
+    let read : (prefixed_at (expression_at c.args.depth)) c.in-Some-2.operand.now ≡ Some (term c.in-Some-3.expr, c.in-Some-3.behind.now) = search rules in
+    let item = behind_found Slash (λ (u : Term Raw). u) (prefixed_at (expression_at c.args.depth)) c.operands.rest.now c.in-Some-2.operand.now (term c.in-Some-3.expr) c.in-Some-3.behind.now (term c.in-Some-3.expr) front read refl in
+    item_pushed (is_level 6) (behind_at Slash (λ u. u) (prefixed_at (expression_at c.args.depth))) (term {A = Raw}) (slash_shorter c.args.depth) c.in-Some.rest.now c.operands.more.items c.push.new.self.items c.operands.rest.now c.in-Some-3.expr c.in-Some-3.behind.now c.operands.invariant here item c.in_ok-push.ensures.items
+
+pub ignored-returns-in_default-2 : goal.ignored-returns-in_default-2
+ignored-returns-in_default-2 t c =
+    let begun : (prefixed_at (expression_at c.args.depth)) c.args.tokens.now ≡ Some (term c.in-Some.first, c.in-Some.rest.now) = search rules in
+    let front : after Slash c.operands.rest.now ≡ Some c.in-Some-2.operand.now = search rules in
+    let here = after_begins Slash (is_level 6) refl c.operands.rest.now c.in-Some-2.operand.now front in
+    let unread : None ≡ (prefixed_at (expression_at c.args.depth)) c.in-Some-2.operand.now = search rules in
+    let none = behind_fails Slash (λ (u : Term Raw). u) (prefixed_at (expression_at c.args.depth)) c.operands.rest.now c.in-Some-2.operand.now front unread in
+    row_fails (is_level 6) ignoring (prefixed_at (expression_at c.args.depth)) (behind_at Slash (λ u. u) (prefixed_at (expression_at c.args.depth))) c.args.tokens.now (term c.in-Some.first) c.in-Some.rest.now (map (term {A = Raw}) c.operands.more.items) c.operands.rest.now begun c.operands.invariant here none
+
+pub ignored-returns : goal.ignored-returns
+ignored-returns t c =
+    let begun : (prefixed_at (expression_at c.args.depth)) c.args.tokens.now ≡ Some (term c.in-Some.first, c.in-Some.rest.now) = search rules in
+    let none_there : None ≡ after Slash c.operands.rest.now = search rules in
+    let stop = no_slash c.operands.rest.now none_there in
+    row_read (is_level 6) ignoring (prefixed_at (expression_at c.args.depth)) (behind_at Slash (λ u. u) (prefixed_at (expression_at c.args.depth))) c.args.tokens.now (term c.in-Some.first) c.in-Some.rest.now (map (term {A = Raw}) c.operands.more.items) c.operands.rest.now _ begun c.operands.invariant stop c.in_ok-ignoring.ensures
+
+pub concatenation-operands-smaller : goal.concatenation-operands-smaller
+concatenation-operands-smaller t c =
+    let here : begins (is_level 7) c.operands.rest.now ≡ true = search rules in
+    let item : (ignored_at (expression_at c.args.depth)) c.operands.rest.now ≡ Some (term c.in-Some-2.expr, c.in-Some-2.behind.now) = search rules in
+    ignored_shorter c.args.depth c.operands.rest.now (term c.in-Some-2.expr, c.in-Some-2.behind.now) item
+
+pub concatenation-operands-preserved : goal.concatenation-operands-preserved
+concatenation-operands-preserved t c =
+    let here : begins (is_level 7) c.operands.rest.now ≡ true = search rules in
+    let item : (ignored_at (expression_at c.args.depth)) c.operands.rest.now ≡ Some (term c.in-Some-2.expr, c.in-Some-2.behind.now) = search rules in
+    item_pushed (is_level 7) (ignored_at (expression_at c.args.depth)) (term {A = Raw}) (ignored_shorter c.args.depth) c.in-Some.rest.now c.operands.more.items c.push.new.self.items c.operands.rest.now c.in-Some-2.expr c.in-Some-2.behind.now c.operands.invariant here item c.in_ok-push.ensures.items
+
+pub concatenation-returns-in_default-2 : goal.concatenation-returns-in_default-2
+concatenation-returns-in_default-2 t c =
+    let begun : (ignored_at (expression_at c.args.depth)) c.args.tokens.now ≡ Some (term c.in-Some.first, c.in-Some.rest.now) = search rules in
+    let here : begins (is_level 7) c.operands.rest.now ≡ true = search rules in
+    let none : None ≡ (ignored_at (expression_at c.args.depth)) c.operands.rest.now = search rules in
+    row_fails (is_level 7) side_by_side (ignored_at (expression_at c.args.depth)) (ignored_at (expression_at c.args.depth)) c.args.tokens.now (term c.in-Some.first) c.in-Some.rest.now (map (term {A = Raw}) c.operands.more.items) c.operands.rest.now begun c.operands.invariant here none
+
+pub concatenation-returns : goal.concatenation-returns
+concatenation-returns t c =
+    let begun : (ignored_at (expression_at c.args.depth)) c.args.tokens.now ≡ Some (term c.in-Some.first, c.in-Some.rest.now) = search rules in
+    let stop : begins (is_level 7) c.operands.rest.now ≡ false = search rules in
+    row_read (is_level 7) side_by_side (ignored_at (expression_at c.args.depth)) (ignored_at (expression_at c.args.depth)) c.args.tokens.now (term c.in-Some.first) c.in-Some.rest.now (map (term {A = Raw}) c.operands.more.items) c.operands.rest.now _ begun c.operands.invariant stop c.in_ok-side_by_side.ensures
+
+pub chain-links-smaller : goal.chain-links-smaller
+chain-links-smaller t c =
+    let front : one_of (linked_of {T = Term Raw}) c.links.rest.now ≡ Some (linked_by c.in-Some-2.operator, c.in-Some-2.operand.now) = search rules in
+    let read : (concat_at (expression_at c.args.depth)) c.in-Some-2.operand.now ≡ Some (term c.in-Some-3.expr, c.in-Some-3.behind.now) = search rules in
+    let item = formed_found (linked_of {T = Term Raw}) (concat_at (expression_at c.args.depth)) c.links.rest.now (linked_by c.in-Some-2.operator) c.in-Some-2.operand.now (term c.in-Some-3.expr) c.in-Some-3.behind.now (link_value c.link.result) front read c.link.ensures in
+    link_shorter c.args.depth c.links.rest.now (link_value c.link.result, c.in-Some-3.behind.now) item
+
+pub chain-links-preserved : goal.chain-links-preserved
+chain-links-preserved t c =
+    let front : one_of (linked_of {T = Term Raw}) c.links.rest.now ≡ Some (linked_by c.in-Some-2.operator, c.in-Some-2.operand.now) = search rules in
+    let here = link_begins c.links.rest.now (linked_by c.in-Some-2.operator, c.in-Some-2.operand.now) front in
+    let read : (concat_at (expression_at c.args.depth)) c.in-Some-2.operand.now ≡ Some (term c.in-Some-3.expr, c.in-Some-3.behind.now) = search rules in
+    let item = formed_found (linked_of {T = Term Raw}) (concat_at (expression_at c.args.depth)) c.links.rest.now (linked_by c.in-Some-2.operator) c.in-Some-2.operand.now (term c.in-Some-3.expr) c.in-Some-3.behind.now (link_value c.link.result) front read c.link.ensures in
+    item_pushed (is_level 8) (link_at (concat_at (expression_at c.args.depth))) (link_value {A = Raw}) (link_shorter c.args.depth) c.in-Some.rest.now c.links.links.items c.push.new.self.items c.links.rest.now c.link.result c.in-Some-3.behind.now c.links.invariant here item c.in_ok-push.ensures.items
+
+pub chain-returns-in_default-2 : goal.chain-returns-in_default-2
+chain-returns-in_default-2 t c =
+    let begun : (concat_at (expression_at c.args.depth)) c.args.tokens.now ≡ Some (term c.in-Some.first, c.in-Some.rest.now) = search rules in
+    let front : one_of (linked_of {T = Term Raw}) c.links.rest.now ≡ Some (linked_by c.in-Some-2.operator, c.in-Some-2.operand.now) = search rules in
+    let here = link_begins c.links.rest.now (linked_by c.in-Some-2.operator, c.in-Some-2.operand.now) front in
+    let unread : None ≡ (concat_at (expression_at c.args.depth)) c.in-Some-2.operand.now = search rules in
+    let none = formed_fails (linked_of {T = Term Raw}) (concat_at (expression_at c.args.depth)) c.links.rest.now (linked_by c.in-Some-2.operator) c.in-Some-2.operand.now front unread in
+    row_fails (is_level 8) with_links (concat_at (expression_at c.args.depth)) (link_at (concat_at (expression_at c.args.depth))) c.args.tokens.now (term c.in-Some.first) c.in-Some.rest.now (map (link_value {A = Raw}) c.links.links.items) c.links.rest.now begun c.links.invariant here none
+
+pub chain-returns : goal.chain-returns
+chain-returns t c =
+    let begun : (concat_at (expression_at c.args.depth)) c.args.tokens.now ≡ Some (term c.in-Some.first, c.in-Some.rest.now) = search rules in
+    let none_there : None ≡ one_of (linked_of {T = Term Raw}) c.links.rest.now = search rules in
+    let stop = no_link c.links.rest.now none_there in
+    row_read (is_level 8) with_links (concat_at (expression_at c.args.depth)) (link_at (concat_at (expression_at c.args.depth))) c.args.tokens.now (term c.in-Some.first) c.in-Some.rest.now (map (link_value {A = Raw}) c.links.links.items) c.links.rest.now _ begun c.links.invariant stop c.in_ok-with_links.ensures
+
+pub steps-steps-smaller : goal.steps-steps-smaller
+steps-steps-smaller t c =
+    let front : one_of (step_of {T = Term Raw}) c.steps.rest.now ≡ Some (step_by c.in-Some-2.operator, c.in-Some-2.operand.now) = search rules in
+    let read : (nine_at (chain_at (expression_at c.args.depth))) c.in-Some-2.operand.now ≡ Some (term c.in-Some-3.expr, c.in-Some-3.behind.now) = search rules in
+    let item = formed_found (step_of {T = Term Raw}) (nine_at (chain_at (expression_at c.args.depth))) c.steps.rest.now (step_by c.in-Some-2.operator) c.in-Some-2.operand.now (term c.in-Some-3.expr) c.in-Some-3.behind.now (step_value c.step.result) front read c.step.ensures in
+    step_shorter c.args.depth c.steps.rest.now (step_value c.step.result, c.in-Some-3.behind.now) item
+
+pub steps-steps-preserved : goal.steps-steps-preserved
+steps-steps-preserved t c =
+    let front : one_of (step_of {T = Term Raw}) c.steps.rest.now ≡ Some (step_by c.in-Some-2.operator, c.in-Some-2.operand.now) = search rules in
+    let here = step_begins c.steps.rest.now (step_by c.in-Some-2.operator, c.in-Some-2.operand.now) front in
+    let read : (nine_at (chain_at (expression_at c.args.depth))) c.in-Some-2.operand.now ≡ Some (term c.in-Some-3.expr, c.in-Some-3.behind.now) = search rules in
+    let item = formed_found (step_of {T = Term Raw}) (nine_at (chain_at (expression_at c.args.depth))) c.steps.rest.now (step_by c.in-Some-2.operator) c.in-Some-2.operand.now (term c.in-Some-3.expr) c.in-Some-3.behind.now (step_value c.step.result) front read c.step.ensures in
+    item_pushed (is_level 15) (step_at (nine_at (chain_at (expression_at c.args.depth)))) (step_value {A = Raw}) (step_shorter c.args.depth) c.in-Some.rest.now c.steps.found.items c.push.new.self.items c.steps.rest.now c.step.result c.in-Some-3.behind.now c.steps.invariant here item c.in_ok-push.ensures.items
+
+pub steps-returns-in_default-2 : goal.steps-returns-in_default-2
+steps-returns-in_default-2 t c =
+    let begun : (nine_at (chain_at (expression_at c.args.depth))) c.args.tokens.now ≡ Some (term c.in-Some.first, c.in-Some.rest.now) = search rules in
+    let front : one_of (step_of {T = Term Raw}) c.steps.rest.now ≡ Some (step_by c.in-Some-2.operator, c.in-Some-2.operand.now) = search rules in
+    let here = step_begins c.steps.rest.now (step_by c.in-Some-2.operator, c.in-Some-2.operand.now) front in
+    let unread : None ≡ (nine_at (chain_at (expression_at c.args.depth))) c.in-Some-2.operand.now = search rules in
+    let none = formed_fails (step_of {T = Term Raw}) (nine_at (chain_at (expression_at c.args.depth))) c.steps.rest.now (step_by c.in-Some-2.operator) c.in-Some-2.operand.now front unread in
+    row_fails (is_level 15) with_steps (nine_at (chain_at (expression_at c.args.depth))) (step_at (nine_at (chain_at (expression_at c.args.depth)))) c.args.tokens.now (term c.in-Some.first) c.in-Some.rest.now (map (step_value {A = Raw}) c.steps.found.items) c.steps.rest.now begun c.steps.invariant here none
+
+pub steps-returns : goal.steps-returns
+steps-returns t c =
+    let begun : (nine_at (chain_at (expression_at c.args.depth))) c.args.tokens.now ≡ Some (term c.in-Some.first, c.in-Some.rest.now) = search rules in
+    let none_there : None ≡ one_of (step_of {T = Term Raw}) c.steps.rest.now = search rules in
+    let stop = no_step c.steps.rest.now none_there in
+    row_read (is_level 15) with_steps (nine_at (chain_at (expression_at c.args.depth))) (step_at (nine_at (chain_at (expression_at c.args.depth)))) c.args.tokens.now (term c.in-Some.first) c.in-Some.rest.now (map (step_value {A = Raw}) c.steps.found.items) c.steps.rest.now _ begun c.steps.invariant stop c.in_ok-with_steps.ensures
+
+pub contexts-contexts-init : goal.contexts-contexts-init
+contexts-contexts-init t c =
+    more_begin (is_level 11) (behind_at Comma (λ u. u) (context_at (chain_at (expression_at c.args.depth)))) c.in-Some.rest.now (map (context_value {A = Raw}) c.push.new.self.items)
+
+pub contexts-contexts-smaller : goal.contexts-contexts-smaller
+contexts-contexts-smaller t c =
+    let front : after Comma c.contexts.rest.now ≡ Some c.in-Some-2.next.now = search rules in
+    let read : (context_at (chain_at (expression_at c.args.depth))) c.in-Some-2.next.now ≡ Some (context_value c.in-Some-3.context, c.in-Some-3.behind.now) = search rules in
+    let item = behind_found Comma (λ (u : ContextTerm Raw). u) (context_at (chain_at (expression_at c.args.depth))) c.contexts.rest.now c.in-Some-2.next.now (context_value c.in-Some-3.context) c.in-Some-3.behind.now (context_value c.in-Some-3.context) front read refl in
+    context_shorter c.args.depth c.contexts.rest.now (context_value c.in-Some-3.context, c.in-Some-3.behind.now) item
+
+pub contexts-contexts-preserved : goal.contexts-contexts-preserved
+contexts-contexts-preserved t c =
+    let front : after Comma c.contexts.rest.now ≡ Some c.in-Some-2.next.now = search rules in
+    let here = after_begins Comma (is_level 11) refl c.contexts.rest.now c.in-Some-2.next.now front in
+    let read : (context_at (chain_at (expression_at c.args.depth))) c.in-Some-2.next.now ≡ Some (context_value c.in-Some-3.context, c.in-Some-3.behind.now) = search rules in
+    let item = behind_found Comma (λ (u : ContextTerm Raw). u) (context_at (chain_at (expression_at c.args.depth))) c.contexts.rest.now c.in-Some-2.next.now (context_value c.in-Some-3.context) c.in-Some-3.behind.now (context_value c.in-Some-3.context) front read refl in
+    more_pushed (is_level 11) (behind_at Comma (λ u. u) (context_at (chain_at (expression_at c.args.depth)))) (context_value {A = Raw}) (context_shorter c.args.depth) c.in-Some.rest.now (map (context_value {A = Raw}) c.push.new.self.items) c.contexts.found.items c.push-2.new.self.items c.contexts.rest.now c.in-Some-3.context c.in-Some-3.behind.now c.contexts.invariant here item c.in_ok-push-2.ensures.items
+
+pub contexts-returns-in_default-2 : goal.contexts-returns-in_default-2
+contexts-returns-in_default-2 t c =
+    let begun : context_at (chain_at (expression_at c.args.depth)) c.args.tokens.now ≡ Some (context_value c.in-Some.first, c.in-Some.rest.now) = search rules in
+    let front : after Comma c.contexts.rest.now ≡ Some c.in-Some-2.next.now = search rules in
+    let here = after_begins Comma (is_level 11) refl c.contexts.rest.now c.in-Some-2.next.now front in
+    let unread : None ≡ (context_at (chain_at (expression_at c.args.depth))) c.in-Some-2.next.now = search rules in
+    let none = behind_fails Comma (λ (u : ContextTerm Raw). u) (context_at (chain_at (expression_at c.args.depth))) c.contexts.rest.now c.in-Some-2.next.now front unread in
+    row_fails (is_level 11) in_a_row (context_at (chain_at (expression_at c.args.depth))) (behind_at Comma (λ u. u) (context_at (chain_at (expression_at c.args.depth)))) c.args.tokens.now (context_value c.in-Some.first) c.in-Some.rest.now c.contexts.invariant.more c.contexts.rest.now begun c.contexts.invariant.so_far here none
+
+pub contexts-returns : goal.contexts-returns
+contexts-returns t c =
+    let begun : context_at (chain_at (expression_at c.args.depth)) c.args.tokens.now ≡ Some (context_value c.in-Some.first, c.in-Some.rest.now) = search rules in
+    let none_there : None ≡ after Comma c.contexts.rest.now = search rules in
+    let stop = no_comma c.contexts.rest.now none_there in
+    let one : map (context_value {A = Raw}) c.push.new.self.items ≡ context_value c.in-Some.first ∷ [] = ap (map (context_value {A = Raw})) c.in_ok-push.ensures.items in
+    row_read (is_level 11) in_a_row (context_at (chain_at (expression_at c.args.depth))) (behind_at Comma (λ u. u) (context_at (chain_at (expression_at c.args.depth)))) c.args.tokens.now (context_value c.in-Some.first) c.in-Some.rest.now c.contexts.invariant.more c.contexts.rest.now _ begun c.contexts.invariant.so_far stop (c.contexts.invariant.pushed ∙ ap (λ us. us ++ c.contexts.invariant.more) one)
+
+pub group_tail-mappings-init : goal.group_tail-mappings-init
+group_tail-mappings-init t c =
+    more_begin (is_level 11) (behind_at Comma (λ u. u) (mapping_at c.args.optional (chain_at (expression_at c.args.depth)))) c.in-Some.rest.now (map (mapping_value {A = Raw}) c.push.new.self.items)
+
+pub group_tail-mappings-smaller : goal.group_tail-mappings-smaller
+group_tail-mappings-smaller t c =
+    let front : after Comma c.mappings.rest.now ≡ Some c.in-Some-2.next.now = search rules in
+    let read : (mapping_at c.args.optional (chain_at (expression_at c.args.depth))) c.in-Some-2.next.now ≡ Some (mapping_value c.in-Some-3.map, c.in-Some-3.behind.now) = search rules in
+    let item = behind_found Comma (λ (u : MappingTerm Raw). u) (mapping_at c.args.optional (chain_at (expression_at c.args.depth))) c.mappings.rest.now c.in-Some-2.next.now (mapping_value c.in-Some-3.map) c.in-Some-3.behind.now (mapping_value c.in-Some-3.map) front read refl in
+    mapping_shorter c.args.optional c.args.depth c.mappings.rest.now (mapping_value c.in-Some-3.map, c.in-Some-3.behind.now) item
+
+pub group_tail-mappings-preserved : goal.group_tail-mappings-preserved
+group_tail-mappings-preserved t c =
+    let front : after Comma c.mappings.rest.now ≡ Some c.in-Some-2.next.now = search rules in
+    let here = after_begins Comma (is_level 11) refl c.mappings.rest.now c.in-Some-2.next.now front in
+    let read : (mapping_at c.args.optional (chain_at (expression_at c.args.depth))) c.in-Some-2.next.now ≡ Some (mapping_value c.in-Some-3.map, c.in-Some-3.behind.now) = search rules in
+    let item = behind_found Comma (λ (u : MappingTerm Raw). u) (mapping_at c.args.optional (chain_at (expression_at c.args.depth))) c.mappings.rest.now c.in-Some-2.next.now (mapping_value c.in-Some-3.map) c.in-Some-3.behind.now (mapping_value c.in-Some-3.map) front read refl in
+    more_pushed (is_level 11) (behind_at Comma (λ u. u) (mapping_at c.args.optional (chain_at (expression_at c.args.depth)))) (mapping_value {A = Raw}) (mapping_shorter c.args.optional c.args.depth) c.in-Some.rest.now (map (mapping_value {A = Raw}) c.push.new.self.items) c.mappings.maps.items c.push-2.new.self.items c.mappings.rest.now c.in-Some-3.map c.in-Some-3.behind.now c.mappings.invariant here item c.in_ok-push-2.ensures.items
+
+pub replacement-groups-init : goal.replacement-groups-init
+replacement-groups-init t c =
+    more_begin (is_level 13) (behind_at GroupComma (λ u. u) (group_at c.args.optional (chain_at (expression_at c.args.depth)))) c.in-Some.rest.now (map (group_value {A = Raw}) c.push.new.self.items)
+
+pub replacement-groups-smaller : goal.replacement-groups-smaller
+replacement-groups-smaller t c =
+    let front : after GroupComma c.groups.rest.now ≡ Some c.in-Some-2.next.now = search rules in
+    let read : (group_at c.args.optional (chain_at (expression_at c.args.depth))) c.in-Some-2.next.now ≡ Some (group_value c.in-Some-3.group, c.in-Some-3.behind.now) = search rules in
+    let item = behind_found GroupComma (λ (u : GroupTerm Raw). u) (group_at c.args.optional (chain_at (expression_at c.args.depth))) c.groups.rest.now c.in-Some-2.next.now (group_value c.in-Some-3.group) c.in-Some-3.behind.now (group_value c.in-Some-3.group) front read refl in
+    group_shorter c.args.optional c.args.depth c.groups.rest.now (group_value c.in-Some-3.group, c.in-Some-3.behind.now) item
+
+pub replacement-groups-preserved : goal.replacement-groups-preserved
+replacement-groups-preserved t c =
+    let front : after GroupComma c.groups.rest.now ≡ Some c.in-Some-2.next.now = search rules in
+    let here = after_begins GroupComma (is_level 13) refl c.groups.rest.now c.in-Some-2.next.now front in
+    let read : (group_at c.args.optional (chain_at (expression_at c.args.depth))) c.in-Some-2.next.now ≡ Some (group_value c.in-Some-3.group, c.in-Some-3.behind.now) = search rules in
+    let item = behind_found GroupComma (λ (u : GroupTerm Raw). u) (group_at c.args.optional (chain_at (expression_at c.args.depth))) c.groups.rest.now c.in-Some-2.next.now (group_value c.in-Some-3.group) c.in-Some-3.behind.now (group_value c.in-Some-3.group) front read refl in
+    more_pushed (is_level 13) (behind_at GroupComma (λ u. u) (group_at c.args.optional (chain_at (expression_at c.args.depth)))) (group_value {A = Raw}) (group_shorter c.args.optional c.args.depth) c.in-Some.rest.now (map (group_value {A = Raw}) c.push.new.self.items) c.groups.groups.items c.push-2.new.self.items c.groups.rest.now c.in-Some-3.group c.in-Some-3.behind.now c.groups.invariant here item c.in_ok-push-2.ensures.items
+
+pub group_tail-returns-in_default-2 : goal.group_tail-returns-in_default-2
+group_tail-returns-in_default-2 t c =
+    ?
+
+pub group_tail-returns : goal.group_tail-returns
+group_tail-returns t c =
+    ?
+
+pub replacement-returns-in_default-2 : goal.replacement-returns-in_default-2
+replacement-returns-in_default-2 t c =
+    ?
+
+pub replacement-returns : goal.replacement-returns
+replacement-returns t c =
+    ?
+
+pub negated-returns : goal.negated-returns
+negated-returns t c =
+    negated_read (expression_at c.args.depth) c.args.tokens.now c.backslashes.result.0 c.backslashes.result.1.now (term c.in-Some.operand) c.in-Some.rest.now _ c.backslashes.ensures (search rules) c.in_ok-with_backslashes.ensures
+
