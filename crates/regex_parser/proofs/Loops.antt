@@ -25,6 +25,14 @@ pub item_pushed : {U X K : Type 0} (next : K → Bool) (read : Reader K U) (valu
 item_pushed next read value shorter tokens found now rest x behind so_far here item same =
     item_next next read tokens (map value found) (map value now) rest (value x) behind so_far here item (shorter rest (value x, behind) item) (ap (map value) same ∙ rw map-append)
 
+-- the items so far of a row whose first item stands apart
+pub record RowSoFar {X U K : Type 0} (next : K → Bool) (read : Reader K U) (tokens : List K) (first first_now : X) (found : List U) (rest : List K) : Type 0 where
+  pub kept : first_now ≡ first
+  pub so_far : ManySoFar next read tokens found rest
+
+pub row_begun : {X U Y K : Type 0} (next : K → Bool) (read : Reader K U) (value : Y → U) (tokens : List K) (first : X) (found : List Y) → found ≡ [] → RowSoFar next read tokens first first (map value found) tokens
+row_begun next read value tokens first found none = record { kept = refl; so_far = subst (λ ys. ManySoFar next read tokens (map value ys) tokens) (sym none) (many_begin next read tokens) }
+
 -- a row whose items so far were pushed behind others
 pub record MoreSoFar {K U : Type 0} (next : K → Bool) (read : Reader K U) (tokens : List K) (before now : List U) (rest : List K) : Type 0 where
   pub more : List U
@@ -81,7 +89,7 @@ pub made_row_none : {K T U V S W : Type 0} (next : K → Bool) (join : T → Lis
     → None ≡ made seen (first tokens) → None ≡ made make (row_at next join first read tokens)
 made_row_none {K} {T} {U} {V} {S} {W} next join first read make seen tokens e = none (first tokens) e
   where
-    none : (o : Option (T × List K)) → None ≡ made seen o → None ≡ option_map (λ (y : V × List K). (make y.0, y.1)) (option_and_then (λ (x : T × List K). option_map (λ (y : List U × List K). (join x.0 y.0, y.1)) (many next read (length x.1) x.1)) o)
+    none : (o : Option (T × List K)) → None ≡ made seen o → None ≡ made make (option_and_then (λ (x : T × List K). made (join x.0) (many next read (length x.1) x.1)) o)
     none None e = refl
     none (Some x) e = absurd cc
 
@@ -99,7 +107,7 @@ tail_read {K} {T} {U} {V} next join first read tokens t behind begun here = fuse
     ap (option_and_then (λ (x : T × List K). option_map (λ (y : Option U × List K). (join x.0 y.0, y.1)) (option_at next read x.1))) begun
     ∙ ap (λ b. option_map (λ (y : Option U × List K). (join t y.0, y.1)) (cond b (option_map (λ (x : U × List K). (Some x.0, x.1)) (read behind)) (Some (None, behind)))) here)
   where
-    fused : (o : Option (U × List K)) → option_map (λ (x : U × List K). (join t (Some x.0), x.1)) o ≡ option_map (λ (y : Option U × List K). (join t y.0, y.1)) (option_map (λ (x : U × List K). (Some x.0, x.1)) o)
+    fused : (o : Option (U × List K)) → made (λ u. join t (Some u)) o ≡ made (join t) (made Some o)
     fused None = refl
     fused (Some x) = refl
 

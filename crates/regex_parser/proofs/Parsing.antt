@@ -64,7 +64,7 @@ pub negated_read : (inner : Reader Token (Term Raw)) (tokens : List Token) (coun
     → made length (many is_backslash (one_of backslash_of) (length tokens) tokens) ≡ Some (count, behind) → Some (t, rest) ≡ primary_at inner behind → u ≡ not_one_of count t → Some (u, rest) ≡ negated_at inner tokens
 negated_read inner tokens count behind t rest u marks item same = by (many is_backslash (one_of backslash_of) (length tokens) tokens) marks
   where
-    by : (o : Option (List ⊤ × List Token)) → made length o ≡ Some (count, behind) → Some (u, rest) ≡ option_and_then (λ (y : List ⊤ × List Token). option_map (λ (x : Term Raw × List Token). (with_backslashes y.0 x.0, x.1)) (primary_at inner y.1)) o
+    by : (o : Option (List ⊤ × List Token)) → made length o ≡ Some (count, behind) → Some (u, rest) ≡ option_and_then (λ (y : List ⊤ × List Token). made (with_backslashes y.0) (primary_at inner y.1)) o
     by None e = absurd cc
     by (Some y) e =
         let a : ℕ × List Token = (length y.0, y.1) in
@@ -78,7 +78,7 @@ pub negated_none : (inner : Reader Token (Term Raw)) (tokens : List Token) (coun
     → made length (many is_backslash (one_of backslash_of) (length tokens) tokens) ≡ Some (count, behind) → None ≡ primary_at inner behind → None ≡ negated_at inner tokens
 negated_none inner tokens count behind marks item = by (many is_backslash (one_of backslash_of) (length tokens) tokens) marks
   where
-    by : (o : Option (List ⊤ × List Token)) → made length o ≡ Some (count, behind) → None ≡ option_and_then (λ (y : List ⊤ × List Token). option_map (λ (x : Term Raw × List Token). (with_backslashes y.0 x.0, x.1)) (primary_at inner y.1)) o
+    by : (o : Option (List ⊤ × List Token)) → made length o ≡ Some (count, behind) → None ≡ option_and_then (λ (y : List ⊤ × List Token). made (with_backslashes y.0) (primary_at inner y.1)) o
     by None e = absurd cc
     by (Some y) e =
         let a : ℕ × List Token = (length y.0, y.1) in
@@ -145,3 +145,7 @@ insertion_unsided read tokens arrow behind t rest front item none =
     made_map_none sided_by (λ s. insertion_by arrow t s) (option_at (is_level 12) (sided_at read) rest) none
     ∙ ap (option_and_then (λ (x : Term Raw × List Token). option_map (λ (y : Option (SidedTerm Raw) × List Token). (insertion_by arrow x.0 y.0, y.1)) (option_at (is_level 12) (sided_at read) x.1))) item
     ∙ ap (option_and_then (λ (a : Bool × List Token). option_and_then (λ (x : Term Raw × List Token). option_map (λ (y : Option (SidedTerm Raw) × List Token). (insertion_by a.0 x.0 y.0, y.1)) (option_at (is_level 12) (sided_at read) x.1)) (read a.1))) front
+
+-- a level 8 with nothing behind it that goes on
+pub unruled : (read : Reader Token (Term Raw)) (t : Term Raw) (tokens : List Token) → begins (is_level 14) tokens ≡ false → Some (t, tokens) ≡ made (with_ruling t) (option_at (is_level 14) (ruling_at read) tokens)
+unruled read t tokens last = sym (ap (λ b. made (with_ruling t) (cond b (made Some (ruling_at read tokens)) (Some (None, tokens)))) last)

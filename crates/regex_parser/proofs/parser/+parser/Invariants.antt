@@ -2,9 +2,8 @@ use Rattle.std.proofs.Common.{◌+◌, ◌*◌, length, map}
 use Rattle.regex_ast.specs.Terms.{term}
 use Rattle.regex_grammar.specs.Reading.{is_level, behind_at, prefixed_at, ignored_at, concat_at, link_at, chain_at, context_at, mapping_at, group_at, nine_at, step_at, expression_at}
 use Rattle.regex_tokens.specs.declared.token.Operator.TheVariants.{Slash, Comma, GroupComma}
-use Rattle.regex_grammar.proofs.Loops.{ManySoFar}
 use Rattle.regex_parser.specs.Values.{link_value, step_value, context_value, mapping_value, group_value}
-use Rattle.regex_parser.proofs.Loops.{MoreSoFar}
+use Rattle.regex_parser.proofs.Loops.{RowSoFar, MoreSoFar}
 use Rattle.regex_parser.proofs.parser.+parser.Given as goal
 
 -- by the brackets that may be opened, and then by the levels
@@ -87,25 +86,25 @@ abbrev pub decreases-steps : goal.decreases-steps
 decreases-steps l = 25 * l.depth + 24
 
 abbrev pub invariant-ignored-operands : goal.invariant-ignored-operands
-invariant-ignored-operands l = ManySoFar (is_level 6) (behind_at Slash (λ t. t) (prefixed_at (expression_at l.depth))) l.initial.rest (map term l.more.items) l.rest
+invariant-ignored-operands l = RowSoFar (is_level 6) (behind_at Slash (λ t. t) (prefixed_at (expression_at l.depth))) l.initial.rest l.initial.first l.first (map term l.more.items) l.rest
 
 abbrev pub decreases-ignored-operands : goal.decreases-ignored-operands
 decreases-ignored-operands l = length l.rest
 
 abbrev pub invariant-concatenation-operands : goal.invariant-concatenation-operands
-invariant-concatenation-operands l = ManySoFar (is_level 7) (ignored_at (expression_at l.depth)) l.initial.rest (map term l.more.items) l.rest
+invariant-concatenation-operands l = RowSoFar (is_level 7) (ignored_at (expression_at l.depth)) l.initial.rest l.initial.first l.first (map term l.more.items) l.rest
 
 abbrev pub decreases-concatenation-operands : goal.decreases-concatenation-operands
 decreases-concatenation-operands l = length l.rest
 
 abbrev pub invariant-chain-links : goal.invariant-chain-links
-invariant-chain-links l = ManySoFar (is_level 8) (link_at (concat_at (expression_at l.depth))) l.initial.rest (map link_value l.links.items) l.rest
+invariant-chain-links l = RowSoFar (is_level 8) (link_at (concat_at (expression_at l.depth))) l.initial.rest l.initial.first l.first (map link_value l.links.items) l.rest
 
 abbrev pub decreases-chain-links : goal.decreases-chain-links
 decreases-chain-links l = length l.rest
 
 abbrev pub invariant-steps-steps : goal.invariant-steps-steps
-invariant-steps-steps l = ManySoFar (is_level 15) (step_at (nine_at (chain_at (expression_at l.depth)))) l.initial.rest (map step_value l.found.items) l.rest
+invariant-steps-steps l = RowSoFar (is_level 15) (step_at (nine_at (chain_at (expression_at l.depth)))) l.initial.rest l.initial.first l.first (map step_value l.found.items) l.rest
 
 abbrev pub decreases-steps-steps : goal.decreases-steps-steps
 decreases-steps-steps l = length l.rest
