@@ -106,7 +106,7 @@ planned xs table alphabet table_is alphabet_is texts_are formed distinct compile
   in_turn = alphabet_is ∙ ap numbered (sym texts_are);
   distinct = subst (λ ds. IsDistinct (names_of ds)) (sym (defined_are xs)) distinct;
   compiled = subst (λ (t : List (List ℕ)). All (IsCompiledOver t) (map defined xs)) (sym (texts_are ∙ table_is))
-    (over (defined_by (map statement_of xs)) (alphabet_of (definitions_of (map statement_of xs))) xs compiled (put (symbols_of_all (defined_by (map statement_of xs)) (definitions_of (map statement_of xs))) []));
+      (over (defined_by (map statement_of xs)) (alphabet_of (definitions_of (map statement_of xs))) xs compiled (put (symbols_of_all (defined_by (map statement_of xs)) (definitions_of (map statement_of xs))) []));
 }
 
 pub same_project : (alphabet other : List (List ℕ)) (definitions others : List Definition) → alphabet ≡ other → definitions ≡ others → ◌≡◌ {A = Project} (record { alphabet = alphabet; definitions = definitions }) (record { alphabet = other; definitions = others })

@@ -31,5 +31,5 @@ defines-preserved c =
     record {
       names = now_is;
       formed = still_formed c.args.defines.now c.defines.define-index c.define-item.result (omega arith) c.define-item.is _ now_is c.in_ok-add.ensures.distinct
-        (omega (arith, names_length c.args.defines.now c.defines.define-index c.define-item.result (omega arith) c.define-item.is _ now_is));
+          (omega (arith, names_length c.args.defines.now c.defines.define-index c.define-item.result (omega arith) c.define-item.is _ now_is));
     }

@@ -48,6 +48,6 @@ returns c =
     let whole_is = table_whole c.args.defines.items _ _ names_are table_is (omega arith) in
     let statements = map statement_of c.args.defines.items in (
       subst (λ (p : Project). SayTogether c.args.file.now statements (Ok p)) (same_project _ _ _ _ (sym (texts_are ∙ whole_is)) (sym (defined_are c.args.defines.items)))
-      (together formed (within c.args.defines.items _ _ names_are table_is (omega arith)) compiled),
+          (together formed (within c.args.defines.items _ _ names_are table_is (omega arith)) compiled),
       planned c.args.defines.items c.in_ok-table.table c.in_ok-alphabet.alphabet whole_is c.in_ok-alphabet.ensures.alphabet texts_are c.in_ok-alphabet.ensures.formed formed.distinct compiled,
     )
