@@ -119,6 +119,9 @@ ruling_only read t rest = same (contexts_at read rest)
     same None = refl
     same (Some x) = refl
 
+pub ruling_only_at : (read : Reader Token (Term Raw)) (t : Term Raw) (tokens rest : List Token) → tokens ≡ operator only_operator ∷ rest → made (λ y. only t (contexts_by y)) (contexts_at read rest) ≡ made (with_ruling t) (option_at (is_level 14) (ruling_at read) tokens)
+ruling_only_at read t tokens rest spelled = ruling_only read t rest ∙ ap (λ us. made (with_ruling t) (option_at (is_level 14) (ruling_at read) us)) (sym spelled)
+
 ruling_same : (t : Term Raw) (o : Option (RulingTerm Raw × List Token)) → made (λ y. with_ruling t (Some y)) o ≡ made (with_ruling t) (option_map {U = Option (RulingTerm Raw) × List Token} (λ (x : RulingTerm Raw × List Token). (Some x.0, x.1)) o)
 ruling_same t None = refl
 ruling_same t (Some x) = refl
@@ -145,7 +148,3 @@ insertion_unsided read tokens arrow behind t rest front item none =
     made_map_none sided_by (λ s. insertion_by arrow t s) (option_at (is_level 12) (sided_at read) rest) none
     ∙ ap (option_and_then (λ (x : Term Raw × List Token). option_map (λ (y : Option (SidedTerm Raw) × List Token). (insertion_by arrow x.0 y.0, y.1)) (option_at (is_level 12) (sided_at read) x.1))) item
     ∙ ap (option_and_then (λ (a : Bool × List Token). option_and_then (λ (x : Term Raw × List Token). option_map (λ (y : Option (SidedTerm Raw) × List Token). (insertion_by a.0 x.0 y.0, y.1)) (option_at (is_level 12) (sided_at read) x.1)) (read a.1))) front
-
--- a level 8 with nothing behind it that goes on
-pub unruled : (read : Reader Token (Term Raw)) (t : Term Raw) (tokens : List Token) → begins (is_level 14) tokens ≡ false → Some (t, tokens) ≡ made (with_ruling t) (option_at (is_level 14) (ruling_at read) tokens)
-unruled read t tokens last = sym (ap (λ b. made (with_ruling t) (cond b (made Some (ruling_at read tokens)) (Some (None, tokens)))) last)

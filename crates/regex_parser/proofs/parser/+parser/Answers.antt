@@ -1,16 +1,17 @@
-use Rattle.std.proofs.Common.{◌≡◌, ◌∷◌, [], ◌++◌, true, false, None, Some, map, refl, ap, ◌∙◌, rules}
+use Rattle.std.proofs.Common.{◌≡◌, ◌∷◌, [], ◌++◌, true, false, None, Some, map, refl, ap, ◌∙◌, arith, rules}
 use Rattle.regex_ast.specs.Terms.{Term, term, rules as rules_term}
 use Rattle.regex_ast.specs.declared.expr.Expr.{Expr}
 use Rattle.regex_ast.specs.declared.expr.Raw.{Raw}
 use Rattle.regex_tokens.specs.Fronts.{after}
-use Rattle.regex_tokens.specs.declared.token.Operator.TheVariants.{Slash, Comma, GroupComma, Underscore}
+use Rattle.regex_tokens.specs.declared.token.Operator.TheVariants.{Slash, Comma, GroupComma, Underscore, Only as only_operator}
+use Rattle.regex_tokens.specs.declared.token.Token.TheVariants.{Operator as operator}
 use Rattle.regex_grammar.specs.Rows.{begins, option_at}
 use Rattle.regex_grammar.specs.Grammar.{ignoring, side_by_side, with_links, with_steps, part, in_a_row, ContextTerm, sided_by, MappingTerm, mapping_by, right_and_more, GroupTerm, group_by, groups_by, RulingTerm, replacement_by, with_ruling}
 use Rattle.regex_grammar.specs.Reading.{is_level, behind_at, one_of, linked_of, step_of, arrow_of, prefixed_at, ignored_at, concat_at, link_at, chain_at, context_at, sided_at, right_at, mapping_at, group_tail_at, group_at, nine_at, step_at, expression_at}
 use Rattle.regex_parser.specs.Values.{made, linked_by, step_by, link_value, step_value, context_value, sided_value, mapping_value, group_value}
 use Rattle.regex_parser.proofs.Fronts.{link_begins, no_link, step_begins, no_step, no_slash, no_comma, no_group_comma, after_begins, behind_found, behind_fails, formed_found, formed_fails}
 use Rattle.regex_parser.proofs.Loops.{item_pushed, row_begun, more_begin, more_pushed, row_read, row_fails, made_row_read, made_row_fails}
-use Rattle.regex_parser.proofs.Parsing.{expression_none, expression_steps, ignored_shorter, slash_shorter, link_shorter, step_shorter, context_shorter, mapping_shorter, group_shorter, negated_read, insertion_read, unruled}
+use Rattle.regex_parser.proofs.Parsing.{expression_none, expression_steps, ignored_shorter, slash_shorter, link_shorter, step_shorter, context_shorter, mapping_shorter, group_shorter, negated_read, insertion_read, ruling_only_at}
 use Rattle.regex_parser.proofs.Rules.{context_read, context_without_left, context_without_place, context_without_right, dots_read, dots_none, mappings_from, maps_at, group_tail_read, group_tail_unsided, group_tail_none}
 use Rattle.regex_parser.proofs.parser.+parser.Goals as goal
 
@@ -328,8 +329,9 @@ insertion-returns t c =
 
 pub ruling-returns-in-Some-Operator-Only-default : goal.ruling-returns-in-Some-Operator-Only-default
 ruling-returns-in-Some-Operator-Only-default t c =
-    let last : begins (is_level 14) c.args.tokens.now ≡ false = search rules in
-    unruled (chain_at (expression_at c.args.depth)) (term c.args.centre) c.args.tokens.now last
+    let spelled : c.args.tokens.now ≡ operator only_operator ∷ c.in-Some-Operator-Only-default.rest.now = search rules in
+    let same = ruling_only_at (chain_at (expression_at c.args.depth)) (term c.args.centre) c.args.tokens.now c.in-Some-Operator-Only-default.rest.now spelled in
+    first_of (rw (← same) c.restriction.ensures, search (rules, same), grind (arith, same))
 
 pub negated-returns : goal.negated-returns
 negated-returns t c =
