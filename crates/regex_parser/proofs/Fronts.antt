@@ -6,15 +6,14 @@ use Rattle.regex_parser.specs.Values.{made}
 use Rattle.regex_ast.specs.Terms.{Term}
 use Rattle.regex_ast.specs.declared.expr.Prefix.{Prefix}
 use Rattle.regex_ast.specs.declared.expr.Raw.{Raw}
-use Rattle.regex_ast.specs.declared.expr.Side.{Side}
 use Rattle.regex_ast.specs.declared.expr.Suffix.{Suffix}
 use Rattle.regex_grammar.specs.Rows.{begins, Reader}
-use Rattle.regex_grammar.specs.Reading.{is_level, is_backslash, is_prefix, behind_at, one_of, backslash_of, prefix_of, suffix_at, power_at, power_of, linked_of, side_of, step_of}
+use Rattle.regex_grammar.specs.Reading.{is_level, is_backslash, is_prefix, behind_at, one_of, backslash_of, prefix_of, suffix_at, power_at, power_of, linked_of, step_of}
 use Rattle.regex_grammar.specs.Grammar.{Linked, StepForm}
 use Rattle.regex_tokens.proofs.Fronts.{after_takes, after_again}
 use Rattle.regex_tokens.specs.Fronts.{after}
 use Rattle.regex_tokens.specs.declared.token.Operator.{Operator}
-use Rattle.regex_tokens.specs.declared.token.Operator.TheVariants.{Backslash, Tilde, Dollar, Star, Plus, Caret, Upper, Lower, Inverse, Reverse, Bar, Ampersand, Minus, UpUp, LowUp, UpLow, LowLow, CrossWith, Then, Slash, Comma, GroupComma, Colon}
+use Rattle.regex_tokens.specs.declared.token.Operator.TheVariants.{Backslash, Tilde, Dollar, Star, Plus, Caret, Upper, Lower, Inverse, Reverse, Bar, Ampersand, Minus, CrossWith, Then, Slash, Comma, GroupComma}
 use Rattle.regex_tokens.specs.declared.token.Token.{Token}
 use Rattle.regex_tokens.specs.declared.token.Token.TheVariants.{Operator as operator, Quoted as quoted_token, Braced as braced_token, Run as run_token}
 
@@ -94,26 +93,6 @@ no_link (quoted_token cs ∷ rest) e = refl
 no_link (braced_token cs ∷ rest) e = refl
 no_link (run_token r ∷ rest) e = refl
 
-pub side_begins : (tokens : List Token) (x : Side × List Token) → one_of side_of tokens ≡ Some x → begins (is_level 12) tokens ≡ true
-side_begins [] x e = absurd cc
-side_begins (operator UpUp ∷ rest) x e = refl
-side_begins (operator LowUp ∷ rest) x e = refl
-side_begins (operator UpLow ∷ rest) x e = refl
-side_begins (operator LowLow ∷ rest) x e = refl
-side_begins (operator _ ∷ rest) x e = absurd cc
-side_begins (_ ∷ rest) x e = absurd cc
-
-pub no_side : (tokens : List Token) → None ≡ one_of side_of tokens → begins (is_level 12) tokens ≡ false
-no_side [] e = refl
-no_side (operator UpUp ∷ rest) e = absurd cc
-no_side (operator LowUp ∷ rest) e = absurd cc
-no_side (operator UpLow ∷ rest) e = absurd cc
-no_side (operator LowLow ∷ rest) e = absurd cc
-no_side (operator _ ∷ rest) e = refl
-no_side (quoted_token cs ∷ rest) e = refl
-no_side (braced_token cs ∷ rest) e = refl
-no_side (run_token r ∷ rest) e = refl
-
 pub step_begins : (tokens : List Token) (x : (Term Raw → StepForm (Term Raw)) × List Token) → one_of (step_of {T = Term Raw}) tokens ≡ Some x → begins (is_level 15) tokens ≡ true
 step_begins [] x e = absurd cc
 step_begins (operator CrossWith ∷ rest) x e = refl
@@ -129,14 +108,6 @@ no_step (operator _ ∷ rest) e = refl
 no_step (quoted_token cs ∷ rest) e = refl
 no_step (braced_token cs ∷ rest) e = refl
 no_step (run_token r ∷ rest) e = refl
-
-pub no_colon : (tokens : List Token) → None ≡ after Colon tokens → begins (is_level 3) tokens ≡ false
-no_colon [] e = refl
-no_colon (operator Colon ∷ rest) e = let clash : None ≡ Some rest = e ∙ after_again Colon rest in absurd cc
-no_colon (operator _ ∷ rest) e = refl
-no_colon (quoted_token cs ∷ rest) e = refl
-no_colon (braced_token cs ∷ rest) e = refl
-no_colon (run_token r ∷ rest) e = refl
 
 pub no_slash : (tokens : List Token) → None ≡ after Slash tokens → begins (is_level 6) tokens ≡ false
 no_slash [] e = refl

@@ -1,8 +1,8 @@
 -- Rows and parts that are read by loops and choices. Nothing here knows what a token is.
-use Rattle.std.proofs.Common.{◌≡◌, ◌<◌, Bool, true, false, cond, Option, Some, None, List, [], ◌∷◌, ◌++◌, length, map, refl, sym, ap, subst, ◌∙◌, append_assoc, append-nil}
+use Rattle.std.proofs.Common.{◌≡◌, ◌<◌, Bool, true, false, Option, Some, None, List, [], ◌∷◌, ◌++◌, length, map, refl, sym, ap, subst, ◌∙◌, append_assoc, append-nil}
 use Rattle.std.specs.Option.{option_map, option_and_then}
 use Rattle.std.proofs.lemmas.List.{map-append}
-use Rattle.regex_grammar.specs.Rows.{begins, Reader, many, option_at, row_at, tailed_at}
+use Rattle.regex_grammar.specs.Rows.{begins, Reader, many, row_at}
 use Rattle.regex_parser.specs.Values.{made}
 use Rattle.regex_grammar.proofs.Cases.{map_some}
 use Rattle.regex_grammar.proofs.Loops.{ManySoFar, many_begin, many_goes_on, many_ends, many_fails}
@@ -84,32 +84,6 @@ pub made_row_fails : {K T U V S W : Type 0} (next : K → Bool) (join : T → Li
 made_row_fails {K} {T} {U} {V} {S} {W} next join first read make seen tokens s behind us rest begun so_far here item = map_some _ (first tokens) (s, behind) (sym begun) (λ x found pair.
     let so_far_there : ManySoFar next read x.1 us rest = subst (λ b. ManySoFar next read b us rest) (sym (ap (λ (p : S × List K). p.1) pair)) so_far in
     ap (option_map (λ (y : V × List K). (make y.0, y.1))) (row_fails next join first read tokens x.0 x.1 us rest found so_far_there here item))
-
-pub made_row_none : {K T U V S W : Type 0} (next : K → Bool) (join : T → List U → V) (first : Reader K T) (read : Reader K U) (make : V → W) (seen : T → S) (tokens : List K)
-    → None ≡ made seen (first tokens) → None ≡ made make (row_at next join first read tokens)
-made_row_none {K} {T} {U} {V} {S} {W} next join first read make seen tokens e = none (first tokens) e
-  where
-    none : (o : Option (T × List K)) → None ≡ made seen o → None ≡ made make (option_and_then (λ (x : T × List K). made (join x.0) (many next read (length x.1) x.1)) o)
-    none None e = refl
-    none (Some x) e = absurd cc
-
--- Parts that may be left out.
-
-pub left_out : {K T U V : Type 0} (next : K → Bool) (join : T → Option U → V) (first : Reader K T) (read : Reader K U) (tokens : List K) (t : T) (behind : List K)
-    → first tokens ≡ Some (t, behind) → begins next behind ≡ false → Some (join t None, behind) ≡ tailed_at next join first read tokens
-left_out {K} {T} {U} {V} next join first read tokens t behind begun last = sym (
-    ap (option_and_then (λ (x : T × List K). option_map (λ (y : Option U × List K). (join x.0 y.0, y.1)) (option_at next read x.1))) begun
-    ∙ ap (λ b. option_map (λ (y : Option U × List K). (join t y.0, y.1)) (cond b (option_map (λ (x : U × List K). (Some x.0, x.1)) (read behind)) (Some (None, behind)))) last)
-
-pub tail_read : {K T U V : Type 0} (next : K → Bool) (join : T → Option U → V) (first : Reader K T) (read : Reader K U) (tokens : List K) (t : T) (behind : List K)
-    → first tokens ≡ Some (t, behind) → begins next behind ≡ true → made (λ u. join t (Some u)) (read behind) ≡ tailed_at next join first read tokens
-tail_read {K} {T} {U} {V} next join first read tokens t behind begun here = fused (read behind) ∙ sym (
-    ap (option_and_then (λ (x : T × List K). option_map (λ (y : Option U × List K). (join x.0 y.0, y.1)) (option_at next read x.1))) begun
-    ∙ ap (λ b. option_map (λ (y : Option U × List K). (join t y.0, y.1)) (cond b (option_map (λ (x : U × List K). (Some x.0, x.1)) (read behind)) (Some (None, behind)))) here)
-  where
-    fused : (o : Option (U × List K)) → made (λ u. join t (Some u)) o ≡ made (join t) (made Some o)
-    fused None = refl
-    fused (Some x) = refl
 
 -- Steps that are known by what is made of their answers.
 

@@ -1,23 +1,22 @@
 -- The functions of the parser, each as its level is read.
-use Rattle.std.proofs.Common.{◌≡◌, ℕ, zero, suc, ◌-◌, true, false, cond, Bool, Option, Some, None, List, [], ◌∷◌, map, length, refl, sym, ap, ◌∙◌, arith}
+use Rattle.std.proofs.Common.{◌≡◌, ℕ, zero, suc, ◌-◌, Bool, Option, Some, None, List, [], ◌∷◌, length, refl, sym, ap, ◌∙◌, arith}
 use Rattle.std.specs.Bool.{⊤}
 use Rattle.std.specs.Option.{option_map, option_and_then}
 use Rattle.regex_ast.specs.Terms.{Term, only, rules}
 use Rattle.regex_ast.specs.declared.expr.Raw.{Raw}
-use Rattle.regex_ast.specs.declared.expr.Side.{Side}
-use Rattle.regex_grammar.specs.Rows.{Reader, begins, many, option_at}
-use Rattle.regex_grammar.specs.Grammar.{part, with_backslashes, contexts_by, ContextTerm, SidedTerm, sided_by, RightTerm, right_and_more, MappingTerm, mapping_by, marks_term, GroupTailTerm, GroupTerm, group_by, group_tail_by, groups_by, RulingTerm, restriction, with_ruling, inserting, insertion_by}
-use Rattle.regex_grammar.specs.Reading.{is_level, is_backslash, behind_at, one_of, backslash_of, arrow_of, prefixed_at, ignored_at, concat_at, link_at, step_at, nine_at, context_at, mapping_at, group_at, group_tail_at, chain_at, negated_at, primary_at, steps_at, sided_at, contexts_at, dots_at, ruling_at, insertion_at, replacement_at, expression_at}
+use Rattle.regex_grammar.specs.Rows.{Reader, many, option_at}
+use Rattle.regex_grammar.specs.Grammar.{with_backslashes, contexts_by, ContextTerm, SidedTerm, sided_by, MappingTerm, GroupTerm, groups_by, RulingTerm, restriction, with_ruling, inserting, insertion_by}
+use Rattle.regex_grammar.specs.Reading.{is_level, is_backslash, behind_at, one_of, backslash_of, arrow_of, prefixed_at, ignored_at, concat_at, link_at, step_at, nine_at, context_at, mapping_at, group_at, chain_at, negated_at, primary_at, steps_at, sided_at, contexts_at, ruling_at, insertion_at, expression_at}
 use Rattle.regex_grammar.proofs.Exact.{exact_shorter}
 use Rattle.regex_grammar.proofs.Operators.{behind_exact}
 use Rattle.regex_grammar.proofs.Levels5to8.{prefixed_exact, ignored_exact, concat_exact, link_exact, chain_exact}
 use Rattle.regex_grammar.proofs.Level9.{context_exact, mapping_exact, group_exact, nine_exact}
 use Rattle.regex_grammar.proofs.Level10.{step_exact, expression_inside}
-use Rattle.regex_tokens.specs.declared.token.Operator.TheVariants.{Slash, Comma, GroupComma, Only as only_operator, Optional, Arrow}
+use Rattle.regex_tokens.specs.declared.token.Operator.TheVariants.{Slash, Comma, GroupComma, Only as only_operator}
 use Rattle.regex_tokens.specs.declared.token.Token.{Token}
 use Rattle.regex_tokens.specs.declared.token.Token.TheVariants.{Operator as operator}
 use Rattle.regex_parser.specs.Values.{made, not_one_of}
-use Rattle.regex_parser.proofs.Loops.{Shortens, made_map, made_map_none, made_then, made_then_none, row_read}
+use Rattle.regex_parser.proofs.Loops.{Shortens, made_map}
 
 -- What the loops read is shorter.
 
@@ -74,42 +73,7 @@ negated_read inner tokens count behind t rest u marks item same = by (many is_ba
         let value : u ≡ with_backslashes y.0 t = same ∙ ap (λ n. not_one_of n t) (sym (ap (λ (p : ℕ × List Token). p.0) pair)) ∙ sym (backslashes_are y.0 t) in
         ap (λ v. Some (v, rest)) value ∙ ap (option_map (λ (x : Term Raw × List Token). (with_backslashes y.0 x.0, x.1))) there
 
-pub negated_none : (inner : Reader Token (Term Raw)) (tokens : List Token) (count : ℕ) (behind : List Token)
-    → made length (many is_backslash (one_of backslash_of) (length tokens) tokens) ≡ Some (count, behind) → None ≡ primary_at inner behind → None ≡ negated_at inner tokens
-negated_none inner tokens count behind marks item = by (many is_backslash (one_of backslash_of) (length tokens) tokens) marks
-  where
-    by : (o : Option (List ⊤ × List Token)) → made length o ≡ Some (count, behind) → None ≡ option_and_then (λ (y : List ⊤ × List Token). made (with_backslashes y.0) (primary_at inner y.1)) o
-    by None e = absurd cc
-    by (Some y) e =
-        let a : ℕ × List Token = (length y.0, y.1) in
-        let b : ℕ × List Token = (count, behind) in
-        let pair : a ≡ b = cc in
-        let there : None ≡ primary_at inner y.1 = item ∙ ap (primary_at inner) (sym (ap (λ (p : ℕ × List Token). p.1) pair)) in
-        ap (option_map (λ (x : Term Raw × List Token). (with_backslashes y.0 x.0, x.1))) there
-
 -- Level 9.
-
--- a level 8 that may be left out
-pub part_read : (read : Reader Token (Term Raw)) (tokens : List Token) → begins (is_level 7) tokens ≡ true → read tokens ≡ made part (option_at (is_level 7) read tokens)
-part_read read tokens here = same (read tokens) ∙ sym (ap (λ b. option_map (λ (y : Option (Term Raw) × List Token). (part y.0, y.1)) (cond b (option_map (λ (x : Term Raw × List Token). (Some x.0, x.1)) (read tokens)) (Some (None, tokens)))) here)
-  where
-    same : (o : Option (Term Raw × List Token)) → o ≡ made part (made Some o)
-    same None = refl
-    same (Some x) = refl
-
-pub part_none : (read : Reader Token (Term Raw)) (tokens : List Token) → begins (is_level 7) tokens ≡ false → Some (part None, tokens) ≡ made part (option_at (is_level 7) read tokens)
-part_none read tokens here = sym (ap (λ b. option_map (λ (y : Option (Term Raw) × List Token). (part y.0, y.1)) (cond b (option_map (λ (x : Term Raw × List Token). (Some x.0, x.1)) (read tokens)) (Some (None, tokens)))) here)
-
--- contexts that may be left out
-pub unsided : (read : Reader Token (Term Raw)) (tokens : List Token) → begins (is_level 12) tokens ≡ false → Some (sided_by None, tokens) ≡ made sided_by (option_at (is_level 12) (sided_at read) tokens)
-unsided read tokens here = sym (ap (λ b. option_map (λ (y : Option (SidedTerm Raw) × List Token). (sided_by y.0, y.1)) (cond b (option_map (λ (x : SidedTerm Raw × List Token). (Some x.0, x.1)) (sided_at read tokens)) (Some (None, tokens)))) here)
-
-pub sided_read : (read : Reader Token (Term Raw)) (tokens : List Token) → begins (is_level 12) tokens ≡ true → sided_at read tokens ≡ made sided_by (option_at (is_level 12) (sided_at read) tokens)
-sided_read read tokens here = same (sided_at read tokens) ∙ sym (ap (λ b. option_map (λ (y : Option (SidedTerm Raw) × List Token). (sided_by y.0, y.1)) (cond b (option_map (λ (x : SidedTerm Raw × List Token). (Some x.0, x.1)) (sided_at read tokens)) (Some (None, tokens)))) here)
-  where
-    same : (o : Option (SidedTerm Raw × List Token)) → o ≡ made sided_by (made Some o)
-    same None = refl
-    same (Some x) = refl
 
 -- what stands behind a level 8, by its first token
 pub ruling_only : (read : Reader Token (Term Raw)) (t : Term Raw) (rest : List Token) → made (λ y. only t (contexts_by y)) (contexts_at read rest) ≡ made (with_ruling t) (option_at (is_level 14) (ruling_at read) (operator only_operator ∷ rest))
@@ -122,16 +86,6 @@ ruling_only read t rest = same (contexts_at read rest)
 pub ruling_only_at : (read : Reader Token (Term Raw)) (t : Term Raw) (tokens rest : List Token) → tokens ≡ operator only_operator ∷ rest → made (λ y. only t (contexts_by y)) (contexts_at read rest) ≡ made (with_ruling t) (option_at (is_level 14) (ruling_at read) tokens)
 ruling_only_at read t tokens rest spelled = ruling_only read t rest ∙ ap (λ us. made (with_ruling t) (option_at (is_level 14) (ruling_at read) us)) (sym spelled)
 
-ruling_same : (t : Term Raw) (o : Option (RulingTerm Raw × List Token)) → made (λ y. with_ruling t (Some y)) o ≡ made (with_ruling t) (option_map {U = Option (RulingTerm Raw) × List Token} (λ (x : RulingTerm Raw × List Token). (Some x.0, x.1)) o)
-ruling_same t None = refl
-ruling_same t (Some x) = refl
-
-pub ruling_optional : (read : Reader Token (Term Raw)) (t : Term Raw) (rest : List Token) → made (λ y. with_ruling t (Some y)) (replacement_at true read rest) ≡ made (with_ruling t) (option_at (is_level 14) (ruling_at read) (operator Optional ∷ rest))
-ruling_optional read t rest = ruling_same t (replacement_at true read rest)
-
-pub ruling_arrow : (read : Reader Token (Term Raw)) (t : Term Raw) (rest : List Token) → made (λ y. with_ruling t (Some y)) (replacement_at false read rest) ≡ made (with_ruling t) (option_at (is_level 14) (ruling_at read) (operator Arrow ∷ rest))
-ruling_arrow read t rest = ruling_same t (replacement_at false read rest)
-
 -- what is behind `[..]` and its arrow
 pub insertion_read : (read : Reader Token (Term Raw)) (tokens : List Token) (arrow : Bool) (behind : List Token) (t : Term Raw) (rest : List Token) (sided : SidedTerm Raw) (last : List Token) (u : Term Raw)
     → Some (arrow, behind) ≡ one_of arrow_of tokens → Some (t, rest) ≡ read behind → Some (sided, last) ≡ made sided_by (option_at (is_level 12) (sided_at read) rest)
@@ -139,12 +93,5 @@ pub insertion_read : (read : Reader Token (Term Raw)) (tokens : List Token) (arr
 insertion_read read tokens arrow behind t rest sided last u front item parts same =
     ap (λ v. Some (v, last)) same
     ∙ made_map sided_by (λ s. rules arrow (groups_by (record { maps = inserting t ∷ []; sided = s } ∷ []))) (option_at (is_level 12) (sided_at read) rest) sided last parts
-    ∙ ap (option_and_then (λ (x : Term Raw × List Token). option_map (λ (y : Option (SidedTerm Raw) × List Token). (insertion_by arrow x.0 y.0, y.1)) (option_at (is_level 12) (sided_at read) x.1))) item
-    ∙ ap (option_and_then (λ (a : Bool × List Token). option_and_then (λ (x : Term Raw × List Token). option_map (λ (y : Option (SidedTerm Raw) × List Token). (insertion_by a.0 x.0 y.0, y.1)) (option_at (is_level 12) (sided_at read) x.1)) (read a.1))) front
-
-pub insertion_unsided : (read : Reader Token (Term Raw)) (tokens : List Token) (arrow : Bool) (behind : List Token) (t : Term Raw) (rest : List Token)
-    → Some (arrow, behind) ≡ one_of arrow_of tokens → Some (t, rest) ≡ read behind → None ≡ made sided_by (option_at (is_level 12) (sided_at read) rest) → None ≡ insertion_at read tokens
-insertion_unsided read tokens arrow behind t rest front item none =
-    made_map_none sided_by (λ s. insertion_by arrow t s) (option_at (is_level 12) (sided_at read) rest) none
     ∙ ap (option_and_then (λ (x : Term Raw × List Token). option_map (λ (y : Option (SidedTerm Raw) × List Token). (insertion_by arrow x.0 y.0, y.1)) (option_at (is_level 12) (sided_at read) x.1))) item
     ∙ ap (option_and_then (λ (a : Bool × List Token). option_and_then (λ (x : Term Raw × List Token). option_map (λ (y : Option (SidedTerm Raw) × List Token). (insertion_by a.0 x.0 y.0, y.1)) (option_at (is_level 12) (sided_at read) x.1)) (read a.1))) front

@@ -1,10 +1,10 @@
 -- The parts of contexts, mappings and groups, as they are read one behind the other.
-use Rattle.std.proofs.Common.{◌≡◌, Bool, Option, Some, None, List, [], ◌∷◌, refl, sym, ap, ◌∙◌}
-use Rattle.std.specs.Option.{option_map, option_and_then}
+use Rattle.std.proofs.Common.{◌≡◌, Bool, Option, Some, None, List, ◌∷◌, refl, sym, ap, ◌∙◌}
+use Rattle.std.specs.Option.{option_and_then}
 use Rattle.regex_ast.specs.Terms.{Term}
 use Rattle.regex_ast.specs.declared.expr.Raw.{Raw}
 use Rattle.regex_grammar.specs.Rows.{Reader, option_at, row_at}
-use Rattle.regex_grammar.specs.Grammar.{part, ContextTerm, SidedTerm, sided_by, RightTerm, right_and_more, MappingTerm, marking, mapping_by, marks_term, GroupTailTerm, GroupTerm, group_by, group_tail_by}
+use Rattle.regex_grammar.specs.Grammar.{part, ContextTerm, SidedTerm, sided_by, RightTerm, right_and_more, MappingTerm, marking, mapping_by, marks_term, GroupTerm, group_by, group_tail_by}
 use Rattle.regex_grammar.specs.Reading.{is_level, behind_at, context_at, context_behind, sided_at, dots_at, right_at, mapping_at, group_tail_at}
 use Rattle.regex_tokens.specs.Fronts.{after}
 use Rattle.regex_tokens.specs.declared.token.Operator.TheVariants.{Comma, Underscore}

@@ -4,9 +4,7 @@ ghost use Rattle.regex_grammar.specs.Grammar.{with_suffixes, with_prefixes, igno
 ghost use Rattle.regex_parser.specs.Values.{not_one_of, linked_by, step_by, link_value, step_value, context_value, sided_value, mapping_value, group_value};
 
 use crate::front::{LinkOperator, StepOperator};
-use regex_ast::{
-    Context, Expr, Group, Link, Mapping, Prefix, Raw, RuleSet, Side, Step, Suffix,
-};
+use regex_ast::{Context, Expr, Group, Link, Mapping, Prefix, Raw, RuleSet, Side, Step, Suffix};
 use std::alloc::{AllocError, Global};
 
 /// An operand behind so many backslashes; where there are none, the operand. With 2^32 of them or more there is no

@@ -212,9 +212,8 @@ fn power(tokens: &[Token]) -> Option<(Suffix, &[Token])>
     ensures { option_map (λ x. (x.0, x.1.now)) result ≡ power_at tokens.now }
 {
     match tokens.split_first() {
-        Some((Token::Run(run), rest)) if !run.escaped && is_number(run.text.as_str().as_bytes()) => {
-            Some((Suffix::Power(times(run.text.as_str())), rest))
-        }
+        Some((Token::Run(run), rest)) if !run.escaped && is_number(run.text.as_str().as_bytes()) =>
+            { Some((Suffix::Power(times(run.text.as_str())), rest)) }
         _ => None,
     }
 }

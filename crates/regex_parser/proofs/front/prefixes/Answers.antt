@@ -1,4 +1,4 @@
-use Rattle.std.proofs.Common.{◌≡◌, true, Some, None, sym, rules}
+use Rattle.std.proofs.Common.{◌≡◌, Some, None, sym, rules}
 use Rattle.regex_grammar.specs.Reading.{is_prefix, one_of, prefix_of}
 use Rattle.regex_grammar.proofs.Loops.{many_ends}
 use Rattle.regex_parser.proofs.Fronts.{one_shorter, prefix_begins, no_prefix}

@@ -336,4 +336,3 @@ ruling-returns-in-Some-Operator-Only-default t c =
 pub negated-returns : goal.negated-returns
 negated-returns t c =
     negated_read (expression_at c.args.depth) c.args.tokens.now c.backslashes-marks.result.0 c.backslashes-marks.result.1.now (term c.in-Some.operand) c.in-Some.rest.now (term c.in_ok-with_backslashes.field-0) c.backslashes-marks.ensures (search rules) c.in_ok-with_backslashes.ensures
-

@@ -126,4 +126,3 @@ invariant-replacement-groups l = MoreSoFar (is_level 13) (behind_at GroupComma (
 
 abbrev pub decreases-replacement-groups : goal.decreases-replacement-groups
 decreases-replacement-groups l = length l.rest
-
