@@ -331,7 +331,7 @@ pub ruling-returns-in-Some-Operator-Only-default : goal.ruling-returns-in-Some-O
 ruling-returns-in-Some-Operator-Only-default t c =
     let spelled : c.args.tokens.now ≡ operator only_operator ∷ c.in-Some-Operator-Only-default.rest.now = search rules in
     let same = ruling_only_at (chain_at (expression_at c.args.depth)) (term c.args.centre) c.args.tokens.now c.in-Some-Operator-Only-default.rest.now spelled in
-    first_of (rw (← same) c.restriction.ensures, search (rules, same), grind (arith, same))
+    rw (← same) c.restriction.ensures
 
 pub negated-returns : goal.negated-returns
 negated-returns t c =
