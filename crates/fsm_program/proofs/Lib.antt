@@ -1,4 +1,3 @@
-pub mod Alphabets
 pub mod Endings
 pub mod LastByte
 pub mod Lawful

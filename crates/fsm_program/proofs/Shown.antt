@@ -21,7 +21,7 @@ use Rattle.expr_compile.specs.Compiled.{StandFor, sym_in}
 use Rattle.lookup.specs.Answering.{IsOverAlphabet}
 use Rattle.project_model.specs.Plans.{PlanView, project_in, IsPlan, IsFound, defined, symbols_below}
 use Rattle.fsm_program.specs.Networks.{ShowsName}
-use Rattle.fsm_program.proofs.Alphabets.{cases_bool, below_has, symbols_of-listed, text_of-listed}
+use Rattle.project_model.proofs.Alphabets.{cases_bool, below_has, symbols_of-listed, text_of-listed}
 use Rattle.fsm_program.proofs.Transport.{IsImage, relates_image}
 
 -- a text that a list has is found in it
