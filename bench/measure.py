@@ -13,14 +13,14 @@ def peak_of(process):
         return 0
 
 
-def timed(command, source=None):
-    """The seconds and the peak memory, in bytes, of a command that reads the open file `source`."""
+def timed(command, source=None, statuses=(0,)):
+    """The seconds and the peak memory, in bytes, of a command that reads the open file `source` and ends with one of the statuses."""
     start = time.monotonic()
     child = subprocess.Popen(command, stdin=source, stdout=subprocess.DEVNULL)
     memory = 0
     while child.poll() is None:
         memory = max(memory, peak_of(child.pid))
         time.sleep(0.002)
-    if child.returncode != 0:
+    if child.returncode not in statuses:
         sys.exit('%s: status %d' % (' '.join(command), child.returncode))
     return time.monotonic() - start, memory

@@ -1,4 +1,3 @@
-mod Tables
 mod Rowwise
 mod Weights
 mod Sides

@@ -1,6 +1,5 @@
 //! From an expression's tree to its automaton, over the symbols of a table.
 //!
-//! - [`add_symbols`]: puts the symbols of an expression into a table.
 //! - [`compile`]: the automaton whose relation the expression has.
 #![tactic(auto)]
 
@@ -11,4 +10,3 @@ mod suffixes;
 mod symbols;
 
 pub use expressions::compile;
-pub use symbols::add_symbols;

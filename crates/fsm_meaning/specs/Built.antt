@@ -1,5 +1,8 @@
 -- The expressions whose networks are built.
-use Rattle.std.specs.Prelude.{All}
+use Rattle.std.specs.Prelude.{ℕ, IsTrue, List, All}
+use Rattle.std.specs.List.{list_all}
+use Rattle.regex_ast.specs.declared.expr.Raw.{Raw}
+use Rattle.fsm_meaning.specs.Projects.{leaves_in, is_symbol}
 use Rattle.regex_ast.specs.declared.expr.Suffix.{Suffix}
 use Rattle.regex_ast.specs.declared.expr.Suffix.TheVariants.{Star, Plus, Power}
 use Rattle.regex_ast.specs.Terms.{Term, empty, atom, letters, group, maybe, cross, suffixed, concat, chain, Terms, no_term, then_term, Links, no_link, or}
@@ -34,3 +37,7 @@ abbrev mutual
   AreBuiltLinks no_link = Unit {0}
   AreBuiltLinks (or e links) = IsBuilt e × AreBuiltLinks links
   AreBuiltLinks _ = ⊥
+
+-- an expression that is compiled where these names are defined: each of its leaves is a symbol
+abbrev pub IsCompiled : List (List ℕ) → Term Raw → Type 0
+IsCompiled names e = IsBuilt e × IsTrue (list_all (is_symbol names) (leaves_in e))

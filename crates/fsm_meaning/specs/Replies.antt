@@ -1,7 +1,9 @@
 -- The reply to a line that is looked up: bytes, with the version's number first. `long`, `line`, `net`
--- and `symbol` are tried in this order, and then the related texts are told.
-use Rattle.std.specs.Prelude.{◌≡◌, ◌≤◌, ◌++◌, ◌==◌, if◌then◌else◌, ℕ, List, [], ◌∷◌, length, All, Option, None, Some, Ok, Err, codes, decimal}
+-- and `symbol` are tried in this order, and then the related texts are told. Words are in Normalization Form C.
+use Rattle.std.specs.Prelude.{◌≡◌, ◌++◌, ◌==◌, if◌then◌else◌, ℕ, true, List, [], ◌∷◌, length, Option, None, Some, Ok, Err, codes, decimal}
 use Rattle.std.specs.List.{flat_map}
+use Rattle.std.specs.Str.{is_utf8}
+use Rattle.fsm_base.specs.Normal.{nfc_of}
 use Rattle.fsm_base.specs.Cut.{cut}
 use Rattle.fsm_meaning.specs.Answers.{Texts, Found, strings, more, loop, Answers}
 use Rattle.fsm_meaning.specs.Projects.{Project, Defines, Meaning}
@@ -21,14 +23,6 @@ answer_bytes version word (strings texts) = headed version (decimal (length text
 answer_bytes version word more = headed version (codes "more " ++ word)
 answer_bytes version word (loop before round after) = headed version (codes "loop " ++ word) ++ line_of before ++ line_of round ++ line_of after
 
--- a byte of a look-up line: printable ASCII
-abbrev pub IsPrintable : ℕ → Type 0
-IsPrintable b = (32 ≤ b) × (b ≤ 126)
-
--- a line that can be a word
-abbrev pub IsWord : List ℕ → Type 0
-IsWord line = All IsPrintable line
-
 -- the bytes without this byte at their end
 abbrev pub without_last : ℕ → List ℕ → List ℕ
 without_last last [] = []
@@ -38,6 +32,14 @@ without_last last (b ∷ c ∷ bytes) = b ∷ without_last last (c ∷ bytes)
 -- the line without a carriage return at its end
 abbrev pub without_return : List ℕ → List ℕ
 without_return line = without_last 13 line
+
+-- a line can be a word where it is UTF-8 (RFC 3629)
+abbrev pub IsWord : List ℕ → Type 0
+IsWord line = is_utf8 (without_return line) ≡ true
+
+-- the word of a line, in Normalization Form C (Unicode Standard Annex 15)
+abbrev pub word_of : List ℕ → List ℕ
+word_of line = nfc_of (without_return line)
 
 -- the texts that a look-up of the cut word finds
 abbrev pub Related : Project → Direction → List ℕ → List (List ℕ) → List ℕ → Type 0
@@ -55,5 +57,5 @@ pub data RepliesToWord (project : Project) (direction : Direction) (version : �
 -- the reply to a line as it is told: `None` is one of more than 4,096 bytes
 pub data Replies (project : Project) (direction : Direction) (version : ℕ) (net : List ℕ) : Option (List ℕ) → List ℕ → Type 0 where
   long : {bytes : List ℕ} → bytes ≡ headed version (codes "long") → Replies project direction version net None bytes
-  no_word : {line bytes : List ℕ} → ¬ (IsWord (without_return line)) → bytes ≡ headed version (codes "line") → Replies project direction version net (Some line) bytes
-  word : {line bytes : List ℕ} → IsWord (without_return line) → RepliesToWord project direction version net (without_return line) bytes → Replies project direction version net (Some line) bytes
+  no_word : {line bytes : List ℕ} → ¬ (IsWord line) → bytes ≡ headed version (codes "line") → Replies project direction version net (Some line) bytes
+  word : {line bytes : List ℕ} → IsWord line → RepliesToWord project direction version net (word_of line) bytes → Replies project direction version net (Some line) bytes

@@ -1,5 +1,6 @@
 -- How a run ends, by what it did, and what follows of its status.
-use Rattle.std.proofs.Common.{◌≡◌, ◌≢◌, ◌⊎◌, ℕ, List, [], Option, Some, None, Ok, Err, Result, refl, sym, subst, ◌∙◌, inl, inr}
+use Rattle.std.proofs.Common.{◌≡◌, ◌≢◌, ◌⊎◌, ℕ, List, [], Option, Some, None, Ok, Err, Result, length, refl, sym, subst, ◌∙◌, inl, inr, arith}
+use Rattle.std.specs.Io.KnownBytes.{Consumes}
 use Rattle.fsm_io.specs.Causes.{Rose}
 use Rattle.fsm_io.specs.Folders.{Files, Told, IsTold}
 use Rattle.fsm_io.specs.Reading.{LinesView, HasTold}
@@ -8,7 +9,9 @@ use Rattle.fsm_meaning.specs.declared.ending.Ending.{Ending}
 use Rattle.fsm_meaning.specs.declared.ending.Ending.TheVariants.{Finished, WriteFailed, ReadFailed, Spent}
 use Rattle.fsm_meaning.specs.Projects.{Project}
 use Rattle.fsm_meaning.specs.Replies.{Replies}
-use Rattle.fsm_program.specs.Ends.{Ends, Query, no_words, refused, folder_failed, no_memory, answered, IsAnswered, IsNotLoaded, IsSaid, usage_text, refusal_text, status_of}
+use Rattle.project_model.specs.Plans.{AreNames}
+use Rattle.reply_text.specs.Projects.{accepted_line, refused_line}
+use Rattle.fsm_program.specs.Ends.{Ends, Asked, for_check, for_look, for_help, Loads, Query, no_words, helped, refused, folder_failed, no_memory, checked, answered, IsAnswered, IsNotLoaded, IsSaid, usage_text, status_of}
 use Rattle.fsm_program.specs.Files.{Reads, IsLoaded, IsLoadError, most_read}
 use Rattle.fsm_program.specs.Networks.{NetworkView, Shows}
 use Rattle.fsm_program.specs.Running.{most_taken}
@@ -27,15 +30,29 @@ most_taken_is = refl
 pub told_most : (lines : LinesView) → ((left : Option (List ℕ)) → HasTold left left 1099511627776 lines []) → (left : Option (List ℕ)) → HasTold left left most_taken lines []
 told_most lines told left = subst (λ (n : ℕ). HasTold left left n lines []) most_taken_is (told left)
 
-module _ (asked : Query) (files : Option Files) (faults0 faults : ℕ) where
-  pub ends_loaded : (left0 left held0 held : Option (List ℕ)) (status : ℕ) (network : NetworkView) → IsLoaded network files
-      → ((project : Project) → Shows network project → IsAnswered (Replies project asked.direction 1 asked.net) left0 left held0 held status) → Ends (Some asked) files faults0 faults left0 left held0 held status
-  ends_loaded left0 left held0 held status network (project, told, shown) answers = answered asked project refl told (answers project shown)
+module _ (what : Asked) (loads : Loads what) (files : Option Files) (faults0 faults : ℕ) where
+  pub ends_unloaded : (left held0 held : Option (List ℕ)) (status : ℕ) (error : LoadError) → IsLoadError error files faults0 faults → IsNotLoaded error held0 held status → Ends (Some what) files faults0 faults left left held0 held status
+  ends_unloaded left held0 held status Failed rose (same, is) = folder_failed what refl loads refl same rose is
+  ends_unloaded left held0 held status (Memory a) u (same, is) = no_memory what refl loads refl same is
+  ends_unloaded left held0 held status (Refused fault) told either =
+      elim either as (λ _. Ends (Some what) files faults0 faults left left held0 held status) [
+        | inl said ↦ refused what fault refl loads told refl said
+        | inr (same, is) ↦ no_memory what refl loads refl same is
+      ]
 
-  pub ends_unloaded : (left held0 held : Option (List ℕ)) (status : ℕ) (error : LoadError) → IsLoadError error files faults0 faults → IsNotLoaded error held0 held status → Ends (Some asked) files faults0 faults left left held0 held status
-  ends_unloaded left held0 held status Failed rose (same, is) = folder_failed asked refl refl same rose is
-  ends_unloaded left held0 held status (Memory a) u (same, is) = no_memory asked refl refl same is
-  ends_unloaded left held0 held status (Refused fault) told said = refused asked fault refl told refl said
+-- the names of a project were written, or there was no memory for them
+pub ends_checked : (files : Option Files) (faults0 faults : ℕ) (left held0 held : Option (List ℕ)) (status : ℕ) (project : Project) → IsLoaded project files → (status ≡ 5 → held ≡ held0)
+    → ((names : List (List ℕ)) × AreNames project names × IsSaid held0 held (accepted_line 1 names) 0 status) ⊎ (status ≡ 5) → Ends (Some for_check) files faults0 faults left left held0 held status
+ends_checked files faults0 faults left held0 held status project told unwritten either =
+    elim either as (λ _. Ends (Some for_check) files faults0 faults left left held0 held status) [
+      | inl (names, are, said) ↦ checked project names refl told are refl said
+      | inr is ↦ no_memory for_check refl tt refl (unwritten is) is
+    ]
+
+pub ends_answered : (query : Query) (files : Option Files) (faults0 faults : ℕ) (left0 left held0 held : Option (List ℕ)) (status : ℕ) (project : Project) (name : List ℕ) → IsLoaded project files → name ≡ query.net
+    → IsAnswered (Replies project query.direction 1 name) left0 left held0 held status → Ends (Some (for_look query)) files faults0 faults left0 left held0 held status
+ends_answered query files faults0 faults left0 left held0 held status project name told is answers =
+    answered query project refl told (subst (λ (n : List ℕ). IsAnswered (Replies project query.direction 1 n) left0 left held0 held status) is answers)
 
 -- files say one thing
 one_told : (files : Option Files) (r q : Result Project Fault) → IsTold files (λ fs. Reads fs r) → Told files (λ fs. Reads fs q) → r ≡ q
@@ -51,50 +68,138 @@ same_project a b e = cc
 no_fault : {P : Type 0} (fault : Fault) (project : Project) → ◌≡◌ {A = Result Project Fault} (Err fault) (Ok project) → P
 no_fault fault project e = cc
 
-no_query : {P : Type 0} (query : Option Query) (asked : Query) → query ≡ None → query ≡ Some asked → P
-no_query query asked none some = let e : None ≡ Some asked = sym none ∙ some in cc
+-- words ask for one thing
+asks_none : {P : Type 0} (asked : Option Asked) (what : Asked) → asked ≡ None → asked ≡ Some what → P
+asks_none asked what none some = let e : None ≡ Some what = sym none ∙ some in cc
 
-same_query : (query : Option Query) (a b : Query) → query ≡ Some a → query ≡ Some b → a ≡ b
-same_query query a b e f = let g : Some a ≡ Some b = sym e ∙ f in cc
+same_asked : (asked : Option Asked) (a b : Asked) → asked ≡ Some a → asked ≡ Some b → a ≡ b
+same_asked asked a b e f = let g : Some a ≡ Some b = sym e ∙ f in cc
 
-module _ {query : Option Query} {files : Option Files} {faults0 faults : ℕ} {left0 left held0 held : Option (List ℕ)} {status : ℕ} where
+no_help : {P : Type 0} (asked : Option Asked) (what : Asked) → asked ≡ Some for_help → asked ≡ Some what → Loads what → P
+no_help asked what help is loads = absurd (subst Loads (same_asked asked what for_help is help) loads)
+
+check_look : {P : Type 0} (asked : Option Asked) (query : Query) → asked ≡ Some for_check → asked ≡ Some (for_look query) → P
+check_look asked query check look = let e : for_check ≡ for_look query = same_asked asked for_check (for_look query) check look in cc
+
+same_query : (asked : Option Asked) (a b : Query) → asked ≡ Some (for_look a) → asked ≡ Some (for_look b) → a ≡ b
+same_query asked a b e f = let g : for_look a ≡ for_look b = same_asked asked (for_look a) (for_look b) e f in cc
+
+module _ {asked : Option Asked} {files : Option Files} {faults0 faults : ℕ} {left0 left held0 held : Option (List ℕ)} {status : ℕ} where
   -- words in no form
-  pub unsaid : Ends query files faults0 faults left0 left held0 held status → query ≡ None → IsSaid held0 held usage_text 1 status
+  pub unsaid : Ends asked files faults0 faults left0 left held0 held status → asked ≡ None → IsSaid held0 held usage_text 1 status
   unsaid (no_words none l said) e = said
-  unsaid (refused asked fault is told l said) e = no_query query asked e is
-  unsaid (folder_failed asked is l h rose s) e = no_query query asked e is
-  unsaid (no_memory asked is l h s) e = no_query query asked e is
-  unsaid (answered asked project is told answers) e = no_query query asked e is
+  unsaid (helped is l said) e = asks_none asked for_help e is
+  unsaid (refused what fault is loads told l said) e = asks_none asked what e is
+  unsaid (folder_failed what is loads l h rose s) e = asks_none asked what e is
+  unsaid (no_memory what is loads l h s) e = asks_none asked what e is
+  unsaid (checked project names is told are l said) e = asks_none asked for_check e is
+  unsaid (answered query project is told answers) e = asks_none asked (for_look query) e is
+
+  -- help
+  pub help : Ends asked files faults0 faults left0 left held0 held status → asked ≡ Some for_help → IsSaid held0 held usage_text 0 status
+  help (no_words none l said) e = asks_none asked for_help none e
+  help (helped is l said) e = said
+  help (refused what fault is loads told l said) e = no_help asked what e is loads
+  help (folder_failed what is loads l h rose s) e = no_help asked what e is loads
+  help (no_memory what is loads l h s) e = no_help asked what e is loads
+  help (checked project names is told are l said) e = no_help asked for_check e is tt
+  help (answered query project is told answers) e = no_help asked (for_look query) e is tt
 
   -- a project with a fault
-  pub refusal : Ends query files faults0 faults left0 left held0 held status → (asked : Query) (fault : Fault) → query ≡ Some asked → IsTold files (λ fs. Reads fs (Err fault)) → (Rose faults0 faults → ⊥)
-      → IsSaid held0 held (refusal_text fault) 2 status ⊎ (status ≡ 5)
-  refusal (no_words none l said) asked fault e told whole = no_query query asked none e
-  refusal (refused asked' fault' is told' l said) asked fault e told whole =
-      inl (subst (λ (f : Fault). IsSaid held0 held (refusal_text f) 2 status) (sym (same_fault fault fault' (one_told files (Err fault) (Err fault') told told'))) said)
-  refusal (folder_failed asked' is l h rose s) asked fault e told whole = absurd (whole rose)
-  refusal (no_memory asked' is l h s) asked fault e told whole = inr s
-  refusal (answered asked' project is told' answers) asked fault e told whole = no_fault fault project (one_told files (Err fault) (Ok project) told told')
+  pub refusal : Ends asked files faults0 faults left0 left held0 held status → (what : Asked) (fault : Fault) → asked ≡ Some what → Loads what → IsTold files (λ fs. Reads fs (Err fault)) → (Rose faults0 faults → ⊥)
+      → IsSaid held0 held (refused_line fault) 2 status ⊎ (status ≡ 5)
+  refusal (no_words none l said) what fault e loads told whole = asks_none asked what none e
+  refusal (helped is l said) what fault e loads told whole = no_help asked what is e loads
+  refusal (refused what' fault' is loads' told' l said) what fault e loads told whole =
+      inl (subst (λ (f : Fault). IsSaid held0 held (refused_line f) 2 status) (sym (same_fault fault fault' (one_told files (Err fault) (Err fault') told told'))) said)
+  refusal (folder_failed what' is loads' l h rose s) what fault e loads told whole = absurd (whole rose)
+  refusal (no_memory what' is loads' l h s) what fault e loads told whole = inr s
+  refusal (checked project names is told' are l said) what fault e loads told whole = no_fault fault project (one_told files (Err fault) (Ok project) told told')
+  refusal (answered query project is told' answers) what fault e loads told whole = no_fault fault project (one_told files (Err fault) (Ok project) told told')
 
-  -- a project without
-  pub answer : Ends query files faults0 faults left0 left held0 held status → (asked : Query) (project : Project) → query ≡ Some asked → IsTold files (λ fs. Reads fs (Ok project)) → (Rose faults0 faults → ⊥)
-      → IsAnswered (Replies project asked.direction 1 asked.net) left0 left held0 held status ⊎ (status ≡ 5)
-  answer (no_words none l said) asked project e told whole = no_query query asked none e
-  answer (refused asked' fault' is told' l said) asked project e told whole = no_fault fault' project (sym (one_told files (Ok project) (Err fault') told told'))
-  answer (folder_failed asked' is l h rose s) asked project e told whole = absurd (whole rose)
-  answer (no_memory asked' is l h s) asked project e told whole = inr s
-  answer (answered asked' project' is told' answers) asked project e told whole =
-      inl (subst (λ (p : Project). IsAnswered (Replies p asked.direction 1 asked.net) left0 left held0 held status) (sym (same_project project project' (one_told files (Ok project) (Ok project') told told')))
-      (subst (λ (q : Query). IsAnswered (Replies project' q.direction 1 q.net) left0 left held0 held status) (same_query query asked' asked is e) answers))
+  -- a project without, of which the names were asked for
+  pub check : Ends asked files faults0 faults left0 left held0 held status → (project : Project) → asked ≡ Some for_check → IsTold files (λ fs. Reads fs (Ok project)) → (Rose faults0 faults → ⊥)
+      → ((names : List (List ℕ)) × AreNames project names × IsSaid held0 held (accepted_line 1 names) 0 status) ⊎ (status ≡ 5)
+  check (no_words none l said) project e told whole = asks_none asked for_check none e
+  check (helped is l said) project e told whole = no_help asked for_check is e tt
+  check (refused what' fault' is loads' told' l said) project e told whole = no_fault fault' project (sym (one_told files (Ok project) (Err fault') told told'))
+  check (folder_failed what' is loads' l h rose s) project e told whole = absurd (whole rose)
+  check (no_memory what' is loads' l h s) project e told whole = inr s
+  check (checked project' names is told' are l said) project e told whole =
+      inl (names, subst (λ (p : Project). AreNames p names) (sym (same_project project project' (one_told files (Ok project) (Ok project') told told'))) are, said)
+  check (answered query project' is told' answers) project e told whole = check_look asked query e is
 
-  -- with no failure and bytes left to take, the lines were answered or there was no memory
-  pub completes : {I O : Type 0} → Ends query files faults0 faults left0 left held0 held status → (status ≡ 3 → Rose faults0 faults ⊎ I) → (status ≡ 4 → O) → (asked : Query) (project : Project) → query ≡ Some asked
+  -- a project without, in which lines were looked up
+  pub answer : Ends asked files faults0 faults left0 left held0 held status → (query : Query) (project : Project) → asked ≡ Some (for_look query) → IsTold files (λ fs. Reads fs (Ok project)) → (Rose faults0 faults → ⊥)
+      → IsAnswered (Replies project query.direction 1 query.net) left0 left held0 held status ⊎ (status ≡ 5)
+  answer (no_words none l said) query project e told whole = asks_none asked (for_look query) none e
+  answer (helped is l said) query project e told whole = no_help asked (for_look query) is e tt
+  answer (refused what' fault' is loads' told' l said) query project e told whole = no_fault fault' project (sym (one_told files (Ok project) (Err fault') told told'))
+  answer (folder_failed what' is loads' l h rose s) query project e told whole = absurd (whole rose)
+  answer (no_memory what' is loads' l h s) query project e told whole = inr s
+  answer (checked project' names is told' are l said) query project e told whole = check_look asked query is e
+  answer (answered query' project' is told' answers) query project e told whole =
+      inl (subst (λ (p : Project). IsAnswered (Replies p query.direction 1 query.net) left0 left held0 held status) (sym (same_project project project' (one_told files (Ok project) (Ok project') told told')))
+      (subst (λ (q : Query). IsAnswered (Replies project' q.direction 1 q.net) left0 left held0 held status) (same_query asked query' query is e) answers))
+
+  -- what was said whole has its status
+  said_whole : {text : List ℕ} {O : Type 0} → IsSaid held0 held text 0 status → (status ≡ 4 → O) → (O → ⊥) → status ≡ 0
+  said_whole (front, rest, is, appended, either) four written = elim either as (λ _. status ≡ 0) [ inl all ↦ all.0 | inr failed ↦ absurd (written (four failed)) ]
+
+  -- with no failure and bytes left to take, all was done or there was no memory
+  pub completes : {I O : Type 0} → Ends asked files faults0 faults left0 left held0 held status → (status ≡ 3 → Rose faults0 faults ⊎ I) → (status ≡ 4 → O) → (what : Asked) (project : Project) → asked ≡ Some what → Loads what
       → IsTold files (λ fs. Reads fs (Ok project)) → (Rose faults0 faults → ⊥) → (I → ⊥) → (O → ⊥) → status ≢ 6 → (status ≡ 0) ⊎ (status ≡ 5)
-  completes ends three four asked project e told whole read written unspent =
-      elim (answer ends asked project e told whole) as (λ _. (status ≡ 0) ⊎ (status ≡ 5)) [ inl (ending, s, a) ↦ by_ending ending s | inr five ↦ inr five ]
+  completes {I} {O} ends three four what project e loads told whole read written unspent = by what e loads
     where
       by_ending : (ending : Ending) → status ≡ status_of ending → (status ≡ 0) ⊎ (status ≡ 5)
       by_ending Finished s = inl s
       by_ending WriteFailed s = absurd (written (four s))
       by_ending ReadFailed s = absurd (elim (three s) as (λ _. ⊥) [ inl rose ↦ whole rose | inr rose ↦ read rose ])
       by_ending Spent s = absurd (unspent s)
+
+      by : (what : Asked) → asked ≡ Some what → Loads what → (status ≡ 0) ⊎ (status ≡ 5)
+      by for_check e loads = elim (check ends project e told whole) as (λ _. (status ≡ 0) ⊎ (status ≡ 5)) [ inl (names, are, said) ↦ inl (said_whole said four written) | inr five ↦ inr five ]
+      by (for_look query) e loads = elim (answer ends query project e told whole) as (λ _. (status ≡ 0) ⊎ (status ≡ 5)) [ inl (ending, s, a) ↦ by_ending ending s | inr five ↦ inr five ]
+      by for_help e loads = absurd loads
+
+  said_other : {P : Type 0} {text : List ℕ} {said k : ℕ} → IsSaid held0 held text said status → status ≡ k → said ≢ k → 4 ≢ k → P
+  said_other (front, rest, is, appended, either) e other four = absurd (elim either as (λ _. ⊥) [ inl all ↦ other (sym all.0 ∙ e) | inr failed ↦ four (sym failed ∙ e) ])
+
+  answered_other : {P : Type 0} (ending : Ending) (k : ℕ) → status ≡ status_of ending → status ≡ k → (k ≡ 1) ⊎ (k ≡ 2) → P
+  answered_other Finished k s e either = absurd (elim either as (λ _. ⊥) [ inl is ↦ omega (arith, s, e, is) | inr is ↦ omega (arith, s, e, is) ])
+  answered_other WriteFailed k s e either = absurd (elim either as (λ _. ⊥) [ inl is ↦ omega (arith, s, e, is) | inr is ↦ omega (arith, s, e, is) ])
+  answered_other ReadFailed k s e either = absurd (elim either as (λ _. ⊥) [ inl is ↦ omega (arith, s, e, is) | inr is ↦ omega (arith, s, e, is) ])
+  answered_other Spent k s e either = absurd (elim either as (λ _. ⊥) [ inl is ↦ omega (arith, s, e, is) | inr is ↦ omega (arith, s, e, is) ])
+
+  -- status 1 comes for words in no form
+  pub usage_cause : Ends asked files faults0 faults left0 left held0 held status → status ≡ 1 → asked ≡ None
+  usage_cause (no_words none l said) e = none
+  usage_cause (helped is l said) e = said_other said e (λ z. omega (arith, z)) (λ z. omega (arith, z))
+  usage_cause (refused what fault is loads told l said) e = said_other said e (λ z. omega (arith, z)) (λ z. omega (arith, z))
+  usage_cause (folder_failed what is loads l h rose s) e = absurd (omega (arith, s, e))
+  usage_cause (no_memory what is loads l h s) e = absurd (omega (arith, s, e))
+  usage_cause (checked project names is told are l said) e = said_other said e (λ z. omega (arith, z)) (λ z. omega (arith, z))
+  usage_cause (answered query project is told (ending, s, a)) e = answered_other ending 1 s e (inl refl)
+
+  -- 2 for a project with a fault
+  pub fault_cause : Ends asked files faults0 faults left0 left held0 held status → status ≡ 2 → (fault : Fault) × Told files (λ fs. Reads fs (Err fault))
+  fault_cause (no_words none l said) e = said_other said e (λ z. omega (arith, z)) (λ z. omega (arith, z))
+  fault_cause (helped is l said) e = said_other said e (λ z. omega (arith, z)) (λ z. omega (arith, z))
+  fault_cause (refused what fault is loads told l said) e = (fault, told)
+  fault_cause (folder_failed what is loads l h rose s) e = absurd (omega (arith, s, e))
+  fault_cause (no_memory what is loads l h s) e = absurd (omega (arith, s, e))
+  fault_cause (checked project names is told are l said) e = said_other said e (λ z. omega (arith, z)) (λ z. omega (arith, z))
+  fault_cause (answered query project is told (ending, s, a)) e = answered_other ending 2 s e (inr refl)
+
+  -- and 6 where so many bytes were taken
+  pub spent_cause : Ends asked files faults0 faults left0 left held0 held status → status ≡ 6 → (taken : List ℕ) × Consumes left0 left taken × (length taken ≡ most_taken)
+  spent_cause (no_words none l said) e = said_other said e (λ z. omega (arith, z)) (λ z. omega (arith, z))
+  spent_cause (helped is l said) e = said_other said e (λ z. omega (arith, z)) (λ z. omega (arith, z))
+  spent_cause (refused what fault is loads told l said) e = said_other said e (λ z. omega (arith, z)) (λ z. omega (arith, z))
+  spent_cause (folder_failed what is loads l h rose s) e = absurd (omega (arith, s, e))
+  spent_cause (no_memory what is loads l h s) e = absurd (omega (arith, s, e))
+  spent_cause (checked project names is told are l said) e = said_other said e (λ z. omega (arith, z)) (λ z. omega (arith, z))
+  spent_cause (answered query project is told (Spent, s, a)) e = (a.taken, a.consumed, a.spends refl)
+  spent_cause (answered query project is told (Finished, s, a)) e = absurd (omega (arith, s, e))
+  spent_cause (answered query project is told (WriteFailed, s, a)) e = absurd (omega (arith, s, e))
+  spent_cause (answered query project is told (ReadFailed, s, a)) e = absurd (omega (arith, s, e))

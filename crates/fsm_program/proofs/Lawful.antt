@@ -1,5 +1,5 @@
 -- What a network finds is a lawful reply over the project that it shows.
-use Rattle.std.proofs.Common.{◌≡◌, ◌↔◌, ◌≢◌, ◌++◌, ℕ, ◌==◌, Bool, true, false, cond, List, [], ◌∷◌, Some, Ok, Result, refl, sym, ap, subst, ◌∙◌, inl, inr, slice_get, arith, suc, Contains}
+use Rattle.std.proofs.Common.{◌≡◌, ◌↔◌, ◌++◌, ℕ, ◌==◌, Bool, true, false, cond, List, [], ◌∷◌, Some, None, Ok, Err, IfOk, Result, codes, decimal, refl, sym, ap, subst, ◌∙◌, inl, inr, slice_get, arith, suc, Contains}
 use Rattle.std.proofs.lemmas.Bool.Decides.{nat_tests}
 use Rattle.std.proofs.lemmas.List.Elements.{All-head, All-tail, All-weaker, All-contains_itself}
 use Rattle.fsm_words.specs.Words.{joined, IsOver}
@@ -10,13 +10,15 @@ use Rattle.fsm_base.specs.Cut.{cut}
 use Rattle.fsm_meaning.specs.Answers.{Texts, Answers, Found, strings, more, loop, times}
 use Rattle.fsm_meaning.specs.declared.direction.Direction.{Direction}
 use Rattle.fsm_meaning.specs.declared.direction.Direction.TheVariants.{Up, Down}
-use Rattle.fsm_meaning.specs.Projects.{Project, Defines, Meaning}
-use Rattle.fsm_meaning.specs.Replies.{RepliesToWord, answered, Related, answer_bytes}
+use Rattle.fsa.specs.Automaton.{Automaton}
+use Rattle.fsm_base.specs.declared.letters.Pair.{Pair}
+use Rattle.fsm_meaning.specs.Projects.{Project}
+use Rattle.fsm_meaning.specs.Replies.{RepliesToWord, answered, no_net, no_symbol, Related, answer_bytes, headed}
 use Rattle.fst_relation.specs.Relation.{IsRelated}
 use Rattle.fst_relation.proofs.Used.{upper_used, lower_used}
 use Rattle.lookup.specs.Answering.{UpperTexts, LowerTexts}
-use Rattle.fsm_program.specs.Networks.{NetworkView, Shows, TextsTo}
-use Rattle.fsm_program.proofs.Alphabets.{cases_bool}
+use Rattle.fsm_program.specs.Networks.{Shows, TextsTo}
+use Rattle.project_model.proofs.Alphabets.{cases_bool}
 
 -- a symbol of the alphabet and its text stand at one place
 text_placed : (alphabet : List (Sym × List ℕ)) (s : Sym) → Contains (symbols_of alphabet) s → (k : ℕ) × (slice_get (symbols_of alphabet) k ≡ Some s) × (slice_get (texts_of alphabet) k ≡ Some (text_of alphabet s))
@@ -88,48 +90,53 @@ answers_same T U same more a = record {
 }
 answers_same T U same (loop before round after) a = record { goes_round = a.goes_round; related = λ m. (same (before ++ times m round ++ after)).0 (a.related m) }
 
-module _ (network : NetworkView) (project : Project) (shown : Shows network project) where
-  pub defines : Defines project network.name
-  defines = (shown.names network.name).1 refl
-
+module _ (alphabet : List (Sym × List ℕ)) (name : List ℕ) (net : Automaton Pair) (project : Project) (shown : Shows (record { alphabet = alphabet; name = name; net = Some net }) project) where
   -- related words are of the alphabet
-  upper_over : (upper lower : List Sym) → IsRelated network.net upper lower → IsOver (symbols_of network.alphabet) upper
-  upper_over upper lower related = each_over (symbols_of network.alphabet) upper (λ symbol among. let used = upper_used network.net upper lower related symbol among in shown.over used.0 symbol used.1 (inl used.2))
+  upper_over : (upper lower : List Sym) → IsRelated net upper lower → IsOver (symbols_of alphabet) upper
+  upper_over upper lower related = each_over (symbols_of alphabet) upper (λ symbol among. let used = upper_used net upper lower related symbol among in shown.net.over used.0 symbol used.1 (inl used.2))
 
-  lower_over : (upper lower : List Sym) → IsRelated network.net upper lower → IsOver (symbols_of network.alphabet) lower
-  lower_over upper lower related = each_over (symbols_of network.alphabet) lower (λ symbol among. let used = lower_used network.net upper lower related symbol among in shown.over used.0 symbol used.1 (inr used.2))
+  lower_over : (upper lower : List Sym) → IsRelated net upper lower → IsOver (symbols_of alphabet) lower
+  lower_over upper lower related = each_over (symbols_of alphabet) lower (λ symbol among. let used = lower_used net upper lower related symbol among in shown.net.over used.0 symbol used.1 (inr used.2))
 
   -- the texts that the network finds are those that the project relates
-  upper_texts : (lower : List Sym) → IsOver (symbols_of network.alphabet) lower → (text : List ℕ) → UpperTexts network.net network.alphabet lower text ↔ Related project Up network.name (spelled network.alphabet lower) text
+  upper_texts : (lower : List Sym) → IsOver (symbols_of alphabet) lower → (text : List ℕ) → UpperTexts net alphabet lower text ↔ Related project Up name (spelled alphabet lower) text
   upper_texts lower over text = (
-    λ (texts, (upper, related, is), text_is). (texts, (shown.relates texts (spelled network.alphabet lower)).1 (upper, lower, related, is, refl), text_is),
+    λ (texts, (upper, related, is), text_is). (texts, (shown.net.relates texts (spelled alphabet lower)).1 (upper, lower, related, is, refl), text_is),
     λ (texts, meaning, text_is).
-        let (upper, lower', related, is, same) = (shown.relates texts (spelled network.alphabet lower)).0 meaning in
-        (texts, (upper, subst (λ (z : List Sym). IsRelated network.net upper z) (sym (word_from_texts network.alphabet shown.formed lower lower' over (lower_over upper lower' related) same)) related, is), text_is),
+        let (upper, lower', related, is, same) = (shown.net.relates texts (spelled alphabet lower)).0 meaning in
+        (texts, (upper, subst (λ (z : List Sym). IsRelated net upper z) (sym (word_from_texts alphabet shown.formed lower lower' over (lower_over upper lower' related) same)) related, is), text_is),
   )
 
-  lower_texts : (upper : List Sym) → IsOver (symbols_of network.alphabet) upper → (text : List ℕ) → LowerTexts network.net network.alphabet upper text ↔ Related project Down network.name (spelled network.alphabet upper) text
+  lower_texts : (upper : List Sym) → IsOver (symbols_of alphabet) upper → (text : List ℕ) → LowerTexts net alphabet upper text ↔ Related project Down name (spelled alphabet upper) text
   lower_texts upper over text = (
-    λ (texts, (lower, related, is), text_is). (texts, (shown.relates (spelled network.alphabet upper) texts).1 (upper, lower, related, refl, is), text_is),
+    λ (texts, (lower, related, is), text_is). (texts, (shown.net.relates (spelled alphabet upper) texts).1 (upper, lower, related, refl, is), text_is),
     λ (texts, meaning, text_is).
-        let (upper', lower, related, same, is) = (shown.relates (spelled network.alphabet upper) texts).0 meaning in
-        (texts, (lower, subst (λ (z : List Sym). IsRelated network.net z lower) (sym (word_from_texts network.alphabet shown.formed upper upper' over (upper_over upper' lower related) same)) related, is), text_is),
+        let (upper', lower, related, same, is) = (shown.net.relates (spelled alphabet upper) texts).0 meaning in
+        (texts, (lower, subst (λ (z : List Sym). IsRelated net z lower) (sym (word_from_texts alphabet shown.formed upper upper' over (upper_over upper' lower related) same)) related, is), text_is),
   )
 
-  found_texts : (direction : Direction) (word : List Sym) → IsOver (symbols_of network.alphabet) word → (text : List ℕ) → TextsTo direction network word text ↔ Related project direction network.name (spelled network.alphabet word) text
+  found_texts : (direction : Direction) (word : List Sym) → IsOver (symbols_of alphabet) word → (text : List ℕ) → TextsTo direction net alphabet word text ↔ Related project direction name (spelled alphabet word) text
   found_texts Up word over = upper_texts word over
   found_texts Down word over = lower_texts word over
 
-  pub lawful : (direction : Direction) (word : List ℕ) (symbols : List Sym) (found : Found) → cut project.alphabet word ≡ Ok (spelled network.alphabet symbols) → IsOver (symbols_of network.alphabet) symbols → Answers (TextsTo direction network symbols) found
-      → RepliesToWord project direction 1 network.name word (answer_bytes 1 word found)
-  lawful direction word symbols found is over answers =
-      answered (spelled network.alphabet symbols) found defines is
-      (answers_same (TextsTo direction network symbols) (Related project direction network.name (spelled network.alphabet symbols)) (found_texts direction symbols over) found answers) refl
-
   -- what the network's alphabet cuts, the project's does
-  pub cut_shown : (word : List ℕ) (r : Result (List (List ℕ)) ℕ) → cut (texts_of network.alphabet) word ≡ r → cut project.alphabet word ≡ r
+  cut_shown : (word : List ℕ) (r : Result (List (List ℕ)) ℕ) → cut (texts_of alphabet) word ≡ r → cut project.alphabet word ≡ r
   cut_shown word r is = ap (λ a. cut a word) shown.alphabet ∙ is
 
-  -- another name isn't defined
-  pub undefined : (net : List ℕ) → net ≢ network.name → Defines project net → ⊥
-  undefined net other found = other ((shown.names net).0 found)
+  pub lawful : (direction : Direction) (word : List ℕ) (symbols : List Sym) (found : Found) (bytes : List ℕ) → cut (texts_of alphabet) word ≡ Ok (spelled alphabet symbols) → IsOver (symbols_of alphabet) symbols → Answers (TextsTo direction net alphabet symbols) found
+      → bytes ≡ answer_bytes 1 word found → RepliesToWord project direction 1 name word bytes
+  lawful direction word symbols found bytes is over answers told =
+      answered (spelled alphabet symbols) found shown.net.defined (cut_shown word (Ok (spelled alphabet symbols)) is)
+      (answers_same (TextsTo direction net alphabet symbols) (Related project direction name (spelled alphabet symbols)) (found_texts direction symbols over) found answers) told
+
+  pub lawful_stop : (direction : Direction) (word : List ℕ) (at : ℕ) (bytes : List ℕ) → cut (texts_of alphabet) word ≡ Err at → bytes ≡ headed 1 (codes "symbol " ++ decimal at ++ 32 ∷ word) → RepliesToWord project direction 1 name word bytes
+  lawful_stop direction word at bytes is told = no_symbol at shown.net.defined (cut_shown word (Err at) is) told
+
+-- a reply in which the name isn't defined
+pub lawful_none : (alphabet : List (Sym × List ℕ)) (name : List ℕ) (project : Project) → Shows (record { alphabet = alphabet; name = name; net = None }) project → (direction : Direction) (word bytes : List ℕ) → bytes ≡ headed 1 (codes "net " ++ name) → RepliesToWord project direction 1 name word bytes
+lawful_none alphabet name project shown direction word bytes told = no_net shown.net told
+
+-- what follows of a value follows of it where it is an answer
+pub if_ok : {A E : Type 0} (P Q : A → Type 0) → ((a : A) → P a → Q a) → (r : Result A E) → IfOk r P → IfOk r Q
+if_ok P Q so (Ok a) h = so a h
+if_ok P Q so (Err e) h = tt

@@ -1,11 +1,10 @@
 pub mod Endings
+pub mod LastByte
 pub mod Lawful
 pub mod Loading
 pub mod Manifests
-pub mod Alphabets
-pub mod Shown
-pub mod Transport
-pub mod ReplyBytes
 pub mod Runs
-pub mod Reading
 pub mod Sending
+pub mod Shown
+pub mod Together
+pub mod Transport

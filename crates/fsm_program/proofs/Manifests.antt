@@ -1,11 +1,13 @@
 -- The one line of a manifest and the name in it.
-use Rattle.std.proofs.Common.{◌≡◌, ◌≢◌, ◌⊎◌, ℕ, ◌<◌, ◌≤◌, List, [], ◌∷◌, ◌++◌, length, drop, sym, ap, ◌∙◌, inl, inr, arith, codes, All, length-append}
+use Rattle.std.proofs.Common.{◌≡◌, ◌≢◌, ◌⊎◌, ℕ, ◌<◌, ◌≤◌, List, [], ◌∷◌, ◌++◌, length, drop, sym, ap, ◌∙◌, inl, inr, arith, codes, All, get_or, length-append}
 use Rattle.std.specs.Str.{IsUtf8}
-use Rattle.fsm_program.proofs.Reading.{ascii_text}
+use Rattle.std.proofs.lemmas.Bool.{cases_lt}
+use Rattle.std.proofs.lemmas.List.{get_or_past}
+use Rattle.std.proofs.lemmas.Str.{IsUtf8-from_ascii}
 use Rattle.std.proofs.lemmas.List.Elements.{All-nil, All-cons, All-append, All-weaker}
 use Rattle.fsm_meaning.specs.Replies.{without_last}
 use Rattle.fsm_program.specs.Files.{IsFileByte, IsFileName, IsManifest}
-use Rattle.fsm_program.proofs.ReplyBytes.{last_dropped, none_dropped, dropped_cases}
+use Rattle.fsm_program.proofs.LastByte.{last_dropped, none_dropped, dropped_cases}
 
 file_byte_other : (b : ℕ) → IsFileByte b → b ≢ 10
 file_byte_other b h is = elim h [ inl x ↦ omega (arith, x.0, x.1, is) | inr x ↦ elim x [ inl y ↦ omega (arith, y.0, y.1, is) | inr y ↦ elim y [ inl z ↦ omega (arith, z.0, z.1, is) | inr z ↦ elim z [ inl w ↦ omega (arith, w, is) | inr w ↦ elim w [ inl v ↦ omega (arith, v, is) | inr v ↦ omega (arith, v, is) ] ] ] ] ]
@@ -44,6 +46,12 @@ one_name manifest name other a b = ap (drop 5) (sym (line_of_manifest manifest n
 
 file_byte_ascii : (b : ℕ) → IsFileByte b → b < 128
 file_byte_ascii b h = elim h [ inl x ↦ omega (arith, x.1) | inr x ↦ elim x [ inl y ↦ omega (arith, y.1) | inr y ↦ elim y [ inl z ↦ omega (arith, z.1) | inr z ↦ elim z [ inl w ↦ omega (arith, w) | inr w ↦ elim w [ inl v ↦ omega (arith, v) | inr v ↦ omega (arith, v) ] ] ] ] ]
+
+ascii_text : (bytes : List ℕ) → All (λ b. b < 128) bytes → IsUtf8 bytes
+ascii_text bytes h = IsUtf8-from_ascii bytes (λ i. below i)
+  where
+    below : (i : ℕ) → get_or bytes i 0 < 128
+    below i = elim (cases_lt i (length bytes)) as (λ _. get_or bytes i 0 < 128) [ inl within ↦ h i 0 within | inr past ↦ omega (arith, get_or_past bytes i 0 past) ]
 
 -- a file's name is text
 pub name_text : (name : List ℕ) → IsFileName name → IsUtf8 name

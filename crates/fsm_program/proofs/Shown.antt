@@ -1,27 +1,27 @@
--- A network made of a definition's table and automaton shows the project of the definition.
-use Rattle.std.proofs.Common.{◌≡◌, ◌↔◌, ◌⊎◌, ℕ, ◌+◌, ◌<◌, Bool, true, false, cond, not, ◌||◌, List, [], ◌∷◌, ◌++◌, length, Some, refl, sym, ap, subst, ◌∙◌, inl, inr, slice_get, arith, zero, suc, append-nil, length-append, ◌≤◌}
+-- The network of a definition shows what the project says of its name.
+use Rattle.std.proofs.Common.{◌≡◌, ◌↔◌, ◌⊎◌, ℕ, ◌+◌, ◌<◌, Bool, true, false, cond, not, ◌||◌, List, [], ◌∷◌, length, Some, refl, sym, ap, subst, ◌∙◌, inl, inr, slice_get, arith, suc, All}
 use Rattle.std.proofs.lemmas.Option.{slice_get_within, get_or_from_slice_get}
 use Rattle.std.proofs.lemmas.Slice.Eq.{bytes_eq-Decides}
-use Rattle.std.proofs.lemmas.List.Elements.{Contains-append_left}
+use Rattle.std.proofs.lemmas.List.Elements.{All-contains}
 use Rattle.std.specs.List.{Contains, list_any, slice_index_or}
 use Rattle.std.specs.Str.{bytes_eq}
-use Rattle.fsm_words.proofs.Members.{Contains-nil_cases, Contains-head, Contains-cons_cases}
-use Rattle.fsm_words.proofs.Places.{Contains-from_slice_get}
+use Rattle.fsm_words.proofs.Members.{Contains-nil_cases, Contains-cons_cases}
 use Rattle.fsm_words.specs.Relations.{AreSame}
 use Rattle.fsm_base.specs.declared.letters.Sym.{Sym}
 use Rattle.fsm_base.specs.declared.letters.Pair.{Pair}
-use Rattle.fsm_base.specs.Alphabet.{IsAlphabet, listed, symbols_of, texts_of, text_of, spelled}
-use Rattle.fsm_base.specs.Symbols.{number_of, with_text}
+use Rattle.fsm_base.specs.Alphabet.{listed, symbols_of, texts_of, text_of, spelled}
+use Rattle.fsm_base.specs.Symbols.{number_of}
 use Rattle.fsa.specs.Automaton.{Automaton, UsesLetter}
 use Rattle.fst_relation.specs.Relation.{IsRelated}
 use Rattle.regex_ast.specs.declared.expr.Raw.{Raw}
-use Rattle.fsm_meaning.specs.Built.{IsBuilt}
-use Rattle.fsm_meaning.specs.Projects.{Definition, Defines, Meaning, symbol_of, symbols_in, alphabet_of, project_of, with_texts}
+use Rattle.regex_ast.specs.declared.expr.Define.{Define}
+use Rattle.fsm_meaning.specs.Projects.{Definition, Meaning, symbol_of, symbols_in}
 use Rattle.fsm_meaning.specs.Relation.{Relates}
 use Rattle.expr_compile.specs.Compiled.{StandFor, sym_in}
 use Rattle.lookup.specs.Answering.{IsOverAlphabet}
-use Rattle.fsm_program.specs.Networks.{Shows, symbols_below}
-use Rattle.fsm_program.proofs.Alphabets.{cases_bool, below_has, symbols_of-listed, texts_of-all, text_of-listed}
+use Rattle.project_model.specs.Plans.{PlanView, project_in, IsPlan, IsFound, defined, symbols_below}
+use Rattle.fsm_program.specs.Networks.{ShowsName}
+use Rattle.project_model.proofs.Alphabets.{cases_bool, below_has, symbols_of-listed, text_of-listed}
 use Rattle.fsm_program.proofs.Transport.{IsImage, relates_image}
 
 -- a text that a list has is found in it
@@ -53,75 +53,12 @@ module _ (text t : List ℕ) (table : List (List ℕ)) where
   any_behind : (r : Bool) → bytes_eq text t ≡ false → list_any (bytes_eq text) (t ∷ table) ≡ r → list_any (bytes_eq text) table ≡ r
   any_behind r e any = subst (λ b. (b || list_any (bytes_eq text) table) ≡ r) e any
 
-  new_behind : bytes_eq text t ≡ false → number_of text table ≡ length table → number_of text (t ∷ table) ≡ length (t ∷ table)
-  new_behind e rest = subst (λ b. cond (not b) (1 + number_of text table) 0 ≡ length (t ∷ table)) (sym e) (one_more (number_of text table) ∙ ap suc rest)
-
-  not_here : bytes_eq text t ≡ true → list_any (bytes_eq text) (t ∷ table) ≡ false → ⊥
-  not_here e any = let same : true ≡ false = subst (λ b. (b || list_any (bytes_eq text) table) ≡ false) e any in cc
-
 number_held : (text : List ℕ) (table : List (List ℕ)) → list_any (bytes_eq text) table ≡ true → slice_get table (number_of text table) ≡ Some text
 number_held text [] held = cc
 number_held text (t ∷ table) held =
     elim (cases_bool (bytes_eq text t)) as (λ _. slice_get (t ∷ table) (number_of text (t ∷ table)) ≡ Some text) [
       | inl e ↦ held_here text t table e
       | inr e ↦ held_behind text t table e (number_held text table (any_behind text t table true e held))
-    ]
-
--- a new text's number is the next
-number_new : (text : List ℕ) (table : List (List ℕ)) → list_any (bytes_eq text) table ≡ false → number_of text table ≡ length table
-number_new text [] new = refl
-number_new text (t ∷ table) new =
-    elim (cases_bool (bytes_eq text t)) as (λ _. number_of text (t ∷ table) ≡ length (t ∷ table)) [
-      | inl e ↦ absurd (not_here text t table e new)
-      | inr e ↦ new_behind text t table e (number_new text table (any_behind text t table false e new))
-    ]
-
-pub slice_get_last : {X : Type 0} (xs : List X) (x : X) → slice_get (xs ++ x ∷ []) (length xs) ≡ Some x
-slice_get_last [] x = refl
-slice_get_last (y ∷ xs) x = slice_get_last xs x
-
-pub slice_get_front : {X : Type 0} (xs ys : List X) (k : ℕ) (x : X) → slice_get xs k ≡ Some x → slice_get (xs ++ ys) k ≡ Some x
-slice_get_front [] ys k x at = cc
-slice_get_front (y ∷ xs) ys zero x at = at
-slice_get_front (y ∷ xs) ys (suc k) x at = slice_get_front xs ys k x at
-
--- once interned, a text stands at its number
-pub number_with_text : (text : List ℕ) (table : List (List ℕ)) → slice_get (with_text text table) (number_of text table) ≡ Some text
-number_with_text text table = by (list_any (bytes_eq text) table) refl
-  where
-    by : (b : Bool) → list_any (bytes_eq text) table ≡ b → slice_get (cond (list_any (bytes_eq text) table) table (table ++ text ∷ [])) (number_of text table) ≡ Some text
-    by true e = subst (λ b. slice_get (cond b table (table ++ text ∷ [])) (number_of text table) ≡ Some text) (sym e) (number_held text table e)
-    by false e = subst (λ b. slice_get (cond b table (table ++ text ∷ [])) (number_of text table) ≡ Some text) (sym e) (subst (λ n. slice_get (table ++ text ∷ []) n ≡ Some text) (sym (number_new text table e)) (slice_get_last table text))
-
--- a table only grows at its end
-pub with_text_grows : (text : List ℕ) (table : List (List ℕ)) → (more : List (List ℕ)) × (with_text text table ≡ table ++ more) × (length more ≤ 1)
-with_text_grows text table = by (list_any (bytes_eq text) table)
-  where
-    by : (b : Bool) → (more : List (List ℕ)) × (cond b table (table ++ text ∷ []) ≡ table ++ more) × (length more ≤ 1)
-    by true = ([], sym (append-nil table), omega arith)
-    by false = (text ∷ [], refl, omega arith)
-
-text_with : (text : List ℕ) (table : List (List ℕ)) → Contains (with_text text table) text
-text_with text table = Contains-from_slice_get (with_text text table) (number_of text table) text (number_with_text text table)
-
-text_kept : (text other : List ℕ) (table : List (List ℕ)) → Contains table text → Contains (with_text other table) text
-text_kept text other table among = by (list_any (bytes_eq other) table)
-  where
-    by : (b : Bool) → Contains (cond b table (table ++ other ∷ [])) text
-    by true = among
-    by false = Contains-append_left table (other ∷ []) text among
-
-texts_kept : (texts table : List (List ℕ)) (text : List ℕ) → Contains table text → Contains (with_texts table texts) text
-texts_kept [] table text among = among
-texts_kept (t ∷ texts) table text among = texts_kept texts (with_text t table) text (text_kept text t table among)
-
--- a table has the texts that were interned
-texts_with : (texts table : List (List ℕ)) (text : List ℕ) → Contains texts text → Contains (with_texts table texts) text
-texts_with [] table text among = absurd (Contains-nil_cases text among)
-texts_with (t ∷ texts) table text among =
-    elim (Contains-cons_cases t texts text among) as (λ _. Contains (with_texts table (t ∷ texts)) text) [
-      | inl is ↦ texts_kept texts (with_text t table) text (subst (λ (z : List ℕ). Contains (with_text z table) text) (sym is) (text_with text table))
-      | inr behind ↦ texts_with texts (with_text t table) text behind
     ]
 
 module _ (table : List (List ℕ)) (alphabet : List (Sym × List ℕ)) (is : alphabet ≡ listed table (symbols_below (length table))) where
@@ -149,47 +86,41 @@ module _ (table : List (List ℕ)) (alphabet : List (Sym × List ℕ)) (is : alp
       let below = slice_get_within table (number_of found.0 table) found.0 (numbered found.0 (held found.0 found.1)) in
       symbol_among symbol (omega (arith, below, found.2))
 
-one_only : (d e : Definition) → Contains (d ∷ []) e → d ≡ e
-one_only d e among = elim (Contains-cons_cases d [] e among) as (λ _. d ≡ e) [ inl is ↦ is | inr rest ↦ absurd (Contains-nil_cases e rest) ]
+-- the one definition of a name that a plan finds
+module _ (plan : PlanView) (formed : IsPlan plan) (name : List ℕ) (define : Define Raw) (found : IsFound (project_in plan) name define) (m : Automaton Pair) where
+  d : Definition
+  d = defined define
 
--- the one definition's name is the project's one name
-one_name : (d : Definition) (name : List ℕ) → Defines (project_of d) name ↔ (name ≡ d.name)
-one_name d name =
-    (λ found. sym found.2 ∙ ap (λ (e : Definition). e.name) (sym (one_only d found.0 found.1)), λ is. (d, Contains-head d [], sym is))
+  table : List (List ℕ)
+  table = texts_of plan.alphabet
 
--- and its relation is the definition's
-one_meaning : (d : Definition) (u w : List (List ℕ)) → Meaning (project_of d) d.name u w ↔ Relates symbol_of (alphabet_of d.term) d.term u w
-one_meaning d u w = (
-  λ m. subst (λ (e : Definition). Relates symbol_of (alphabet_of d.term) e.term u w) (sym (one_only d m.0 m.1)) m.3,
-  λ r. (d, Contains-head d [], refl, r),
-)
-
-module _ (d : Definition) (table : List (List ℕ)) (alphabet : List (Sym × List ℕ)) (m : Automaton Pair) (made : table ≡ with_texts [] (symbols_in d.term)) (is : alphabet ≡ listed table (symbols_below (length table))) where
   held : (text : List ℕ) → Contains (symbols_in d.term) text → Contains table text
-  held text among = subst (λ (z : List (List ℕ)). Contains z text) (sym made) (texts_with (symbols_in d.term) [] text among)
+  held text among = All-contains (Contains table) (symbols_in d.term) found.compiled.symbols text among
 
-  pub definition_over : StandFor (UsesLetter m) table (symbols_in d.term) → IsOverAlphabet alphabet m
-  definition_over stands = over_alphabet table alphabet is m (symbols_in d.term) held stands
+  -- its relation is the name's
+  one_meaning : (u w : List (List ℕ)) → Meaning (project_in plan) name u w ↔ Relates symbol_of table d.term u w
+  one_meaning u w = (
+    λ (e, among, is, r). subst (λ (z : Definition). Relates symbol_of table z.term u w) (found.only e among is) r,
+    λ r. (d, found.among, found.name_is, r),
+  )
 
   abbrev Related : List (List ℕ) → List (List ℕ) → Type 0
-  Related u w = (upper : List Sym) × (lower : List Sym) × IsRelated m upper lower × (u ≡ spelled alphabet upper) × (w ≡ spelled alphabet lower)
+  Related u w = (upper : List Sym) × (lower : List Sym) × IsRelated m upper lower × (u ≡ spelled plan.alphabet upper) × (w ≡ spelled plan.alphabet lower)
 
-  pub shows : (name : List ℕ) → name ≡ d.name → IsBuilt d.term → IsAlphabet alphabet → StandFor (UsesLetter m) table (symbols_in d.term) → ((letters : List Sym) → AreSame (IsRelated m) (Relates (sym_in table) letters d.term)) → Shows (record { alphabet = alphabet; name = name; net = m }) (project_of d)
-  shows name name_is built formed stands relation = record {
-    formed = formed;
-    alphabet = sym made ∙ sym (texts_of-all table) ∙ ap (λ (z : List (Sym × List ℕ)). texts_of z) (sym is);
-    over = definition_over stands;
-    names = λ n. subst (λ (z : List ℕ). Defines (project_of d) n ↔ (n ≡ z)) (sym name_is) (one_name d n);
-    relates = λ u w. subst (λ (z : List ℕ). Meaning (project_of d) z u w ↔ Related u w) (sym name_is) (there u w, back u w);
+  pub shows_name : StandFor (UsesLetter m) table (symbols_in d.term) → ((letters : List Sym) → AreSame (IsRelated m) (Relates (sym_in table) letters d.term)) → ShowsName plan.alphabet name m (project_in plan)
+  shows_name stands relation = record {
+    defined = (d, found.among, found.name_is);
+    over = over_alphabet table plan.alphabet formed.in_turn m (symbols_in d.term) held stands;
+    relates = λ u w. (there u w, back u w);
   }
     where
-      image : IsImage (text_of alphabet) (Relates symbol_of (alphabet_of d.term) d.term) (Relates (sym_in table) [] d.term)
-      image = relates_image (text_of alphabet) (sym_in table) (alphabet_of d.term) [] d.term built (λ leaf among. text_of_leaf table alphabet is leaf (held (symbol_of leaf) among))
+      image : IsImage (text_of plan.alphabet) (Relates symbol_of table d.term) (Relates (sym_in table) [] d.term)
+      image = relates_image (text_of plan.alphabet) (sym_in table) table [] d.term found.compiled.built (λ leaf among. text_of_leaf table plan.alphabet formed.in_turn leaf (held (symbol_of leaf) among))
 
-      there : (u w : List (List ℕ)) → Meaning (project_of d) d.name u w → Related u w
+      there : (u w : List (List ℕ)) → Meaning (project_in plan) name u w → Related u w
       there u w meaning =
-          let i = (image u w).0 ((one_meaning d u w).0 meaning) in
+          let i = (image u w).0 ((one_meaning u w).0 meaning) in
           (i.0, i.1, (relation [] i.0 i.1).1 i.2, i.3, i.4)
 
-      back : (u w : List (List ℕ)) → Related u w → Meaning (project_of d) d.name u w
-      back u w (upper, lower, related, e, d') = (one_meaning d u w).1 ((image u w).1 (upper, lower, (relation [] upper lower).0 related, e, d'))
+      back : (u w : List (List ℕ)) → Related u w → Meaning (project_in plan) name u w
+      back u w (upper, lower, related, e, e') = (one_meaning u w).1 ((image u w).1 (upper, lower, (relation [] upper lower).0 related, e, e'))

@@ -2,7 +2,7 @@
 use Rattle.std.proofs.Common.{◌≡◌, ◌↔◌, ◌⊎◌, ℕ, ◌++◌, List, [], ◌∷◌, map, length, All, refl, sym, ap, subst, ◌∙◌, inl, inr, suc}
 use Rattle.std.proofs.lemmas.List.{map-append}
 use Rattle.std.proofs.lemmas.List.Elements.{All-nil, All-cons, All-head, All-tail, Contains-append_left, Contains-append_right}
-use Rattle.std.specs.List.{Contains}
+use Rattle.std.specs.List.{Contains, flat_map}
 use Rattle.fsm_words.specs.Words.{joined}
 use Rattle.fsm_words.specs.Relations.{IsConcatenationOfPairs, IsRepetitionOfPairs}
 use Rattle.fsm_words.proofs.Pairs.{AreEmpty}
@@ -12,7 +12,7 @@ use Rattle.regex_ast.specs.declared.expr.Suffix.{Suffix}
 use Rattle.regex_ast.specs.declared.expr.Raw.{Raw}
 use Rattle.fsm_meaning.specs.Built.{IsBuilt, AreBuilt, AreBuiltLinks}
 use Rattle.fsm_meaning.specs.OnePair.{IsLeaf, IsPart, leaf_word, part_upper, part_lower}
-use Rattle.fsm_meaning.specs.Projects.{symbol_of, symbols_in, symbols_in_each, symbols_in_links}
+use Rattle.fsm_meaning.specs.Projects.{symbol_alone, symbol_of, symbols_in, symbols_in_each, symbols_in_links}
 use Rattle.fsm_meaning.specs.Relation.{Relates, RelatesEach, RelatesAny, IsSuffixed, Repeats}
 use Rattle.fsm_meaning.proofs.OnePair.{part_has, part_only}
 
@@ -117,11 +117,11 @@ module _ {S : Type 0} (g : S → List ℕ) (f : Raw → S) (texts : List (List �
   second_texts : (a b : List (List ℕ)) → AreTexts (a ++ b) → AreTexts b
   second_texts a b h leaf among = h leaf (Contains-append_right a b (symbol_of leaf) among)
 
-  letters_image : (all : List Raw) → AreTexts (map symbol_of all) → map g (map f all) ≡ map symbol_of all
+  letters_image : (all : List Raw) → AreTexts (flat_map symbol_alone all) → map g (map f all) ≡ map symbol_of all
   letters_image [] h = refl
   letters_image (leaf ∷ all) h =
-      let here : g (f leaf) ≡ symbol_of leaf = h leaf (Contains-head (symbol_of leaf) (map symbol_of all)) in
-      let rest = letters_image all (λ other among. h other (Contains-tail (symbol_of leaf) (map symbol_of all) (symbol_of other) among)) in
+      let here : g (f leaf) ≡ symbol_of leaf = h leaf (Contains-head (symbol_of leaf) (flat_map symbol_alone all)) in
+      let rest = letters_image all (λ other among. h other (Contains-tail (symbol_of leaf) (flat_map symbol_alone all) (symbol_of other) among)) in
       ap (λ (z : List ℕ). z ∷ map g (map f all)) here ∙ ap (λ (z : List (List ℕ)). symbol_of leaf ∷ z) rest
 
   leaf_image : (e : Term Raw) → IsLeaf e → AreTexts (symbols_in e) → map g (leaf_word f e) ≡ leaf_word symbol_of e

@@ -1,74 +1,76 @@
 -- How a run ends: its status, and what was read and written by then.
-use Rattle.std.specs.Prelude.{◌≡◌, ◌⊎◌, ◌++◌, ℕ, List, [], ◌∷◌, Option, None, Some, Ok, Err, codes, decimal, if◌then◌else◌}
+use Rattle.std.specs.Prelude.{◌≡◌, ◌⊎◌, ◌++◌, ◌||◌, ℕ, Bool, List, [], ◌∷◌, Option, None, Some, Ok, Err, codes, if◌then◌else◌}
 use Rattle.std.specs.Option.{option_map}
 use Rattle.std.specs.Str.{bytes_eq}
 use Rattle.std.specs.Io.KnownBytes.{Appends}
 use Rattle.regex_ast.specs.declared.fault.Fault.{Fault}
-use Rattle.regex_ast.specs.declared.fault.Why.{Why}
-use Rattle.regex_ast.specs.declared.fault.Why.TheVariants as why
 use Rattle.fsm_io.specs.Causes.{Rose}
 use Rattle.fsm_io.specs.Folders.{Files, Told}
 use Rattle.fsm_meaning.specs.declared.ending.Ending.{Ending}
 use Rattle.fsm_meaning.specs.declared.ending.Ending.TheVariants.{Finished, WriteFailed, ReadFailed, Spent}
+use Rattle.fsm_base.specs.Normal.{nfc_of}
 use Rattle.fsm_meaning.specs.Projects.{Project}
 use Rattle.fsm_meaning.specs.declared.direction.Direction.{Direction}
 use Rattle.fsm_meaning.specs.declared.direction.Direction.TheVariants.{Up, Down}
 use Rattle.fsm_meaning.specs.Replies.{Replies, line_of}
 use Rattle.fsm_meaning.specs.Transcripts.{HasAnswered}
+use Rattle.project_model.specs.Plans.{AreNames}
+use Rattle.reply_text.specs.Projects.{accepted_line, refused_line}
 use Rattle.fsm_program.specs.Files.{Reads}
 use Rattle.fsm_program.specs.declared.load.LoadError.{LoadError}
 use Rattle.fsm_program.specs.declared.load.LoadError.TheVariants.{Failed, Memory, Refused}
+use Rattle.fsm_program.specs.declared.words.Command.{Command}
+use Rattle.fsm_program.specs.declared.words.Command.TheVariants as commands
+use Rattle.fsm_program.specs.declared.words.WordsError.{WordsError}
+use Rattle.fsm_program.specs.declared.words.WordsError.TheVariants as unread
 use Rattle.fsm_program.specs.Running.{most_taken}
 
--- what is looked up: in which direction, and in which name
+-- what is looked up: in which direction, and in which name, in Normalization Form C
 pub record Query : Type 0 where
   pub direction : Direction
   pub net : List ℕ
+
+-- what the words ask for
+pub data Asked : Type 0 where
+  for_check : Asked
+  for_look : Query → Asked
+  for_help : Asked
 
 -- the direction of a command
 abbrev pub direction_of : List ℕ → Option Direction
 direction_of command = if bytes_eq command (codes "up") then Some Up else if bytes_eq command (codes "down") then Some Down else None
 
--- the words are `up DIR NET` or `down DIR NET`
-abbrev pub query_of : List (List ℕ) → Option Query
-query_of (command ∷ dir ∷ net ∷ []) = option_map (λ direction. record { direction = direction; net = net }) (direction_of command)
-query_of _ = None
+-- `help`, `-h` or `--help`
+abbrev pub is_help : List ℕ → Bool
+is_help word = bytes_eq word (codes "help") || (bytes_eq word (codes "-h") || bytes_eq word (codes "--help"))
+
+-- `check DIR`, `up DIR NET`, `down DIR NET` or `help`; other words are in no form
+abbrev pub asked_of : List (List ℕ) → Option Asked
+asked_of (word ∷ []) = if is_help word then Some for_help else None
+asked_of (command ∷ dir ∷ []) = if bytes_eq command (codes "check") then Some for_check else None
+asked_of (command ∷ dir ∷ net ∷ []) = option_map (λ direction. for_look (record { direction = direction; net = nfc_of net })) (direction_of command)
+asked_of _ = None
+
+-- what a command asks for
+abbrev pub asked_by : Command → Asked
+asked_by commands.Check = for_check
+asked_by (commands.Up net) = for_look (record { direction = Up; net = net })
+asked_by (commands.Down net) = for_look (record { direction = Down; net = net })
+asked_by commands.Help = for_help
+
+-- why words aren't read: they are in no form, or there was no memory for the name that they look up in
+abbrev pub IsWhyUnread : Option Asked → WordsError → Type 0
+IsWhyUnread what unread.Usage = what ≡ None
+IsWhyUnread what (unread.Memory refused) = (query : Query) × (what ≡ Some (for_look query))
+
+-- the words load a project
+abbrev pub Loads : Asked → Type 0
+Loads for_check = Unit {0}
+Loads (for_look query) = Unit {0}
+Loads for_help = ⊥
 
 abbrev pub usage_text : List ℕ
-usage_text = line_of (codes "up DIR NET") ++ line_of (codes "down DIR NET")
-
-abbrev pub why_text : Why → List ℕ
-why_text why.NoProject = codes "no-project"
-why_text why.LimitFile = codes "limit-file"
-why_text why.NotUtf8 = codes "not-utf8"
-why_text why.Control = codes "control"
-why_text why.Token = codes "token"
-why_text why.LimitNesting = codes "limit-nesting"
-why_text why.Statement = codes "statement"
-why_text why.LimitPower = codes "limit-power"
-why_text why.LimitRule = codes "limit-rule"
-why_text why.LimitFiles = codes "limit-files"
-why_text why.LimitEntries = codes "limit-entries"
-why_text why.LimitFeatures = codes "limit-features"
-why_text why.UnknownLexicon = codes "unknown-lexicon"
-why_text why.NoFile = codes "no-file"
-why_text why.Duplicate = codes "duplicate"
-why_text why.LimitNames = codes "limit-names"
-why_text why.LimitSymbols = codes "limit-symbols"
-why_text why.UnknownName = codes "unknown-name"
-why_text why.Cycle = codes "cycle"
-why_text why.NotALanguage = codes "not-a-language"
-why_text why.LimitWeight = codes "limit-weight"
-why_text why.EmptyCentre = codes "empty-centre"
-why_text why.BadSplice = codes "bad-splice"
-why_text why.NotBuilt = codes "not-built"
-
--- `refused FILE LINE WHY`
-abbrev pub refusal_line : List ℕ → ℕ → List ℕ → List ℕ
-refusal_line file line why = line_of (codes "refused " ++ file ++ 32 ∷ decimal line ++ 32 ∷ why)
-
-abbrev pub refusal_text : Fault → List ℕ
-refusal_text fault = refusal_line fault.file fault.line (why_text fault.why)
+usage_text = line_of (codes "check DIR") ++ line_of (codes "up DIR NET") ++ line_of (codes "down DIR NET") ++ line_of (codes "help")
 
 abbrev pub status_of : Ending → ℕ
 status_of Finished = 0
@@ -84,18 +86,20 @@ IsAnswered R left0 left held0 held status = (ending : Ending) × (status ≡ sta
 abbrev pub IsSaid : Option (List ℕ) → Option (List ℕ) → List ℕ → ℕ → ℕ → Type 0
 IsSaid held0 held text said status = (front : List ℕ) × (rest : List ℕ) × (text ≡ front ++ rest) × Appends held0 held front × (((status ≡ said) × (rest ≡ [])) ⊎ (status ≡ 4))
 
--- every way to end. `query` is what is looked up, `faults` are the folder's before and after, `left` the
+-- every way to end. `asked` is what the words ask for, `faults` are the folder's before and after, `left` the
 -- input's bytes and `held` the output's before and after
-pub data Ends (query : Option Query) (files : Option Files) (faults0 faults : ℕ) (left0 left held0 held : Option (List ℕ)) (status : ℕ) : Type 0 where
-  no_words : query ≡ None → left ≡ left0 → IsSaid held0 held usage_text 1 status → Ends query files faults0 faults left0 left held0 held status
-  refused : (asked : Query) (fault : Fault) → query ≡ Some asked → Told files (λ files. Reads files (Err fault)) → left ≡ left0 → IsSaid held0 held (refusal_text fault) 2 status → Ends query files faults0 faults left0 left held0 held status
-  folder_failed : (asked : Query) → query ≡ Some asked → left ≡ left0 → held ≡ held0 → Rose faults0 faults → status ≡ 3 → Ends query files faults0 faults left0 left held0 held status
-  no_memory : (asked : Query) → query ≡ Some asked → left ≡ left0 → held ≡ held0 → status ≡ 5 → Ends query files faults0 faults left0 left held0 held status
-  answered : (asked : Query) (project : Project) → query ≡ Some asked → Told files (λ files. Reads files (Ok project)) → IsAnswered (Replies project asked.direction 1 asked.net) left0 left held0 held status
-      → Ends query files faults0 faults left0 left held0 held status
+pub data Ends (asked : Option Asked) (files : Option Files) (faults0 faults : ℕ) (left0 left held0 held : Option (List ℕ)) (status : ℕ) : Type 0 where
+  no_words : asked ≡ None → left ≡ left0 → IsSaid held0 held usage_text 1 status → Ends asked files faults0 faults left0 left held0 held status
+  helped : asked ≡ Some for_help → left ≡ left0 → IsSaid held0 held usage_text 0 status → Ends asked files faults0 faults left0 left held0 held status
+  refused : (what : Asked) (fault : Fault) → asked ≡ Some what → Loads what → Told files (λ files. Reads files (Err fault)) → left ≡ left0 → IsSaid held0 held (refused_line fault) 2 status → Ends asked files faults0 faults left0 left held0 held status
+  folder_failed : (what : Asked) → asked ≡ Some what → Loads what → left ≡ left0 → held ≡ held0 → Rose faults0 faults → status ≡ 3 → Ends asked files faults0 faults left0 left held0 held status
+  no_memory : (what : Asked) → asked ≡ Some what → Loads what → left ≡ left0 → held ≡ held0 → status ≡ 5 → Ends asked files faults0 faults left0 left held0 held status
+  checked : (project : Project) (names : List (List ℕ)) → asked ≡ Some for_check → Told files (λ files. Reads files (Ok project)) → AreNames project names → left ≡ left0 → IsSaid held0 held (accepted_line 1 names) 0 status → Ends asked files faults0 faults left0 left held0 held status
+  answered : (query : Query) (project : Project) → asked ≡ Some (for_look query) → Told files (λ files. Reads files (Ok project)) → IsAnswered (Replies project query.direction 1 query.net) left0 left held0 held status
+      → Ends asked files faults0 faults left0 left held0 held status
 
 -- how a run ends whose project isn't loaded
 abbrev pub IsNotLoaded : LoadError → Option (List ℕ) → Option (List ℕ) → ℕ → Type 0
 IsNotLoaded Failed held0 held status = (held ≡ held0) × (status ≡ 3)
 IsNotLoaded (Memory error) held0 held status = (held ≡ held0) × (status ≡ 5)
-IsNotLoaded (Refused fault) held0 held status = IsSaid held0 held (refusal_text fault) 2 status
+IsNotLoaded (Refused fault) held0 held status = IsSaid held0 held (refused_line fault) 2 status ⊎ ((held ≡ held0) × (status ≡ 5))

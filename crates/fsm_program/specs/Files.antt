@@ -1,23 +1,23 @@
--- What a set of files says: a project, or its first fault. The manifest is the one line `xfst FILE`, and
--- FILE is one plain definition.
+-- What a set of files says: a project, or its first fault. The manifest is the one line `xfst FILE`, and FILE is a
+-- file of definitions.
 use Rattle.std.specs.Prelude.{◌≡◌, ◌≢◌, ◌<◌, ◌≤◌, ◌++◌, ◌⊎◌, ℕ, List, [], ◌∷◌, length, take, All, Option, None, Some, Result, Ok, Err, codes, slice_get}
+use Rattle.fsm_base.specs.Normal.{source_text}
+use Rattle.fsm_base.specs.declared.normalize.TextError.TheVariants.{NotUtf8, Control}
 use Rattle.fsm_io.specs.Folders.{Files, file_of, Told}
 use Rattle.regex_ast.specs.declared.fault.Fault.{Fault}
 use Rattle.regex_ast.specs.declared.fault.Why.{Why}
-use Rattle.regex_ast.specs.declared.fault.Why.TheVariants.{NoProject, NoFile, NotBuilt}
-use Rattle.regex_reader.specs.Form.{Statement, ReadsAs}
-use Rattle.fsm_meaning.specs.Projects.{Project, project_of}
+use Rattle.regex_ast.specs.declared.fault.Why.TheVariants as why
+use Rattle.regex_reader.specs.Files.{Statement, FaultAt, ReadsAs}
+use Rattle.fsm_meaning.specs.Projects.{Project}
+use Rattle.project_model.specs.Plans.{PlanView, project_in}
+use Rattle.project_model.specs.Together.{project_name, fault, SayTogether}
 use Rattle.fsm_io.specs.Causes.{Rose}
-use Rattle.fsm_program.specs.Networks.{NetworkView, Shows}
 use Rattle.fsm_program.specs.declared.load.LoadError.{LoadError}
 use Rattle.fsm_program.specs.declared.load.LoadError.TheVariants.{Failed, Memory, Refused}
 
 -- a letter, a digit, `_`, `-` or `.`
 abbrev pub IsFileByte : ℕ → Type 0
 IsFileByte b = ((48 ≤ b) × (b ≤ 57)) ⊎ ((65 ≤ b) × (b ≤ 90)) ⊎ ((97 ≤ b) × (b ≤ 122)) ⊎ (b ≡ 95) ⊎ (b ≡ 45) ⊎ (b ≡ 46)
-
-abbrev pub project_name : List ℕ
-project_name = codes "project"
 
 -- 1 to 64 such bytes, the first no `.`, and not the manifest's own name
 pub record IsFileName (name : List ℕ) : Type 0 where
@@ -32,20 +32,28 @@ pub record IsManifest (bytes name : List ℕ) : Type 0 where
   pub name_is : IsFileName name
   pub line : (bytes ≡ codes "xfst " ++ name) ⊎ (bytes ≡ (codes "xfst " ++ name) ++ 10 ∷ [])
 
-abbrev pub fault : List ℕ → ℕ → Why → Fault
-fault file line why = record { file = file; line = line; why = why }
+-- the most bytes of a file
+unfoldable pub most_bytes : ℕ
+most_bytes = 1048576
 
--- the project that a statement defines
-abbrev pub project_from : Statement → Project
-project_from s = project_of (record { name = s.name; term = s.term })
+-- what the text of a file of this name says
+pub data TextSays (name text : List ℕ) : Result Project Fault → Type 0 where
+  unread : (found : FaultAt) → ReadsAs text (Err found) → TextSays name text (Err (fault name found.line found.why))
+  read : (statements : List Statement) (answer : Result Project Fault) → ReadsAs text (Ok statements) → SayTogether name statements answer → TextSays name text answer
+
+-- what a file of this name says
+pub data FileSays (name bytes : List ℕ) : Result Project Fault → Type 0 where
+  large : most_bytes < length bytes → FileSays name bytes (Err (fault name 0 why.LimitFile))
+  not_utf8 : (line : ℕ) → length bytes ≤ most_bytes → source_text bytes ≡ Err (NotUtf8 line) → FileSays name bytes (Err (fault name line why.NotUtf8))
+  control : (line : ℕ) → length bytes ≤ most_bytes → source_text bytes ≡ Err (Control line) → FileSays name bytes (Err (fault name line why.Control))
+  has_text : (text : List ℕ) (answer : Result Project Fault) → length bytes ≤ most_bytes → source_text bytes ≡ Ok text → TextSays name text answer → FileSays name bytes answer
 
 -- what the files say. The faults are tried in this order
 pub data Reads (files : Files) : Result Project Fault → Type 0 where
-  no_project : file_of project_name files ≡ None → Reads files (Err (fault project_name 0 NoProject))
-  no_manifest : (manifest : List ℕ) → file_of project_name files ≡ Some manifest → ((name : List ℕ) → IsManifest manifest name → ⊥) → Reads files (Err (fault project_name 0 NotBuilt))
-  no_file : (manifest name : List ℕ) → file_of project_name files ≡ Some manifest → IsManifest manifest name → file_of name files ≡ None → Reads files (Err (fault project_name 1 NoFile))
-  no_statement : (manifest name text : List ℕ) → file_of project_name files ≡ Some manifest → IsManifest manifest name → file_of name files ≡ Some text → ((s : Statement) → ReadsAs text s → ⊥) → Reads files (Err (fault name 0 NotBuilt))
-  whole : (manifest name text : List ℕ) (s : Statement) → file_of project_name files ≡ Some manifest → IsManifest manifest name → file_of name files ≡ Some text → ReadsAs text s → Reads files (Ok (project_from s))
+  no_project : file_of project_name files ≡ None → Reads files (Err (fault project_name 0 why.NoProject))
+  no_manifest : (manifest : List ℕ) → file_of project_name files ≡ Some manifest → ((name : List ℕ) → IsManifest manifest name → ⊥) → Reads files (Err (fault project_name 0 why.NotBuilt))
+  no_file : (manifest name : List ℕ) → file_of project_name files ≡ Some manifest → IsManifest manifest name → file_of name files ≡ None → Reads files (Err (fault project_name 1 why.NoFile))
+  says : (manifest name bytes : List ℕ) (answer : Result Project Fault) → file_of project_name files ≡ Some manifest → IsManifest manifest name → file_of name files ≡ Some bytes → FileSays name bytes answer → Reads files answer
 
 -- the most bytes that are read of a file: one more than a file may have
 unfoldable pub most_read : ℕ
@@ -64,14 +72,20 @@ IsLoadError Failed files before now = Rose before now
 IsLoadError (Memory refused) files before now = Unit {0}
 IsLoadError (Refused fault) files before now = Told files (λ files. Reads files (Err fault))
 
--- the network shows the project that the files are
-abbrev pub IsLoaded : NetworkView → Option Files → Type 0
-IsLoaded network files = (project : Project) × Told files (λ files. Reads files (Ok project)) × Shows network project
+-- the files are the project
+abbrev pub IsLoaded : Project → Option Files → Type 0
+IsLoaded project files = Told files (λ files. Reads files (Ok project))
 
--- the network of a plain definition, or none where the bytes are no such definition
-abbrev pub IsRead : List ℕ → Option NetworkView → Type 0
-IsRead bytes (Some network) = (s : Statement) × ReadsAs bytes s × Shows network (project_from s)
-IsRead bytes None = (s : Statement) → ReadsAs bytes s → ⊥
+-- a fault or want of memory, where this says what the fault may be
+abbrev pub IsWhy : (Result Project Fault → Type 0) → LoadError → Type 0
+IsWhy Says Failed = ⊥
+IsWhy Says (Memory refused) = Unit {0}
+IsWhy Says (Refused fault) = Says (Err fault)
+
+-- a plan of the project, or one of these
+abbrev pub IsAnswer : (Result Project Fault → Type 0) → Result PlanView LoadError → Type 0
+IsAnswer Says (Ok plan) = Says (Ok (project_in plan))
+IsAnswer Says (Err error) = IsWhy Says error
 
 -- refused for this fault, or want of memory
 abbrev pub IsRefusal : LoadError → Fault → Type 0

@@ -1,5 +1,5 @@
 -- What a compiled definition is, and which project it shows.
-use Rattle.std.specs.Prelude.{◌≡◌, ◌↔◌, ℕ, List, [], ◌∷◌, ◌++◌, zero, suc}
+use Rattle.std.specs.Prelude.{◌≡◌, ◌↔◌, ℕ, List, Option, None, Some}
 use Rattle.fsm_base.specs.declared.letters.Sym.{Sym}
 use Rattle.fsm_base.specs.declared.letters.Pair.{Pair}
 use Rattle.fsm_base.specs.Alphabet.{IsAlphabet, texts_of, spelled}
@@ -10,27 +10,30 @@ use Rattle.fsm_meaning.specs.declared.direction.Direction.{Direction}
 use Rattle.fsm_meaning.specs.declared.direction.Direction.TheVariants.{Up, Down}
 use Rattle.lookup.specs.Answering.{IsOverAlphabet, UpperTexts, LowerTexts}
 
--- a name with its automaton, over the symbols of an alphabet
+-- a name with its automaton, over the symbols of an alphabet; it has none where the project doesn't define the name
 pub record NetworkView : Type 0 where
   pub alphabet : List (Sym × List ℕ)
   pub name : List ℕ
-  pub net : Automaton Pair
+  pub net : Option (Automaton Pair)
 
--- the network has the project's alphabet, its one name, and the relation of this
+-- the automaton is over the alphabet, and has the relation of the project's name
+pub record ShowsName (alphabet : List (Sym × List ℕ)) (name : List ℕ) (net : Automaton Pair) (project : Project) : Type 0 where
+  pub defined : Defines project name
+  pub over : IsOverAlphabet alphabet net
+  pub relates : (u w : List (List ℕ)) → Meaning project name u w
+      ↔ ((upper : List Sym) × (lower : List Sym) × IsRelated net upper lower × (u ≡ spelled alphabet upper) × (w ≡ spelled alphabet lower))
+
+abbrev pub ShowsNet : List (Sym × List ℕ) → List ℕ → Option (Automaton Pair) → Project → Type 0
+ShowsNet alphabet name None project = ¬ (Defines project name)
+ShowsNet alphabet name (Some net) project = ShowsName alphabet name net project
+
+-- the network has the project's alphabet, and what the project says of its name
 pub record Shows (network : NetworkView) (project : Project) : Type 0 where
   pub formed : IsAlphabet network.alphabet
   pub alphabet : project.alphabet ≡ texts_of network.alphabet
-  pub over : IsOverAlphabet network.alphabet network.net
-  pub names : (name : List ℕ) → Defines project name ↔ (name ≡ network.name)
-  pub relates : (u w : List (List ℕ)) → Meaning project network.name u w
-      ↔ ((upper : List Sym) × (lower : List Sym) × IsRelated network.net upper lower × (u ≡ spelled network.alphabet upper) × (w ≡ spelled network.alphabet lower))
+  pub net : ShowsNet network.alphabet network.name network.net project
 
 -- the texts of the words that the network relates to this word
-abbrev pub TextsTo : Direction → NetworkView → List Sym → List ℕ → Type 0
-TextsTo Up network word = UpperTexts network.net network.alphabet word
-TextsTo Down network word = LowerTexts network.net network.alphabet word
-
--- the symbols of the numbers below this one, in order
-abbrev pub symbols_below : ℕ → List Sym
-symbols_below zero = []
-symbols_below (suc n) = symbols_below n ++ record { 0 = n } ∷ []
+abbrev pub TextsTo : Direction → Automaton Pair → List (Sym × List ℕ) → List Sym → List ℕ → Type 0
+TextsTo Up net alphabet word = UpperTexts net alphabet word
+TextsTo Down net alphabet word = LowerTexts net alphabet word

@@ -1,17 +1,19 @@
 //! The program as one call over a folder, an input and an output.
 //!
 //! - [`run`]: answers the words of a command line, with its status.
+//! - [`read_words`]: the [`Command`] of the words, or why there is none, a [`WordsError`].
 //!
-//! Inside, `words` reads the words, `load` the project of the folder (`manifest`, then `network`, which
-//! compiles the definition), and `look_up` answers the lines of the input, each by
-//! the reply that `reply` gathers.
+//! Inside, `load` reads the project of the folder to its plan (`manifest` names its file), `network` compiles the
+//! definition that is looked up in, and `look_up` answers the lines of the input, each by the reply that `reply`
+//! gathers (`answers` has the replies to words).
 #![tactic(auto)]
 
+mod answers;
+mod bytes;
 mod load;
 mod look_up;
 mod manifest;
 mod network;
-mod pieces;
 mod program;
 mod reply;
 #[cfg(test)]
@@ -19,3 +21,4 @@ mod tests;
 mod words;
 
 pub use program::run;
+pub use words::{Command, WordsError, read_words};

@@ -1,18 +1,25 @@
-ghost use Rattle.std.specs.Prelude.{◌≡◌, ◌<◌, ◌≤◌, List, ℕ, None, Some, Ok, Err, length, take, IfOk, IfErr};
-ghost use Rattle.fsm_io.specs.Folders.{Files, Finds, Told, file_of};
-ghost use Rattle.regex_reader.specs.Form.{Statement, ReadsAs};
-ghost use Rattle.fsm_meaning.specs.Projects.{project_of};
-ghost use Rattle.fsm_program.specs.Files.{Asks, IsLoadError, IsLoaded, IsManifest, IsRead, IsRefusal, fault, most_read, project_name};
-ghost use Rattle.fsm_program.specs.Networks.{Shows};
-ghost use Rattle.fsm_program.specs.declared.load.LoadError.TheVariants.{Memory};
+ghost use Rattle.std.specs.Prelude.{◌≡◌, ◌≤◌, List, ℕ, length, map, IfOk, IfErr};
+ghost use Rattle.fsm_base.specs.Normal.{IsWhyNoText, source_text};
+ghost use Rattle.fsm_io.specs.Folders.{Finds, Told};
+ghost use Rattle.regex_reader.specs.Files.{statement_of};
+ghost use Rattle.project_model.specs.Plans.{project_in};
+ghost use Rattle.project_model.specs.Together.{SayTogether, fault, project_name};
+ghost use Rattle.fsm_program.specs.Files.{Asks, FileSays, IsAnswer, IsLoadError, IsLoaded, IsManifest, IsRefusal, IsWhy, TextSays, most_bytes, most_read};
 
 use crate::manifest::file_named;
-use crate::network::Network;
-use fsm_base::Text;
+use fsm_base::{Text, TextError, normal};
 use fsm_io::{Folder, FolderError, Found};
-use regex_ast::{Fault, ReadError, Why};
+use project_model::{Plan, PlanError, plan_of};
+use regex_ast::{Define, Fault, Raw, ReadError, Why};
 use regex_reader::read_xfst;
 use std::alloc::{AllocError, Global};
+
+/// The most bytes of a file.
+const MOST_BYTES: usize = 1_048_576;
+
+/// More bytes than a file's text has. Normalization Form C makes a text three times as long at most (Unicode Standard
+/// Annex 15, section 3).
+const MOST_TEXT: usize = 4 * MOST_BYTES;
 
 /// Why a project isn't loaded.
 #[derive(Debug, Drop)]
@@ -25,31 +32,6 @@ pub enum LoadError {
     Refused(Fault),
 }
 
-impl From<AllocError> for LoadError {
-    ghost from_gives = { λ error result. result ≡ Memory error };
-
-    fn from(error: AllocError) -> LoadError {
-        LoadError::Memory(error)
-    }
-}
-
-/// The definition of a file's bytes, or `None` where they are no plain definition.
-pub fn network_of(alloc: Global, bytes: &[u8]) -> Result<Option<Network>, AllocError>
-    ensures { IfOk result (IsRead bytes.now) }
-{
-    let Ok(text) = std::str::from_utf8(bytes) else {
-        return Ok(None);
-    };
-    match read_xfst(alloc, text) {
-        Ok(defines) => match defines.first() {
-            Some(define) => Ok(Some(Network::of(alloc, define)?)),
-            None => Ok(None),
-        },
-        Err(ReadError::Memory(error)) => Err(error),
-        Err(ReadError::Fault { .. }) => Ok(None),
-    }
-}
-
 /// That a project is refused for this fault, or that there was no memory for its text.
 fn refused(alloc: Global, file: &str, line: u32, why: Why) -> LoadError
     ensures { IsRefusal result (fault file.now line why) }
@@ -57,6 +39,60 @@ fn refused(alloc: Global, file: &str, line: u32, why: Why) -> LoadError
     match Text::of(alloc, file) {
         Ok(file) => LoadError::Refused(Fault { file, line, why }),
         Err(error) => LoadError::Memory(error),
+    }
+}
+
+/// That bytes are no text.
+fn no_text(alloc: Global, name: &str, error: TextError) -> LoadError
+    ensures { (bytes : List ℕ) → length bytes ≤ most_bytes → IsWhyNoText (source_text bytes) error → IsWhy (FileSays name.now bytes) result }
+{
+    match error {
+        TextError::NotUtf8 { line } => refused(alloc, name, line, Why::NotUtf8),
+        TextError::Control { line } => refused(alloc, name, line, Why::Control),
+        TextError::Memory(error) => LoadError::Memory(error),
+    }
+}
+
+/// The plan of the definitions of a file of this name.
+fn plan_of_defines(
+    alloc: Global,
+    name: &str,
+    defines: Vec<Define<Raw>>,
+) -> Result<Plan, LoadError>
+    ensures { IsAnswer (SayTogether name.now (map statement_of defines.items)) result }
+{
+    match plan_of(alloc, name, defines) {
+        Ok(plan) => Ok(plan),
+        Err(PlanError::Refused(fault)) => Err(LoadError::Refused(fault)),
+        Err(PlanError::Memory(error)) => Err(LoadError::Memory(error)),
+    }
+}
+
+/// The plan of the text of a file of this name.
+fn plan_of_text(alloc: Global, name: &str, text: &str) -> Result<Plan, LoadError>
+    ensures { IsAnswer (TextSays name.now text.now) result }
+{
+    // This never comes, since no file's text is so long.
+    if text.len() > MOST_TEXT {
+        return Err(LoadError::Memory(AllocError));
+    }
+    match read_xfst(alloc, text) {
+        Ok(defines) => plan_of_defines(alloc, name, defines),
+        Err(ReadError::Fault { line, why }) => Err(refused(alloc, name, line, why)),
+        Err(ReadError::Memory(error)) => Err(LoadError::Memory(error)),
+    }
+}
+
+/// The plan of a file of this name.
+fn plan_of_file(alloc: Global, name: &str, bytes: &[u8]) -> Result<Plan, LoadError>
+    ensures { IsAnswer (FileSays name.now bytes.now) result }
+{
+    if bytes.len() > MOST_BYTES {
+        return Err(refused(alloc, name, 0, Why::LimitFile));
+    }
+    match normal(alloc, bytes) {
+        Ok(text) => plan_of_text(alloc, name, text.as_str()),
+        Err(error) => Err(no_text(alloc, name, error)),
     }
 }
 
@@ -80,37 +116,34 @@ fn read_file<F: Folder>(
     }
 }
 
-/// The definition of the file of this name, which the manifest `manifest` names.
+/// The plan of the file of this name, which the manifest `manifest` names.
 fn load_file<F: Folder>(
     alloc: Global,
     folder: &mut F,
     manifest: &Vec<u8>,
     name: &str,
     most: usize,
-) -> Result<Network, LoadError>
-    requires most { 4096 < most }
+) -> Result<Plan, LoadError>
+    requires most { most ≡ most_read }
     requires manifest { Told (F.files folder.old) (Finds project_name most (Found.Bytes manifest.now)) }
     requires named { IsManifest manifest.now.items name.now }
-    ensures loaded { IfOk result (λ network. IsLoaded network (F.files folder.old)) }
+    ensures loaded { IfOk result (λ plan. IsLoaded (project_in plan) (F.files folder.old)) }
     ensures error { IfErr result (λ error. IsLoadError error (F.files folder.old) (F.faults folder.old) (F.faults folder.new)) }
     ensures asked { F.reads folder.old name.now most folder.new }
     ensures later { F.faults folder.old ≤ F.faults folder.new }
 {
     match read_file(alloc, folder, name, most) {
-        Ok(Found::Bytes(bytes)) => match network_of(alloc, &bytes) {
-            Ok(Some(network)) => Ok(network),
-            Ok(None) => Err(refused(alloc, name, 0, Why::NotBuilt)),
-            Err(error) => Err(LoadError::Memory(error)),
-        },
+        Ok(Found::Bytes(bytes)) => plan_of_file(alloc, name, &bytes),
         Ok(Found::Missing) => Err(refused(alloc, "project", 1, Why::NoFile)),
         Err(error) => Err(error),
     }
 }
 
-/// Loads the project of a folder: its manifest, and the one file that this names.
-pub fn load<F: Folder>(alloc: Global, folder: &mut F, most: usize) -> Result<Network, LoadError>
+/// Loads the project of a folder: its manifest, and the one file that this names. At most `most` bytes of each are
+/// read.
+pub fn load<F: Folder>(alloc: Global, folder: &mut F, most: usize) -> Result<Plan, LoadError>
     requires { most ≡ most_read }
-    ensures loaded { IfOk result (λ network. IsLoaded network (F.files folder.old)) }
+    ensures loaded { IfOk result (λ plan. IsLoaded (project_in plan) (F.files folder.old)) }
     ensures error { IfErr result (λ error. IsLoadError error (F.files folder.old) (F.faults folder.old) (F.faults folder.new)) }
     ensures asked { Asks F.reads (F.files folder.old) folder.old folder.new }
     ensures later { F.faults folder.old ≤ F.faults folder.new }

@@ -46,15 +46,14 @@ fn answer_line<I: Source, O: Sink>(
     alloc: Global,
     network: &Network,
     direction: Direction,
-    net: &str,
     lines: &mut Lines,
     outbox: &mut Outbox,
     input: &mut I,
     output: &mut O,
 ) -> Option<Ending>
     ensures turns { (project : Project) (budget : ℕ) (left0 held0 : Option (List ℕ)) → Shows network.now project
-        → Sofar (Replies project direction 1 net.now) budget left0 (I.left input.old) held0 (O.held output.old) lines.old outbox.old
-        → Turns (Replies project direction 1 net.now) budget left0 (I.left input.new) held0 (O.held output.new) lines.new outbox.new result }
+        → Sofar (Replies project direction 1 network.now.name) budget left0 (I.left input.old) held0 (O.held output.old) lines.old outbox.old
+        → Turns (Replies project direction 1 network.now.name) budget left0 (I.left input.new) held0 (O.held output.new) lines.new outbox.new result }
     ensures progress { IfNone result (size_of lines.new < size_of lines.old) }
     ensures read { result ≡ Some Ending.ReadFailed → Rose (I.faults input.old) (I.faults input.new) }
     ensures write { result ≡ Some Ending.WriteFailed → Rose (O.faults output.old) (O.faults output.new) }
@@ -66,7 +65,6 @@ fn answer_line<I: Source, O: Sink>(
             alloc,
             network,
             direction,
-            net,
             lines.text(),
             outbox,
             output,
@@ -83,15 +81,14 @@ pub fn turn<I: Source, O: Sink>(
     alloc: Global,
     network: &Network,
     direction: Direction,
-    net: &str,
     lines: &mut Lines,
     outbox: &mut Outbox,
     input: &mut I,
     output: &mut O,
 ) -> Option<Ending>
     ensures turns { (project : Project) (budget : ℕ) (left0 held0 : Option (List ℕ)) → Shows network.now project
-        → Sofar (Replies project direction 1 net.now) budget left0 (I.left input.old) held0 (O.held output.old) lines.old outbox.old
-        → Turns (Replies project direction 1 net.now) budget left0 (I.left input.new) held0 (O.held output.new) lines.new outbox.new result }
+        → Sofar (Replies project direction 1 network.now.name) budget left0 (I.left input.old) held0 (O.held output.old) lines.old outbox.old
+        → Turns (Replies project direction 1 network.now.name) budget left0 (I.left input.new) held0 (O.held output.new) lines.new outbox.new result }
     ensures progress { IfNone result (size_of lines.new < size_of lines.old) }
     ensures read { result ≡ Some Ending.ReadFailed → Rose (I.faults input.old) (I.faults input.new) }
     ensures write { result ≡ Some Ending.WriteFailed → Rose (O.faults output.old) (O.faults output.new) }
@@ -99,7 +96,7 @@ pub fn turn<I: Source, O: Sink>(
     ensures later_output { O.faults output.old ≤ O.faults output.new }
 {
     match write_before_read(lines, outbox, output) {
-        Ok(()) => answer_line(alloc, network, direction, net, lines, outbox, input, output),
+        Ok(()) => answer_line(alloc, network, direction, lines, outbox, input, output),
         Err(Failed) => Some(Ending::WriteFailed),
     }
 }
@@ -127,7 +124,6 @@ pub fn look_up_all<I: Source, O: Sink>(
     alloc: Global,
     network: &Network,
     direction: Direction,
-    net: &str,
     lines: &mut Lines,
     outbox: &mut Outbox,
     input: &mut I,
@@ -136,14 +132,14 @@ pub fn look_up_all<I: Source, O: Sink>(
     requires start { (left : Option (List ℕ)) → HasTold left left most_taken lines.old [] }
     requires empty { outbox.old ≡ [] }
     ensures answered { (project : Project) → Shows network.now project
-        → HasAnswered (Replies project direction 1 net.now) most_taken (I.left input.old) (I.left input.new) (O.held output.old) (O.held output.new) result }
+        → HasAnswered (Replies project direction 1 network.now.name) most_taken (I.left input.old) (I.left input.new) (O.held output.old) (O.held output.new) result }
     ensures read { result ≡ Ending.ReadFailed → Rose (I.faults input.old) (I.faults input.new) }
     ensures write { result ≡ Ending.WriteFailed → Rose (O.faults output.old) (O.faults output.new) }
     ensures later_input { I.faults input.old ≤ I.faults input.new }
     ensures later_output { O.faults output.old ≤ O.faults output.new }
 {
     'lines: loop {
-        if let Some(ending) = turn(alloc, network, direction, net, lines, outbox, input, output) {
+        if let Some(ending) = turn(alloc, network, direction, lines, outbox, input, output) {
             return finish(ending, outbox, output);
         }
     }

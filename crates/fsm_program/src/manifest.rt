@@ -1,7 +1,8 @@
 ghost use Rattle.std.specs.Prelude.{◌≡◌, ◌↔◌, List, ℕ, Some, All, slice_get, IsTrue, IfNone, IfSome};
-ghost use Rattle.fsm_program.specs.Files.{IsFileByte, IsFileName, IsManifest, project_name};
+ghost use Rattle.project_model.specs.Together.{project_name};
+ghost use Rattle.fsm_program.specs.Files.{IsFileByte, IsFileName, IsManifest};
 
-use crate::pieces::without_last;
+use crate::bytes::without_last;
 
 /// Whether a byte may stand in a file's name.
 fn is_file_byte(byte: u8) -> bool

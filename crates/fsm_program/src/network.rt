@@ -1,95 +1,87 @@
-ghost use Rattle.std.specs.Prelude.{◌≡◌, ◌↔◌, [], length, IfOk, IsTrue};
-ghost use Rattle.regex_ast.specs.Terms.{term};
-ghost use Rattle.fsm_meaning.specs.Answers.{Answers};
-ghost use Rattle.fsm_meaning.specs.Built.{IsBuilt};
-ghost use Rattle.fsm_meaning.specs.Projects.{symbols_in, project_of};
-ghost use Rattle.expr_compile.specs.Tables.{Fits};
-ghost use Rattle.lookup.specs.Answering.{found_of};
-ghost use Rattle.fsm_program.specs.Networks.{Shows, TextsTo, symbols_below};
+ghost use Rattle.std.specs.Prelude.{◌≡◌, ◌<◌, ◌-◌, ◌^◌, length, IfOk};
+ghost use Rattle.fsm_meaning.specs.Projects.{Project};
+ghost use Rattle.fsm_meaning.specs.Replies.{RepliesToWord};
+ghost use Rattle.project_model.specs.Plans.{IsFound, project_in};
+ghost use Rattle.fsm_program.specs.Networks.{Shows, ShowsName, ShowsNet};
 
-use expr_compile::{add_symbols, compile};
-use fsm_base::{Alphabet, Sym, SymbolTable, Text};
+use crate::answers::reply_in;
+use expr_compile::compile;
+use fsm_base::Text;
 use fsm_meaning::Direction;
-use lookup::{Answer, Net, down, up};
+use lookup::Net;
+use project_model::Plan;
 use regex_ast::{Define, Raw};
+use reply_text::no_net;
 use std::alloc::{AllocError, Global};
 use std::marker::Model;
 
-/// A compiled definition: its name, and its network over the symbols of an alphabet.
+/// A name that is looked up in, and its network over the symbols of a project, if the project defines the name.
 #[derive(Drop)]
 pub struct Network {
-    alphabet: Alphabet,
+    plan: Plan,
     name: Text,
-    net: Net,
+    net: Option<Net>,
 }
 
 impl Model for Network {
+    ghost use Rattle.std.specs.Prelude.{IfSome};
     ghost use Rattle.lookup.specs.Answering.{IsOverAlphabet};
     ghost use Rattle.fsm_program.specs.Networks.{NetworkView};
 
     ghost Value = { NetworkView };
 
-    ghost view = { λ n. record { alphabet = n.alphabet; name = n.name; net = n.net } };
+    ghost view = { λ n. record { alphabet = n.plan.alphabet; name = n.name; net = n.net } };
 
-    ghost invariant = { λ n. IsOverAlphabet n.alphabet n.net };
+    ghost invariant = { λ n. IfSome n.net (IsOverAlphabet n.plan.alphabet) };
 }
 
-/// All symbols of a table, in the order of their numbers.
-fn all_symbols(alloc: Global, table: &SymbolTable) -> Result<Vec<Sym>, AllocError>
-    ensures { IfOk result (λ symbols. symbols.items ≡ symbols_below (length table.now)) }
+/// The network of the definition of a name.
+fn net_of(
+    alloc: Global,
+    plan: &Plan,
+    name: &str,
+    define: &Define<Raw>,
+) -> Result<Net, AllocError>
+    requires { IsFound (project_in plan.now) name.now define.now }
+    ensures { IfOk result (λ net. ShowsName plan.now.alphabet name.now net (project_in plan.now)) }
 {
-    let mut symbols = Vec::new(alloc);
-    'numbers: for number in 0..table.len() {
-        symbols.push(Sym(number as u32))?;
+    let compiled = compile(alloc, &define.expr, plan.table())?;
+    Net::of(alloc, &compiled)
+}
+
+/// The network of a name, if the project defines it.
+fn find_net(alloc: Global, plan: &Plan, name: &str) -> Result<Option<Net>, AllocError>
+    ensures { IfOk result (λ net. ShowsNet plan.now.alphabet name.now net (project_in plan.now)) }
+{
+    match plan.find(name) {
+        Some(define) => Ok(Some(net_of(alloc, plan, name, define)?)),
+        None => Ok(None),
     }
-    Ok(symbols)
 }
 
 impl Network {
-    /// Compiles a definition.
-    pub fn of(alloc: Global, define: &Define<Raw>) -> Result<Network, AllocError>
-        requires built { IsBuilt (term define.now.expr) }
-        requires fits { Fits [] (symbols_in (term define.now.expr)) }
-        ensures { IfOk result (λ network. Shows network (project_of (record { name = define.now.name; term = term define.now.expr }))) }
+    /// The network of this name in the project of a plan.
+    pub fn of(alloc: Global, plan: Plan, name: Text) -> Result<Network, AllocError>
+        ensures shows { IfOk result (λ network. Shows network (project_in plan)) }
+        ensures name { IfOk result (λ network. network.name ≡ name) }
     {
-        let mut table = SymbolTable::new(alloc);
-        add_symbols(&define.expr, &mut table)?;
-        let symbols = all_symbols(alloc, &table)?;
-        let alphabet = Alphabet::of(alloc, &table, &symbols)?;
-        let net = Net::of(alloc, &compile(alloc, &define.expr, &table)?)?;
-        Ok(Network {
-            alphabet,
-            name: Text::of(alloc, define.name.as_str())?,
-            net,
-        })
+        let net = find_net(alloc, &plan, name.as_str())?;
+        Ok(Network { plan, name, net })
     }
 
-    /// The alphabet of the definition.
-    pub fn alphabet(&self) -> &Alphabet
-        ensures { result.now ≡ self.now.alphabet }
-    {
-        &self.alphabet
-    }
-
-    /// Whether this is the definition's name.
-    pub fn has_name(&self, name: &str) -> bool
-        ensures { IsTrue result ↔ (name.now ≡ self.now.name) }
-    {
-        self.name.as_str() == name
-    }
-
-    /// The words that are related to this word, in one direction.
-    pub fn look(
+    /// The reply to a word in Normalization Form C.
+    pub fn reply_to(
         &self,
         alloc: Global,
         direction: Direction,
-        word: &[Sym],
-    ) -> Result<Answer, AllocError>
-        ensures { IfOk result (λ answer. Answers (TextsTo direction self.now word.now) (found_of answer)) }
+        word: &str,
+    ) -> Result<Vec<u8>, AllocError>
+        requires { length word.now < 2 ^ 32 - 1 }
+        ensures { (project : Project) → Shows self.now project → IfOk result (λ bytes. RepliesToWord project direction 1 self.now.name word.now bytes.items) }
     {
-        match direction {
-            Direction::Up => up(alloc, &self.net, &self.alphabet, word),
-            Direction::Down => down(alloc, &self.net, &self.alphabet, word),
+        match &self.net {
+            Some(net) => reply_in(alloc, self.plan.alphabet(), net, direction, word),
+            None => no_net(alloc, 1, self.name.as_str()),
         }
     }
 }

@@ -1,32 +1,32 @@
-ghost use Rattle.std.specs.Prelude.{◌≡◌, ◌≢◌, ◌⊎◌, ◌++◌, ◌∷◌, ◌^◌, ◌<◌, ◌≤◌, ℕ, [], List, Option, None, Some, Ok, Err, IsSome, IsNone, length, map, codes, decimal, IfOk, IfErr};
+ghost use Rattle.std.specs.Prelude.{◌≡◌, ◌≢◌, ◌⊎◌, ◌<◌, ◌≤◌, ℕ, [], List, Option, None, Some, Ok, Err, length, map, IfOk};
 ghost use Rattle.std.specs.String.{string_bytes};
-ghost use Rattle.std.specs.Io.KnownBytes.{Appends, Consumes};
-ghost use Rattle.fsm_io.specs.Causes.{HasCause, Rose};
+ghost use Rattle.std.specs.Io.KnownBytes.{Consumes};
+ghost use Rattle.fsm_io.specs.Causes.{Rose};
 ghost use Rattle.fsm_io.specs.Folders.{Files, IsTold, Told};
 ghost use Rattle.fsm_io.specs.Reading.{HasTold};
-ghost use Rattle.fsm_io.specs.Sinks.{WritesAll};
 ghost use Rattle.regex_ast.specs.declared.fault.Fault.{Fault};
 ghost use Rattle.fsm_meaning.specs.Projects.{Project};
 ghost use Rattle.fsm_meaning.specs.Replies.{Replies};
-ghost use Rattle.fsm_meaning.specs.Transcripts.{HasAnswered};
-ghost use Rattle.fsm_program.specs.Ends.{Ends, IsAnswered, IsNotLoaded, IsSaid, Query, query_of, refusal_line, refusal_text, status_of, usage_text, why_text};
-ghost use Rattle.fsm_program.specs.Files.{Asks, IsLoadError, Reads};
+ghost use Rattle.project_model.specs.Plans.{AreNames, project_in};
+ghost use Rattle.reply_text.specs.Projects.{accepted_line, refused_line};
+ghost use Rattle.fsm_program.specs.Ends.{Asked, Ends, IsAnswered, IsNotLoaded, IsSaid, IsWhyUnread, Loads, Query, asked_by, asked_of, for_check, for_help, for_look, status_of, usage_text};
+ghost use Rattle.fsm_program.specs.Files.{Asks, Reads};
 ghost use Rattle.fsm_program.specs.Networks.{Shows};
 ghost use Rattle.fsm_program.specs.Running.{most_taken};
 
 use crate::load::{LoadError, load};
 use crate::look_up::look_up_all;
 use crate::network::Network;
-use crate::pieces::write_pieces;
-use crate::words::query_in;
+use crate::words::{Command, WordsError, read_words};
+use fsm_base::Text;
 use fsm_io::{Failed, Folder, Lines, Outbox, Sink, Source, write_all};
 use fsm_meaning::{Direction, Ending};
-use itoa::Buffer;
-use regex_ast::{Fault, Why};
+use project_model::Plan;
+use reply_text::{accepted, refused};
 use std::alloc::{AllocError, Global};
 
-/// What is written where the words are in no form.
-const USAGE: &[u8] = b"up DIR NET\ndown DIR NET\n";
+/// What is written for help, and where the words are in no form.
+const USAGE: &[u8] = b"check DIR\nup DIR NET\ndown DIR NET\nhelp\n";
 
 /// The greatest number of bytes taken from the input.
 const MOST_TAKEN: u64 = 1 << 40;
@@ -37,41 +37,9 @@ const MOST_READ: usize = 1_048_577;
 /// How many bytes of replies are gathered before they are written.
 const OUTBOX_ROOM: usize = 65_536;
 
-/// The reason as it is printed.
-fn why_name(why: Why) -> &'static str
-    ensures { result.now ≡ why_text why }
-{
-    match why {
-        Why::NoProject => "no-project",
-        Why::LimitFile => "limit-file",
-        Why::NotUtf8 => "not-utf8",
-        Why::Control => "control",
-        Why::Token => "token",
-        Why::LimitNesting => "limit-nesting",
-        Why::Statement => "statement",
-        Why::LimitPower => "limit-power",
-        Why::LimitRule => "limit-rule",
-        Why::LimitFiles => "limit-files",
-        Why::LimitEntries => "limit-entries",
-        Why::LimitFeatures => "limit-features",
-        Why::UnknownLexicon => "unknown-lexicon",
-        Why::NoFile => "no-file",
-        Why::Duplicate => "duplicate",
-        Why::LimitNames => "limit-names",
-        Why::LimitSymbols => "limit-symbols",
-        Why::UnknownName => "unknown-name",
-        Why::Cycle => "cycle",
-        Why::NotALanguage => "not-a-language",
-        Why::LimitWeight => "limit-weight",
-        Why::EmptyCentre => "empty-centre",
-        Why::BadSplice => "bad-splice",
-        Why::NotBuilt => "not-built",
-    }
-}
-
 /// Writes a text that ends the run with this status, or with 4 where the write fails.
 fn said<O: Sink>(output: &mut O, text: &[u8], status: u8) -> u8
-    requires { (status ≡ 1) ⊎ (status ≡ 2) }
+    requires { status < 3 }
     ensures said { IsSaid (O.held output.old) (O.held output.new) text.now status result }
     ensures status { (result ≡ status) ⊎ (result ≡ 4) }
     ensures write { result ≡ 4 → Rose (O.faults output.old) (O.faults output.new) }
@@ -94,65 +62,69 @@ fn status(ending: Ending) -> u8
     }
 }
 
-/// Writes the line `refused FILE LINE WHY` of these three.
-fn write_refusal<'a, O: Sink>(
-    file: &'a str,
-    line: u32,
-    why: &'a str,
-    outbox: &mut Outbox,
-    output: &mut O,
-) -> Result<(), Failed>
-    requires { outbox.old ≡ [] }
-    ensures said { WritesAll (O.held output.old) (O.held output.new) (refusal_line file.now line why.now) result }
-    ensures cause { HasCause (O.faults output.old) (O.faults output.new) result }
+/// Ends a run whose words ask for nothing.
+fn not_read<O: Sink>(error: WordsError, output: &mut O) -> u8
+    ensures ends { (asked : Option Asked) (files : Option Files) (faults : ℕ) (left : Option (List ℕ)) → IsWhyUnread asked error → Ends asked files faults faults left left (O.held output.old) (O.held output.new) result }
+    ensures status { (result ≡ 1) ⊎ (result ≡ 4) ⊎ (result ≡ 5) }
+    ensures unwritten { result ≡ 5 → output.new ≡ output.old }
+    ensures write { result ≡ 4 → Rose (O.faults output.old) (O.faults output.new) }
 {
-    let mut digits = Buffer::new();
-    let line = digits.format(line);
-    write_pieces(
-        outbox,
-        output,
-        &[
-            b"refused ".as_slice(),
-            file.as_bytes(),
-            b" ".as_slice(),
-            line.as_bytes(),
-            b" ".as_slice(),
-            why.as_bytes(),
-            b"\n".as_slice(),
-        ],
-    )
-}
-
-/// Writes the line of a refusal.
-fn say_refusal<O: Sink>(fault: &Fault, outbox: &mut Outbox, output: &mut O) -> Result<(), Failed>
-    requires { outbox.old ≡ [] }
-    ensures said { WritesAll (O.held output.old) (O.held output.new) (refusal_text fault.now) result }
-    ensures cause { HasCause (O.faults output.old) (O.faults output.new) result }
-{
-    write_refusal(
-        fault.file.as_str(),
-        fault.line,
-        why_name(fault.why),
-        outbox,
-        output,
-    )
+    match error {
+        WordsError::Usage => said(output, USAGE, 1),
+        WordsError::Memory(_) => 5,
+    }
 }
 
 /// Ends a run whose project isn't loaded.
-fn not_loaded<O: Sink>(error: LoadError, outbox: &mut Outbox, output: &mut O) -> u8
-    requires { outbox.old ≡ [] }
+fn not_loaded<O: Sink>(alloc: Global, error: LoadError, output: &mut O) -> u8
     ensures ends { IsNotLoaded error (O.held output.old) (O.held output.new) result }
-    ensures nothing { result ≡ 5 → output.new ≡ output.old }
+    ensures status { (result ≡ 2) ⊎ (result ≡ 3) ⊎ (result ≡ 4) ⊎ (result ≡ 5) }
+    ensures unwritten { result ≡ 5 → output.new ≡ output.old }
+    ensures failed { result ≡ 3 → error ≡ LoadError.Failed }
     ensures write { result ≡ 4 → Rose (O.faults output.old) (O.faults output.new) }
-    ensures later { O.faults output.old ≤ O.faults output.new }
 {
     match error {
         LoadError::Failed => 3,
         LoadError::Memory(_) => 5,
-        LoadError::Refused(fault) => match say_refusal(&fault, outbox, output) {
-            Ok(()) => 2,
-            Err(Failed) => 4,
+        LoadError::Refused(fault) => match refused(alloc, &fault) {
+            Ok(text) => said(output, &text, 2),
+            Err(_) => 5,
         },
+    }
+}
+
+/// The line of a project without fault.
+fn names_line(alloc: Global, plan: &Plan) -> Result<Vec<u8>, AllocError>
+    ensures { IfOk result (λ text. (names : List (List ℕ)) × AreNames (project_in plan.now) names × (text.items ≡ accepted_line 1 names)) }
+{
+    let names = plan.names(alloc)?;
+    accepted(alloc, 1, &names)
+}
+
+/// Writes the names of a project.
+fn say_names<O: Sink>(alloc: Global, plan: &Plan, output: &mut O) -> u8
+    ensures said { ((names : List (List ℕ)) × AreNames (project_in plan.now) names × IsSaid (O.held output.old) (O.held output.new) (accepted_line 1 names) 0 result) ⊎ (result ≡ 5) }
+    ensures status { (result ≡ 0) ⊎ (result ≡ 4) ⊎ (result ≡ 5) }
+    ensures unwritten { result ≡ 5 → output.new ≡ output.old }
+    ensures write { result ≡ 4 → Rose (O.faults output.old) (O.faults output.new) }
+{
+    match names_line(alloc, plan) {
+        Ok(text) => said(output, &text, 0),
+        Err(_) => 5,
+    }
+}
+
+/// Checks the folder's project.
+fn check<F: Folder, O: Sink>(alloc: Global, folder: &mut F, output: &mut O) -> u8
+    ensures ends { (left : Option (List ℕ)) → Ends (Some for_check) (F.files folder.old) (F.faults folder.old) (F.faults folder.new) left left (O.held output.old) (O.held output.new) result }
+    ensures unwritten { result ≡ 5 → output.new ≡ output.old }
+    ensures read { result ≡ 3 → Rose (F.faults folder.old) (F.faults folder.new) }
+    ensures write { result ≡ 4 → Rose (O.faults output.old) (O.faults output.new) }
+    ensures asked { Asks F.reads (F.files folder.old) folder.old folder.new }
+{
+    match load(alloc, folder, MOST_READ) {
+        Ok(plan) => say_names(alloc, &plan, output),
+        Err(error) => not_loaded(alloc, error, output),
     }
 }
 
@@ -161,7 +133,6 @@ fn answered<I: Source, O: Sink>(
     alloc: Global,
     network: &Network,
     direction: Direction,
-    net: &str,
     lines: &mut Lines,
     outbox: &mut Outbox,
     input: &mut I,
@@ -170,24 +141,24 @@ fn answered<I: Source, O: Sink>(
     requires start { (left : Option (List ℕ)) → HasTold left left most_taken lines.old [] }
     requires empty { outbox.old ≡ [] }
     ensures answered { (project : Project) → Shows network.now project
-        → IsAnswered (Replies project direction 1 net.now) (I.left input.old) (I.left input.new) (O.held output.old) (O.held output.new) result }
+        → IsAnswered (Replies project direction 1 network.now.name) (I.left input.old) (I.left input.new) (O.held output.old) (O.held output.new) result }
     ensures read { result ≡ 3 → Rose (I.faults input.old) (I.faults input.new) }
     ensures write { result ≡ 4 → Rose (O.faults output.old) (O.faults output.new) }
     ensures status { (result ≢ 1) × (result ≢ 2) × (result ≢ 5) }
 {
-    status(look_up_all(alloc, network, direction, net, lines, outbox, input, output))
+    status(look_up_all(alloc, network, direction, lines, outbox, input, output))
 }
 
 /// Answers the lines of the input in the folder's project.
 fn look_up<F: Folder, I: Source, O: Sink>(
     alloc: Global,
     direction: Direction,
-    net: &str,
+    net: Text,
     folder: &mut F,
     input: &mut I,
     output: &mut O,
 ) -> u8
-    ensures ends { Ends (Some (record { direction = direction; net = net.now })) (F.files folder.old) (F.faults folder.old) (F.faults folder.new) (I.left input.old) (I.left input.new) (O.held output.old) (O.held output.new) result }
+    ensures ends { Ends (Some (for_look (record { direction = direction; net = net }))) (F.files folder.old) (F.faults folder.old) (F.faults folder.new) (I.left input.old) (I.left input.new) (O.held output.old) (O.held output.new) result }
     ensures unread { (result ≡ 1) ⊎ (result ≡ 2) ⊎ (result ≡ 5) → input.new ≡ input.old }
     ensures unwritten { result ≡ 5 → output.new ≡ output.old }
     ensures read { result ≡ 3 → Rose (F.faults folder.old) (F.faults folder.new) ⊎ Rose (I.faults input.old) (I.faults input.new) }
@@ -200,36 +171,87 @@ fn look_up<F: Folder, I: Source, O: Sink>(
     let Ok(mut outbox) = Outbox::open(alloc, OUTBOX_ROOM) else {
         return 5;
     };
-    match load(alloc, folder, MOST_READ) {
+    let plan = match load(alloc, folder, MOST_READ) {
+        Ok(plan) => plan,
+        Err(error) => return not_loaded(alloc, error, output),
+    };
+    match Network::of(alloc, plan, net) {
         Ok(network) => answered(
             alloc,
             &network,
             direction,
-            net,
             &mut lines,
             &mut outbox,
             input,
             output,
         ),
-        Err(error) => not_loaded(error, &mut outbox, output),
+        Err(_) => 5,
     }
 }
 
-/// Runs the program: `words` are its arguments, whose first is the command.
+/// Does what a command asks for.
+fn obey<F: Folder, I: Source, O: Sink>(
+    alloc: Global,
+    command: Command,
+    folder: &mut F,
+    input: &mut I,
+    output: &mut O,
+) -> u8
+    ensures ends { Ends (Some (asked_by command)) (F.files folder.old) (F.faults folder.old) (F.faults folder.new) (I.left input.old) (I.left input.new) (O.held output.old) (O.held output.new) result }
+    ensures unread { (result ≡ 1) ⊎ (result ≡ 2) ⊎ (result ≡ 5) → input.new ≡ input.old }
+    ensures look_ups_read { ((query : Query) → asked_by command ≢ for_look query) → input.new ≡ input.old }
+    ensures unwritten { result ≡ 5 → output.new ≡ output.old }
+    ensures read { result ≡ 3 → Rose (F.faults folder.old) (F.faults folder.new) ⊎ Rose (I.faults input.old) (I.faults input.new) }
+    ensures write { result ≡ 4 → Rose (O.faults output.old) (O.faults output.new) }
+    ensures asked { Asks F.reads (F.files folder.old) folder.old folder.new }
+{
+    match command {
+        Command::Check => check(alloc, folder, output),
+        Command::Up { net } => look_up(alloc, Direction::Up, net, folder, input, output),
+        Command::Down { net } => look_up(alloc, Direction::Down, net, folder, input, output),
+        Command::Help => said(output, USAGE, 0),
+    }
+}
+
+/// Does what the words ask for.
+fn ended<F: Folder, I: Source, O: Sink>(
+    alloc: Global,
+    words: &[String],
+    folder: &mut F,
+    input: &mut I,
+    output: &mut O,
+) -> u8
+    ensures ends { Ends (asked_of (map string_bytes words.now)) (F.files folder.old) (F.faults folder.old) (F.faults folder.new) (I.left input.old) (I.left input.new) (O.held output.old) (O.held output.new) result }
+    ensures unread { (result ≡ 1) ⊎ (result ≡ 2) ⊎ (result ≡ 5) → input.new ≡ input.old }
+    ensures look_ups_read { ((query : Query) → asked_of (map string_bytes words.now) ≢ Some (for_look query)) → input.new ≡ input.old }
+    ensures unwritten { result ≡ 5 → output.new ≡ output.old }
+    ensures read { result ≡ 3 → Rose (F.faults folder.old) (F.faults folder.new) ⊎ Rose (I.faults input.old) (I.faults input.new) }
+    ensures write { result ≡ 4 → Rose (O.faults output.old) (O.faults output.new) }
+    ensures asked { Asks F.reads (F.files folder.old) folder.old folder.new }
+{
+    match read_words(alloc, words) {
+        Ok(command) => obey(alloc, command, folder, input, output),
+        Err(error) => not_read(error, output),
+    }
+}
+
+/// Runs the program: `words` are its arguments, whose first is the command. DIR is for the caller, who hands over the
+/// folder of that name.
 ///
+/// - `check DIR` reads the folder's project and writes `ok 1 rebuilt` with its names.
 /// - `up DIR NET` looks up each line of the input in the name NET of the folder's project, and writes
-///   the reply with its upper words to the output. DIR is for the caller, who hands over the folder of
-///   that name.
+///   the reply with its upper words to the output.
 /// - `down DIR NET` does the same with its lower words.
+/// - `help`, `-h` and `--help` write these forms.
 ///
 /// Returns the exit status:
-/// - 0: every line of the input has its reply.
+/// - 0: what was asked for is written. Of a look-up every line of the input has its reply.
 /// - 1: the words are in no form. The forms were written to the output.
 /// - 2: the project has a fault. Its first fault was written to the output.
 /// - 3: a file of the folder or the input couldn't be read. Every line that was read whole has its
 ///   reply.
 /// - 4: the output couldn't be written.
-/// - 5: there was no memory for the project. Nothing was read or written.
+/// - 5: there was no memory for the project. Nothing was read of the input, and nothing written.
 /// - 6: 2^40 bytes were read and the input hasn't ended. Every line that was read whole has its reply.
 pub fn run<F: Folder, I: Source, O: Sink>(
     alloc: Global,
@@ -238,25 +260,26 @@ pub fn run<F: Folder, I: Source, O: Sink>(
     input: &mut I,
     output: &mut O,
 ) -> u8
-    ensures ends { Ends (query_of (map string_bytes words.now)) (F.files folder.old) (F.faults folder.old) (F.faults folder.new) (I.left input.old) (I.left input.new) (O.held output.old) (O.held output.new) result }
-    ensures usage { result ≡ 1 → query_of (map string_bytes words.now) ≡ None }
-    ensures no_words { query_of (map string_bytes words.now) ≡ None → IsSaid (O.held output.old) (O.held output.new) usage_text 1 result }
+    ensures ends { Ends (asked_of (map string_bytes words.now)) (F.files folder.old) (F.faults folder.old) (F.faults folder.new) (I.left input.old) (I.left input.new) (O.held output.old) (O.held output.new) result }
+    ensures usage { result ≡ 1 → asked_of (map string_bytes words.now) ≡ None }
+    ensures no_words { asked_of (map string_bytes words.now) ≡ None → IsSaid (O.held output.old) (O.held output.new) usage_text 1 result }
+    ensures helped { asked_of (map string_bytes words.now) ≡ Some for_help → IsSaid (O.held output.old) (O.held output.new) usage_text 0 result }
     ensures fault { result ≡ 2 → (fault : Fault) × Told (F.files folder.old) (λ files. Reads files (Err fault)) }
-    ensures refused { (query : Query) (fault : Fault) → query_of (map string_bytes words.now) ≡ Some query → IsTold (F.files folder.old) (λ files. Reads files (Err fault)) → ¬ (Rose (F.faults folder.old) (F.faults folder.new))
-        → IsSaid (O.held output.old) (O.held output.new) (refusal_text fault) 2 result ⊎ (result ≡ 5) }
-    ensures answered { (query : Query) (project : Project) → query_of (map string_bytes words.now) ≡ Some query → IsTold (F.files folder.old) (λ files. Reads files (Ok project)) → ¬ (Rose (F.faults folder.old) (F.faults folder.new))
+    ensures refused { (what : Asked) (fault : Fault) → asked_of (map string_bytes words.now) ≡ Some what → Loads what → IsTold (F.files folder.old) (λ files. Reads files (Err fault)) → ¬ (Rose (F.faults folder.old) (F.faults folder.new))
+        → IsSaid (O.held output.old) (O.held output.new) (refused_line fault) 2 result ⊎ (result ≡ 5) }
+    ensures checked { (project : Project) → asked_of (map string_bytes words.now) ≡ Some for_check → IsTold (F.files folder.old) (λ files. Reads files (Ok project)) → ¬ (Rose (F.faults folder.old) (F.faults folder.new))
+        → ((names : List (List ℕ)) × AreNames project names × IsSaid (O.held output.old) (O.held output.new) (accepted_line 1 names) 0 result) ⊎ (result ≡ 5) }
+    ensures answered { (query : Query) (project : Project) → asked_of (map string_bytes words.now) ≡ Some (for_look query) → IsTold (F.files folder.old) (λ files. Reads files (Ok project)) → ¬ (Rose (F.faults folder.old) (F.faults folder.new))
         → IsAnswered (Replies project query.direction 1 query.net) (I.left input.old) (I.left input.new) (O.held output.old) (O.held output.new) result ⊎ (result ≡ 5) }
-    ensures complete { (query : Query) (project : Project) → query_of (map string_bytes words.now) ≡ Some query → IsTold (F.files folder.old) (λ files. Reads files (Ok project)) → ¬ (Rose (F.faults folder.old) (F.faults folder.new))
+    ensures complete { (what : Asked) (project : Project) → asked_of (map string_bytes words.now) ≡ Some what → Loads what → IsTold (F.files folder.old) (λ files. Reads files (Ok project)) → ¬ (Rose (F.faults folder.old) (F.faults folder.new))
         → ¬ (Rose (I.faults input.old) (I.faults input.new)) → ¬ (Rose (O.faults output.old) (O.faults output.new)) → result ≢ 6 → (result ≡ 0) ⊎ (result ≡ 5) }
     ensures spent { result ≡ 6 → (taken : List ℕ) × Consumes (I.left input.old) (I.left input.new) taken × (length taken ≡ most_taken) }
     ensures unread { (result ≡ 1) ⊎ (result ≡ 2) ⊎ (result ≡ 5) → input.new ≡ input.old }
+    ensures look_ups_read { ((query : Query) → asked_of (map string_bytes words.now) ≢ Some (for_look query)) → input.new ≡ input.old }
     ensures unwritten { result ≡ 5 → output.new ≡ output.old }
     ensures read { result ≡ 3 → Rose (F.faults folder.old) (F.faults folder.new) ⊎ Rose (I.faults input.old) (I.faults input.new) }
     ensures write { result ≡ 4 → Rose (O.faults output.old) (O.faults output.new) }
     ensures asked { Asks F.reads (F.files folder.old) folder.old folder.new }
 {
-    match query_in(words) {
-        Some((direction, net)) => look_up(alloc, direction, net, folder, input, output),
-        None => said(output, USAGE, 1),
-    }
+    ended(alloc, words, folder, input, output)
 }

@@ -1,226 +1,72 @@
-ghost use Rattle.std.specs.Prelude.{◌≡◌, ◌-◌, ◌^◌, ◌<◌, ◌≤◌, ◌↔◌, ◌++◌, ◌∷◌, List, ℕ, Some, None, Ok, length, codes, decimal, IfSome, IfNone, IsTrue};
-ghost use Rattle.std.specs.List.{flat_map};
-ghost use Rattle.fsm_base.specs.Alphabet.{spelled, symbols_of};
-ghost use Rattle.fsm_base.specs.Cut.{cut};
+ghost use Rattle.std.specs.Prelude.{◌≡◌, Some, codes, IfOk};
+ghost use Rattle.fsm_base.specs.Normal.{nfc_of};
 ghost use Rattle.fsm_io.specs.Causes.{HasCause};
 ghost use Rattle.fsm_io.specs.Sinks.{Gathers};
 ghost use Rattle.fsm_meaning.specs.Projects.{Project};
-ghost use Rattle.fsm_meaning.specs.Answers.{strings};
-ghost use Rattle.fsm_meaning.specs.Replies.{IsWord, Replies, RepliesToWord, answer_bytes, headed, line_of};
-ghost use Rattle.lookup.specs.Answering.{found_of};
+ghost use Rattle.fsm_meaning.specs.Replies.{Replies, RepliesToWord, headed};
+ghost use Rattle.reply_text.specs.Heads.{head_word};
 ghost use Rattle.fsm_program.specs.Networks.{Shows};
 ghost use Rattle.fsm_program.specs.Sending.{Sends};
-ghost use Rattle.fsm_words.specs.Words.{IsOver};
 
+use crate::bytes::without_last;
 use crate::network::Network;
-use crate::pieces::{put_all, without_last};
-use fsm_base::{Sym, Text, TokensError};
+use fsm_base::nfc;
 use fsm_io::{Failed, Outbox, Sink};
 use fsm_meaning::Direction;
-use itoa::Buffer;
-use lookup::Answer;
-use std::alloc::Global;
+use reply_text::{Head, short};
+use std::alloc::{AllocError, Global};
+use std::str;
 
-/// Whether all bytes of the line are printable ASCII.
-fn is_word(line: &[u8]) -> bool
-    ensures { IsTrue result ↔ IsWord line.now }
-{
-    line.iter().all(|byte| (b' '..=b'~').contains(byte))
-}
+/// More bytes than a word has. A line has 4,096 at most, and Normalization Form C makes a text three times as long at
+/// most (Unicode Standard Annex 15, section 3).
+const MOST_WORD: usize = 4 * 4096;
 
-/// The line as a word, where all its bytes are printable ASCII.
-fn word_of(line: &[u8]) -> Option<&str>
-    ensures word { IfSome result (λ word. (word.now ≡ line.now) × IsWord line.now) }
-    ensures none { IfNone result (¬ (IsWord line.now)) }
-{
-    if !is_word(line) {
-        return None;
-    }
-    match std::str::from_utf8(line) {
-        Ok(word) => Some(word),
-        Err(_) => None,
-    }
-}
-
-/// Gathers the texts, each with a newline.
-fn put_lines<O: Sink>(texts: &[Text], outbox: &mut Outbox, output: &mut O) -> Result<(), Failed>
-    ensures bytes { Gathers (O.held output.old) (O.held output.new) outbox.old (flat_map line_of texts.now) outbox.new result }
+/// Gathers a reply of one word.
+fn put_short<O: Sink>(head: Head, outbox: &mut Outbox, output: &mut O) -> Result<(), Failed>
+    ensures bytes { Gathers (O.held output.old) (O.held output.new) outbox.old (headed 1 (head_word head)) outbox.new result }
     ensures cause { HasCause (O.faults output.old) (O.faults output.new) result }
 {
-    'texts: for text in texts {
-        match put_all(
-            outbox,
-            output,
-            &[text.as_str().as_bytes(), b"\n".as_slice()],
-        ) {
-            Ok(()) => {}
-            Err(Failed) => return Err(Failed),
-        }
-    }
-    Ok(())
+    let mut buf = [0u8; 64];
+    let end = short(1, head, &mut buf);
+    outbox.put(output, &buf[..end])
 }
 
-/// Gathers the reply to a word whose related texts are these: how many there are, and each on a line.
-fn reply_strings<O: Sink>(
-    texts: &[Text],
-    word: &str,
-    outbox: &mut Outbox,
-    output: &mut O,
-) -> Result<(), Failed>
-    ensures bytes { Gathers (O.held output.old) (O.held output.new) outbox.old (answer_bytes 1 word.now (strings texts.now)) outbox.new result }
-    ensures cause { HasCause (O.faults output.old) (O.faults output.new) result }
-{
-    let mut digits = Buffer::new();
-    let count = digits.format(texts.len());
-    match put_all(
-        outbox,
-        output,
-        &[
-            b"1 ".as_slice(),
-            count.as_bytes(),
-            b" ".as_slice(),
-            word.as_bytes(),
-            b"\n".as_slice(),
-        ],
-    ) {
-        Ok(()) => put_lines(texts, outbox, output),
-        Err(Failed) => Err(Failed),
-    }
-}
-
-/// Gathers the reply to a word by what was found.
-fn reply_answer<O: Sink>(
-    answer: &Answer,
-    word: &str,
-    outbox: &mut Outbox,
-    output: &mut O,
-) -> Result<(), Failed>
-    ensures bytes { Gathers (O.held output.old) (O.held output.new) outbox.old (answer_bytes 1 word.now (found_of answer.now)) outbox.new result }
-    ensures cause { HasCause (O.faults output.old) (O.faults output.new) result }
-{
-    match answer {
-        Answer::Strings(texts) => reply_strings(texts, word, outbox, output),
-        Answer::More => put_all(
-            outbox,
-            output,
-            &[b"1 more ".as_slice(), word.as_bytes(), b"\n".as_slice()],
-        ),
-        Answer::Loop {
-            before,
-            round,
-            after,
-        } => put_all(
-            outbox,
-            output,
-            &[
-                b"1 loop ".as_slice(),
-                word.as_bytes(),
-                b"\n".as_slice(),
-                before.as_str().as_bytes(),
-                b"\n".as_slice(),
-                round.as_str().as_bytes(),
-                b"\n".as_slice(),
-                after.as_str().as_bytes(),
-                b"\n".as_slice(),
-            ],
-        ),
-    }
-}
-
-/// Gathers the reply to a word that has a cut.
-fn reply_found<O: Sink>(
-    alloc: Global,
-    network: &Network,
-    direction: Direction,
-    symbols: &[Sym],
-    word: &str,
-    outbox: &mut Outbox,
-    output: &mut O,
-) -> Result<(), Failed>
-    ensures sends { (project : Project) → Shows network.now project → cut project.alphabet word.now ≡ Ok (spelled network.now.alphabet symbols.now) → IsOver (symbols_of network.now.alphabet) symbols.now
-        → Sends (RepliesToWord project direction 1 network.now.name word.now) (O.held output.old) (O.held output.new) outbox.old outbox.new result }
-    ensures cause { HasCause (O.faults output.old) (O.faults output.new) result }
-{
-    match network.look(alloc, direction, symbols) {
-        Ok(answer) => reply_answer(&answer, word, outbox, output),
-        Err(_) => put_all(outbox, output, &[b"1 memory\n".as_slice()]),
-    }
-}
-
-/// Gathers the reply to a word that has no cut: no symbol begins at this character, counted from 1.
-fn reply_no_symbol<O: Sink>(
-    at: u32,
-    word: &str,
-    outbox: &mut Outbox,
-    output: &mut O,
-) -> Result<(), Failed>
-    ensures bytes { Gathers (O.held output.old) (O.held output.new) outbox.old (headed 1 (codes "symbol " ++ decimal at ++ 32 ∷ word.now)) outbox.new result }
-    ensures cause { HasCause (O.faults output.old) (O.faults output.new) result }
-{
-    let mut digits = Buffer::new();
-    let at = digits.format(at);
-    put_all(
-        outbox,
-        output,
-        &[
-            b"1 symbol ".as_slice(),
-            at.as_bytes(),
-            b" ".as_slice(),
-            word.as_bytes(),
-            b"\n".as_slice(),
-        ],
-    )
-}
-
-/// Gathers the reply to a word.
-fn reply_to_word<O: Sink>(
+/// The reply to a word, which is put into Normalization Form C first.
+fn reply_to_word(
     alloc: Global,
     network: &Network,
     direction: Direction,
     word: &str,
-    outbox: &mut Outbox,
-    output: &mut O,
-) -> Result<(), Failed>
-    requires { length word.now < 2 ^ 32 - 1 }
-    ensures sends { (project : Project) → Shows network.now project
-        → Sends (RepliesToWord project direction 1 network.now.name word.now) (O.held output.old) (O.held output.new) outbox.old outbox.new result }
-    ensures cause { HasCause (O.faults output.old) (O.faults output.new) result }
+) -> Result<Vec<u8>, AllocError>
+    ensures { (project : Project) → Shows network.now project → IfOk result (λ bytes. RepliesToWord project direction 1 network.now.name (nfc_of word.now) bytes.items) }
 {
-    match network.alphabet().tokens(alloc, word) {
-        Ok(symbols) => reply_found(alloc, network, direction, &symbols, word, outbox, output),
-        Err(TokensError::NoSymbol { at }) => reply_no_symbol(at, word, outbox, output),
-        Err(TokensError::Memory(_)) => put_all(outbox, output, &[b"1 memory\n".as_slice()]),
+    let word = nfc(alloc, word)?;
+    // This never comes, since no line's word is so long.
+    if word.as_str().len() > MOST_WORD {
+        return Err(AllocError);
     }
+    network.reply_to(alloc, direction, word.as_str())
 }
 
-/// Gathers the reply to a line that isn't long, where `net` is the name that is looked up in.
+/// Gathers the reply to a line that isn't long.
 pub fn reply<O: Sink>(
     alloc: Global,
     network: &Network,
     direction: Direction,
-    net: &str,
     line: &[u8],
     outbox: &mut Outbox,
     output: &mut O,
 ) -> Result<(), Failed>
-    requires { length line.now ≤ 4096 }
     ensures sends { (project : Project) → Shows network.now project
-        → Sends (Replies project direction 1 net.now (Some line.now)) (O.held output.old) (O.held output.new) outbox.old outbox.new result }
+        → Sends (Replies project direction 1 network.now.name (Some line.now)) (O.held output.old) (O.held output.new) outbox.old outbox.new result }
     ensures cause { HasCause (O.faults output.old) (O.faults output.new) result }
 {
-    match word_of(without_last(b'\r', line)) {
-        None => put_all(outbox, output, &[b"1 line\n".as_slice()]),
-        Some(word) => {
-            if network.has_name(net) {
-                reply_to_word(alloc, network, direction, word, outbox, output)
-            } else {
-                put_all(
-                    outbox,
-                    output,
-                    &[b"1 net ".as_slice(), net.as_bytes(), b"\n".as_slice()],
-                )
-            }
-        }
+    match str::from_utf8(without_last(b'\r', line)) {
+        Ok(word) => match reply_to_word(alloc, network, direction, word) {
+            Ok(bytes) => outbox.put(output, &bytes),
+            Err(_) => put_short(Head::Memory, outbox, output),
+        },
+        Err(_) => put_short(Head::Line, outbox, output),
     }
 }
 
@@ -229,5 +75,5 @@ pub fn reply_long<O: Sink>(outbox: &mut Outbox, output: &mut O) -> Result<(), Fa
     ensures bytes { Gathers (O.held output.old) (O.held output.new) outbox.old (headed 1 (codes "long")) outbox.new result }
     ensures cause { HasCause (O.faults output.old) (O.faults output.new) result }
 {
-    put_all(outbox, output, &[b"1 long\n".as_slice()])
+    put_short(Head::Long, outbox, output)
 }

@@ -1,9 +1,61 @@
-ghost use Rattle.std.specs.Prelude.{◌≡◌, map};
+ghost use Rattle.std.specs.Prelude.{◌≡◌, Some, map, IfOk, MatchOption, MatchResult};
 ghost use Rattle.std.specs.Option.{option_map};
 ghost use Rattle.std.specs.String.{string_bytes};
-ghost use Rattle.fsm_program.specs.Ends.{direction_of, query_of};
+ghost use Rattle.fsm_base.specs.Normal.{nfc_of};
+ghost use Rattle.fsm_program.specs.Ends.{IsWhyUnread, asked_by, asked_of, direction_of, for_look, is_help};
 
+use fsm_base::{Text, nfc};
 use fsm_meaning::Direction;
+use std::alloc::{AllocError, Global};
+use thiserror::Error;
+
+/// What the words of a command line ask for. DIR is for the caller of [`crate::run`].
+#[derive(Debug, Drop)]
+pub enum Command {
+    /// `check DIR`: whether the project has a fault.
+    Check,
+    /// `up DIR NET`: the upper words of each line of the input.
+    Up {
+        /// The name that is looked up in, in Normalization Form C.
+        net: Text,
+    },
+    /// `down DIR NET`: the lower words of each line of the input.
+    Down {
+        /// The name that is looked up in, in Normalization Form C.
+        net: Text,
+    },
+    /// `help`, `-h` or `--help`: the forms of the words.
+    Help,
+}
+
+/// Why the words of a command line ask for nothing.
+#[derive(Debug, Drop, Error)]
+pub enum WordsError {
+    /// The words are in no form.
+    #[error("the words are in no form")]
+    Usage,
+    /// There was no memory.
+    #[error(transparent)]
+    Memory(AllocError),
+}
+
+impl From<AllocError> for WordsError {
+    ghost use Rattle.std.specs.Prelude.{◌≡◌};
+    ghost use Rattle.fsm_program.specs.declared.words.WordsError.TheVariants.{Memory};
+
+    ghost from_gives = { λ refused error. error ≡ Memory refused };
+
+    fn from(refused: AllocError) -> WordsError {
+        WordsError::Memory(refused)
+    }
+}
+
+/// Whether a word asks for help.
+fn is_help(word: &str) -> bool
+    ensures { result ≡ is_help word.now }
+{
+    word == "help" || word == "-h" || word == "--help"
+}
 
 /// The direction of a command.
 fn direction_of(command: &str) -> Option<Direction>
@@ -16,12 +68,33 @@ fn direction_of(command: &str) -> Option<Direction>
     }
 }
 
-/// The direction and the name of a look-up, where the words are `up DIR NET` or `down DIR NET`.
-pub fn query_in(words: &[String]) -> Option<(Direction, &str)>
-    ensures { option_map (λ query. record { direction = query.0; net = query.1.now }) result ≡ query_of (map string_bytes words.now) }
+/// A look-up in a name, which is put into Normalization Form C.
+fn look_up(alloc: Global, direction: Direction, net: &str) -> Result<Command, AllocError>
+    ensures { IfOk result (λ command. asked_by command ≡ for_look (record { direction = direction; net = nfc_of net.now })) }
 {
-    let [command, _, net] = words else {
-        return None;
-    };
-    Some((direction_of(command)?, net.as_str()))
+    let net = nfc(alloc, net)?;
+    match direction {
+        Direction::Up => Ok(Command::Up { net }),
+        Direction::Down => Ok(Command::Down { net }),
+    }
+}
+
+/// Reads the words of a command line, of which the first is the command: `check DIR`, `up DIR NET`, `down DIR NET`,
+/// `help`, `-h` or `--help`.
+///
+/// # Errors
+///
+/// `Usage` where the words are in none of these forms, and `Memory` where they are and there was no memory.
+pub fn read_words(alloc: Global, words: &[String]) -> Result<Command, WordsError>
+    ensures { MatchResult result (λ command. asked_of (map string_bytes words.now) ≡ Some (asked_by command)) (IsWhyUnread (asked_of (map string_bytes words.now))) }
+{
+    match words {
+        [word] if is_help(word.as_str()) => Ok(Command::Help),
+        [command, _] if command.as_str() == "check" => Ok(Command::Check),
+        [command, _, net] => match direction_of(command.as_str()) {
+            Some(direction) => Ok(look_up(alloc, direction, net.as_str())?),
+            None => Err(WordsError::Usage),
+        },
+        _ => Err(WordsError::Usage),
+    }
 }

@@ -5,11 +5,13 @@ use Rattle.regex_ast.specs.declared.expr.Suffix.{Suffix}
 use Rattle.regex_ast.specs.declared.expr.Prefix.{Prefix}
 use Rattle.regex_ast.specs.declared.expr.Side.{Side}
 use Rattle.regex_ast.specs.declared.expr.Expr.{Expr, Empty, Any, Edge, Atom, Letters, Group', Maybe', NotOne', Cross', Suffixed', Prefixed', Ignore', Concat', Chain', Only', Rules, Steps', Row_of-Expr, end_of-Expr, more_of-Expr, Row_of-Link, end_of-Link, more_of-Link, Row_of-Context, end_of-Context, more_of-Context, Row_of-Step, end_of-Step, more_of-Step}
+use Rattle.regex_ast.specs.declared.expr.Expr.{items-the_row-Context}
+use Rattle.regex_ast.specs.declared.expr.Context.{Context}
 use Rattle.regex_ast.specs.declared.expr.Link.{Link, Or, And, Less}
-use Rattle.regex_ast.specs.declared.expr.Step.{CrossWith, Then}
-use Rattle.regex_ast.specs.declared.expr.Mapping.{Plain, Markup, Insert}
+use Rattle.regex_ast.specs.declared.expr.Step.{Step, CrossWith, Then}
+use Rattle.regex_ast.specs.declared.expr.Mapping.{Mapping, Plain, Markup, Insert}
 use Rattle.regex_ast.specs.declared.expr.RuleSet.{RuleSet', Row_of-Group, end_of-Group, more_of-Group}
-use Rattle.regex_ast.specs.declared.expr.Group.{Group' as Group_of, Row_of-Mapping, end_of-Mapping, more_of-Mapping}
+use Rattle.regex_ast.specs.declared.expr.Group.{Group, Group' as Group_of, Row_of-Mapping, end_of-Mapping, more_of-Mapping, items-the_row-Mapping}
 
 mutual
   pub data Term (A : Type 0) : Type 0 where
@@ -115,7 +117,7 @@ abbrev mutual
   groups end_of-Group = no_group
   groups (more_of-Group (Group_of shape maps side shape' all) row) = then_group (mappings maps) side (contexts all) (groups row)
 
--- expressions side by side, and the operands of a row, by their lists
+-- what stands in a node, by its list
 abbrev pub terms_of : {A : Type 0} → List (Term A) → Terms A
 terms_of [] = no_term
 terms_of (t ∷ ts) = then_term t (terms_of ts)
@@ -125,3 +127,32 @@ links_of [] = no_link
 links_of (Or e ∷ ls) = or (term e) (links_of ls)
 links_of (And e ∷ ls) = and (term e) (links_of ls)
 links_of (Less e ∷ ls) = less (term e) (links_of ls)
+
+abbrev pub contexts_of : {A : Type 0} → List (Context A) → Contexts A
+contexts_of [] = no_context
+contexts_of (c ∷ cs) = between (term c.left) (term c.right) (contexts_of cs)
+
+abbrev pub steps_by : {A : Type 0} → List (Step A) → Steps A
+steps_by [] = no_step
+steps_by (CrossWith e ∷ ss) = cross_with (term e) (steps_by ss)
+steps_by (Then e ∷ ss) = then (term e) (steps_by ss)
+
+abbrev pub mappings_of : {A : Type 0} → List (Mapping A) → Mappings A
+mappings_of [] = no_mapping
+mappings_of (Plain c r ∷ ms) = plain (term c) (term r) (mappings_of ms)
+mappings_of (Markup c b a ∷ ms) = markup (term c) (term b) (term a) (mappings_of ms)
+mappings_of (Insert r ∷ ms) = insert (term r) (mappings_of ms)
+
+-- the parts of a group
+abbrev pub maps_of : {A : Type 0} → Group A → List (Mapping A)
+maps_of {A} (Group_of shape maps side shape' all) = items-the_row-Mapping A _ maps
+
+abbrev pub side_of : {A : Type 0} → Group A → Side
+side_of (Group_of shape maps side shape' all) = side
+
+abbrev pub contexts_in : {A : Type 0} → Group A → List (Context A)
+contexts_in {A} (Group_of shape maps side shape' all) = items-the_row-Context A _ all
+
+abbrev pub groups_of : {A : Type 0} → List (Group A) → Groups A
+groups_of [] = no_group
+groups_of (g ∷ gs) = then_group (mappings_of (maps_of g)) (side_of g) (contexts_of (contexts_in g)) (groups_of gs)

@@ -1,4 +1,5 @@
-pub mod Bytes
-pub mod Rows
-pub mod Form
-pub mod Reading
+pub mod Tests
+pub mod Found
+pub mod Files
+pub mod Reads
+pub mod Verdicts

@@ -1,16 +1,22 @@
-//! The reader of a file of one plain definition, from its text to its tree.
+//! The reader of xfst texts, from a text to its definitions or its first fault (Beesley and Karttunen, Finite State
+//! Morphology, 2003, chapters 2 and 3).
 //!
-//! - [`read_xfst`]: the definition of a file `define NAME E ;`, where E is built of letters, pairs of
-//!   letters, brackets, `*`, `+`, `^n`, concatenation and `|`.
+//! - [`read_xfst`]: the definitions of a file of `define` commands.
+//! - [`read_expr`]: an expression alone, as an entry of a lexicon has one.
+//! - [`one_reading`], [`one_expression`]: the laws that a text says one thing only.
 #![tactic(auto)]
 
-mod bytes;
-mod flag;
-mod leaf;
-mod lexer;
-mod parser;
+mod brackets;
+mod entry;
+mod findings;
+mod form;
+mod laws;
+mod name;
 mod statement;
-mod token;
+#[cfg(test)]
+mod tests;
 mod xfst;
 
+pub use entry::read_expr;
+pub use laws::{one_expression, one_reading};
 pub use xfst::read_xfst;

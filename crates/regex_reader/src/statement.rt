@@ -1,73 +1,100 @@
-ghost use Rattle.std.specs.Prelude.{◌≡◌, IfOk};
-ghost use Rattle.std.specs.Option.{option_map};
-ghost use Rattle.regex_ast.specs.Terms.{term};
-ghost use Rattle.regex_reader.specs.Form.{statement_of};
-ghost use Rattle.regex_reader.specs.Reading.{ends, whole_at, definition_at, statement_at};
+ghost use Rattle.std.specs.Prelude.{◌≡◌, ◌+◌, length};
+ghost use Rattle.regex_reader.specs.Verdicts.{placed, line_of, IsChecked, IsVerdict};
 
-use crate::bytes::is_name;
-use crate::parser::chain;
-use crate::token::{Operator, Token, split_run};
-use fsm_base::Text;
-use regex_ast::{Define, Expr, Raw};
-use std::alloc::{AllocError, Global};
+use crate::brackets::is_too_deep;
+use crate::findings::{Findings, in_expression};
+use crate::form::form_of;
+use regex_ast::{Define, Expr, Raw, ReadError, Why};
+use regex_parser::read_tokens;
+use regex_tokens::{Place, Token};
+use std::alloc::Global;
 
-/// The most brackets that may be open round a token.
-const MOST_OPEN: u32 = 16;
-
-/// The definition whose tokens these are, where it begins at this line; `None` where they are of another form.
+/// The definition of one statement.
+///
+/// # Errors
+///
+/// `Fault` at the line of its first token, and `Memory` where there was no memory.
 pub fn statement(
     alloc: Global,
-    line: u32,
     tokens: &[Token],
-) -> Result<Option<Define<Raw>>, AllocError>
-    ensures { IfOk result (λ found. option_map statement_of found ≡ statement_at line tokens.now) }
+    places: &[Place],
+) -> Result<Define<Raw>, ReadError>
+    requires { length tokens.now ≡ length places.now }
+    ensures { IsVerdict (placed tokens.now places.now) result }
 {
-    let Some((command, rest)) = split_run(tokens) else {
-        return Ok(None);
-    };
-    if command.as_str() != "define" {
-        return Ok(None);
+    let line = first_line(places);
+    if is_too_deep(tokens) {
+        return Err(ReadError::Fault {
+            line,
+            why: Why::LimitNesting,
+        });
     }
-    let Some((name, rest)) = split_run(rest) else {
-        return Ok(None);
+    let Some(form) = form_of(tokens, places) else {
+        return Err(ReadError::Fault {
+            line,
+            why: Why::Statement,
+        });
     };
-    definition(alloc, line, name, rest)
+    let (expr, found) = match checked(alloc, line, form.expression) {
+        Ok(checked) => checked,
+        Err(error) => return Err(error),
+    };
+    if found.high_power {
+        return Err(ReadError::Fault {
+            line,
+            why: Why::LimitPower,
+        });
+    }
+    if found.large_rule {
+        return Err(ReadError::Fault {
+            line,
+            why: Why::LimitRule,
+        });
+    }
+    match form.name.clone() {
+        Ok(name) => Ok(Define { name, line, expr }),
+        Err(error) => Err(ReadError::Memory(error)),
+    }
 }
 
-fn definition(
+/// The line of the first place.
+pub fn first_line(places: &[Place]) -> u32
+    ensures { result ≡ line_of places.now }
+{
+    match places.first() {
+        Some(place) => place.line,
+        None => 0,
+    }
+}
+
+/// The expression of which these are the tokens, and what is found in it.
+///
+/// # Errors
+///
+/// `Fault` at this line with `Statement` where they are none, or where `.#.` stands outside of a context.
+pub fn checked(
     alloc: Global,
     line: u32,
-    name: &Text,
     tokens: &[Token],
-) -> Result<Option<Define<Raw>>, AllocError>
-    ensures { IfOk result (λ found. option_map statement_of found ≡ definition_at line name.now tokens.now) }
+) -> Result<(Expr<Raw>, Findings), ReadError>
+    ensures { IsChecked line tokens.now result }
 {
-    if !is_name(name.as_str().as_bytes()) {
-        return Ok(None);
-    }
-    let Some(expr) = whole(alloc, name, tokens)? else {
-        return Ok(None);
+    let read = match read_tokens(alloc, tokens) {
+        Ok(read) => read,
+        Err(error) => return Err(ReadError::Memory(error)),
     };
-    let name = name.clone()?;
-    Ok(Some(Define { name, line, expr }))
-}
-
-/// The expression of which these are the tokens, with `;` behind it.
-fn whole(alloc: Global, name: &Text, tokens: &[Token]) -> Result<Option<Expr<Raw>>, AllocError>
-    ensures { IfOk result (λ found. option_map term found ≡ whole_at name.now tokens.now) }
-{
-    let Some((expr, rest)) = chain(alloc, name, tokens, MOST_OPEN)? else {
-        return Ok(None);
+    let Some(expr) = read else {
+        return Err(ReadError::Fault {
+            line,
+            why: Why::Statement,
+        });
     };
-    if !ends(rest) {
-        return Ok(None);
+    let found = in_expression(&expr, false);
+    if found.misplaced_edge {
+        return Err(ReadError::Fault {
+            line,
+            why: Why::Statement,
+        });
     }
-    Ok(Some(expr))
-}
-
-/// Whether the tokens are `;` and no more.
-fn ends(tokens: &[Token]) -> bool
-    ensures { result ≡ ends tokens.now }
-{
-    matches!(tokens, [Token::Operator(Operator::Semicolon)])
+    Ok((expr, found))
 }

@@ -1,224 +1,113 @@
-ghost use Rattle.std.specs.Prelude.{◌≡◌, ◌≤◌, ◌+◌, [], ◌∷◌, IfOk, IfErr, length, map};
-ghost use Rattle.std.specs.Option.{option_map};
-ghost use Rattle.regex_reader.specs.Form.{Statement, ReadsAs, statement_of, IsReadFault, newlines};
-ghost use Rattle.regex_reader.specs.Reading.{read};
+ghost use Rattle.std.specs.Prelude.{◌≡◌, ◌+◌, ◌-◌, ◌<◌, ◌^◌, length, false, IfSome};
+ghost use Rattle.std.specs.List.{list_any, position};
+ghost use Rattle.regex_tokens.specs.Cuts.{newlines};
+ghost use Rattle.regex_reader.specs.Files.{Says, is_semicolon};
+ghost use Rattle.regex_reader.specs.Reads.{IsAnswer, IsRead};
+ghost use Rattle.regex_reader.specs.Verdicts.{placed, IsEnd};
 
-use crate::bytes::{ByteClass, split};
-use crate::lexer::tokens;
-use crate::statement::statement;
+use crate::brackets::is_too_deep;
+use crate::statement::{first_line, statement};
 use regex_ast::{Define, Raw, ReadError, Why};
-use std::alloc::{AllocError, Global};
+use regex_tokens::{Ending, Operator, Place, Token, tokens};
+use std::alloc::Global;
 
-/// The most bytes that a file may have.
-const MOST_BYTES: usize = 4096;
-
-/// Reads the one definition of a file `define NAME E ;` (Beesley and Karttunen, Finite State Morphology, 2003,
-/// chapters 2 and 3).
+/// Reads the definitions of a text, which is a sequence of statements `define NAME EXPRESSION ;` (Beesley and
+/// Karttunen, Finite State Morphology, 2003, chapters 2 and 3).
 ///
-/// The text has at most 4,096 bytes, each a tab, a newline or a printable ASCII character, and no comment. NAME is
-/// a letter and at most 63 more letters and digits. E is built by these levels, tightest first:
-///
-/// - a leaf, `[ ]` (the empty string), `[E]`, `(E)`;
-/// - `A:B` of two leaves;
-/// - suffixes `*`, `+` and `^n`, where n is a run of digits of at most 255;
-/// - concatenation, by standing side by side;
-/// - `|`.
-///
-/// Operators of one level in a row form one node, and a row of one operand is its operand. At most 16 brackets are
-/// open round a token. A leaf is a run of characters other than blanks, digits, operators and brackets, or the run
-/// `0`; or a text in quotes; or a text in braces. No leaf has a `%`, no run in E is NAME and no quoted text is a
-/// flag.
+/// A statement goes from its first token to its `;`, or to the end of the text. `define` and NAME are runs without
+/// escape. NAME has 1 to 64 characters, each an ASCII letter or digit or a character above U+007F, the first no
+/// digit, and no `(` follows it without a blank.
 ///
 /// # Errors
 ///
-/// `Fault` at line 0 with `NotBuilt` where the text isn't of this form, and `Memory` where there was no memory.
+/// The first statement's fault, of these the first one that it has:
+///
+/// - `Token`, at a place where no token begins, with the line of the place; all others have the line of the
+///   statement's first token, counted from 1;
+/// - `LimitNesting`, where more than 64 brackets are open round a token;
+/// - `Statement`, where it has another form or no `;`, or `.#.` stands outside of a context;
+/// - `LimitPower`, where a power `^n` has a number above 255;
+/// - `LimitRule`, where a set of rules has more than 64 mappings or contexts, or a `=>` more than 64 contexts.
+///
+/// `Memory` where there was no memory.
 pub fn read_xfst(alloc: Global, text: &str) -> Result<Vec<Define<Raw>>, ReadError>
-    ensures read { IfOk result (λ defines. (s : Statement) × ReadsAs text.now s × (map statement_of defines.items ≡ s ∷ [])) }
-    ensures fault { IfErr result (IsReadFault text.now) }
+    requires { newlines text.now + 1 < 2 ^ 32 - 1 }
+    ensures { IsRead text.now result }
 {
-    let found = match definitions(alloc, text.as_bytes()) {
+    let found = match tokens(alloc, text, 1) {
         Ok(found) => found,
         Err(error) => return Err(ReadError::Memory(error)),
     };
-    match found {
-        Some(defines) => Ok(defines),
-        None => Err(ReadError::Fault {
-            line: 0,
-            why: Why::NotBuilt,
-        }),
-    }
+    statements(alloc, &found.tokens, &found.places, found.ending)
 }
 
-/// The one definition of a text, alone in a list; `None` where the text isn't of the form.
-fn definitions(alloc: Global, text: &[u8]) -> Result<Option<Vec<Define<Raw>>>, AllocError>
-    ensures { IfOk result (λ found. option_map (λ defines. map statement_of defines.items) found ≡ option_map (λ s. s ∷ []) (read text.now)) }
+/// What tokens say that end so.
+fn statements(
+    alloc: Global,
+    tokens: &[Token],
+    places: &[Place],
+    ending: Ending,
+) -> Result<Vec<Define<Raw>>, ReadError>
+    requires { length tokens.now ≡ length places.now }
+    ensures { IsAnswer (Says (placed tokens.now places.now) ending) result }
 {
-    let Some(define) = definition(alloc, text)? else {
-        return Ok(None);
-    };
     let mut defines = Vec::new(alloc);
-    defines.push(define)?;
-    Ok(Some(defines))
+    let mut rest = tokens;
+    let mut rest_places = places;
+    'statements: while let Some(last) = semicolon(rest) {
+        let (one, behind) = rest.split_at(last + 1);
+        let (one_places, places_behind) = rest_places.split_at(last + 1);
+        let define = match statement(alloc, one, one_places) {
+            Ok(define) => define,
+            Err(error) => return Err(error),
+        };
+        match defines.push(define) {
+            Ok(()) => {}
+            Err(error) => return Err(ReadError::Memory(error.into())),
+        }
+        rest = behind;
+        rest_places = places_behind;
+    }
+    match ended(rest, rest_places, ending) {
+        Ok(()) => Ok(defines),
+        Err(error) => Err(error),
+    }
 }
 
-/// The definition of a text; `None` where it isn't of the form.
-fn definition(alloc: Global, text: &[u8]) -> Result<Option<Define<Raw>>, AllocError>
-    ensures { IfOk result (λ found. option_map statement_of found ≡ read text.now) }
+/// The place of the first `;`, counted from 0.
+fn semicolon(tokens: &[Token]) -> Option<usize>
+    ensures first { result ≡ position is_semicolon tokens.now }
+    ensures within { IfSome result (λ place. place < 2 ^ 64 - 1) }
 {
-    if text.len() > MOST_BYTES {
-        return Ok(None);
+    tokens.iter().position(|token| is_semicolon(token))
+}
+
+fn is_semicolon(token: &Token) -> bool
+    ensures { result ≡ is_semicolon token.now }
+{
+    matches!(token, Token::Operator(Operator::Semicolon))
+}
+
+/// What tokens without a `;` are which end so: none, or a fault.
+fn ended(tokens: &[Token], places: &[Place], ending: Ending) -> Result<(), ReadError>
+    requires same { length tokens.now ≡ length places.now }
+    requires none { list_any is_semicolon tokens.now ≡ false }
+    ensures { IsEnd (placed tokens.now places.now) ending result }
+{
+    if let Ending::NoToken { line } = ending {
+        return Err(ReadError::Fault {
+            line,
+            why: Why::Token,
+        });
     }
-    let (front, behind) = split(text, ByteClass::Blank);
-    let line = line_behind(front);
-    let Some(tokens) = tokens(alloc, behind)? else {
-        return Ok(None);
+    if tokens.is_empty() {
+        return Ok(());
+    }
+    let why = if is_too_deep(tokens) {
+        Why::LimitNesting
+    } else {
+        Why::Statement
     };
-    statement(alloc, line, &tokens)
-}
-
-/// The line that is reached behind a text, counted from 1.
-fn line_behind(text: &[u8]) -> u32
-    requires { length text.now ≤ 4096 }
-    ensures { result ≡ newlines text.now + 1 }
-{
-    text.iter().filter(|byte| **byte == b'\n').count() as u32 + 1
-}
-
-#[cfg(test)]
-mod tests {
-    use super::*;
-
-    /// The definition's name, line and expression, or the fault.
-    fn shown(alloc: Global, text: &str) -> Result<String, AllocError> {
-        match read_xfst(alloc, text) {
-            Ok(defines) => {
-                let mut shown = String::new(alloc);
-                for define in defines.iter() {
-                    shown.push_str(&format!(in alloc;
-                        "{} {} = {:?}",
-                        define.line,
-                        define.name.as_str(),
-                        define.expr
-                    )?)?;
-                }
-                Ok(shown)
-            }
-            Err(ReadError::Fault { line, why }) => format!(in alloc; "{line} {why:?}"),
-            Err(ReadError::Memory(error)) => Err(error),
-        }
-    }
-
-    #[test]
-    fn reads_texts_of_the_form(rt: HostRuntime) -> Result<(), AllocError> {
-        let alloc = rt.alloc();
-        for (text, want) in [
-            (
-                "define N a \"+N\":{} ;",
-                "1 N = Concat([Atom(Run(Text { inner: \"a\" })), Cross(Atom(Quoted(Text { inner: \"+N\" })), Empty)])",
-            ),
-            (
-                "\n\t \ndefine\tN\n{a};\n",
-                "3 N = Letters([Quoted(Text { inner: \"a\" })])",
-            ),
-            ("define N [ ] ;", "1 N = Empty"),
-            (
-                "define N 0:0* {}+^007|(0 0)|[0];",
-                "1 N = Chain(Concat([Suffixed(Cross(Empty, Empty), [Star]), Suffixed(Empty, [Plus, Power(7)])]), [Or(Maybe(Concat([Empty, Empty]))), Or(Group(Empty))])",
-            ),
-            (
-                "define N [0|0]0*;",
-                "1 N = Concat([Group(Chain(Empty, [Or(Empty)])), Suffixed(Empty, [Star])])",
-            ),
-        ] {
-            let got = shown(alloc, text)?;
-            assert_eq!(rt; got.as_str(), want, "at {text}");
-        }
-        Ok(())
-    }
-
-    #[test]
-    fn refuses_other_texts(rt: HostRuntime) -> Result<(), AllocError> {
-        let alloc = rt.alloc();
-        for text in [
-            "",
-            "define N a",
-            "define N ;",
-            "define N N ;",
-            "define N a1 ;",
-            "define N %a ;",
-            "define N a:b:c ;",
-            "define N :a ;",
-            "define N [a]:b ;",
-            "define N \"@P.a.b@\" ;",
-            "define N \"@N.a.b@\" ;",
-            "define N a ; b",
-            "define N' a ;",
-            "define N {a\tb} ;",
-            "define N é ;",
-            "define N () ;",
-            "define N [a ;",
-            "define N a] ;",
-            "define N [a) ;",
-            "define N *a ;",
-            "define N a|;",
-            "define N a||b ;",
-            "define N a^256 ;",
-            "define N a^2b ;",
-            "define N a^ b ;",
-            "define N a^{2} ;",
-        ] {
-            let got = shown(alloc, text)?;
-            assert_eq!(rt; got.as_str(), "0 NotBuilt", "at {text}");
-        }
-        Ok(())
-    }
-
-    /// Whether a text of these parts is read: so many `n` in its name, so many blanks at its end.
-    fn is_read(alloc: Global, name: u32, blanks: u32) -> Result<bool, AllocError> {
-        let mut text = String::from_str(alloc, "define ")?;
-        for _ in 0..name {
-            text.push('n')?;
-        }
-        text.push_str(" b ;")?;
-        for _ in 0..blanks {
-            text.push('\n')?;
-        }
-        Ok(read_xfst(alloc, &text).is_ok())
-    }
-
-    #[test]
-    fn keeps_the_limits(rt: HostRuntime) -> Result<(), AllocError> {
-        let alloc = rt.alloc();
-        assert!(rt; is_read(alloc, 64, 4021)?);
-        assert!(rt; !is_read(alloc, 64, 4022)?);
-        assert!(rt; !is_read(alloc, 65, 0)?);
-        assert!(rt; is_read(alloc, 1, 4084)?);
-        assert!(rt; !is_read(alloc, 1, 4085)?);
-        Ok(())
-    }
-
-    /// Whether a text is read, of so many opening and closing brackets with this between.
-    fn is_nested(alloc: Global, depth: u32, inner: &str) -> Result<bool, AllocError> {
-        let mut text = String::from_str(alloc, "define N ")?;
-        for _ in 0..depth {
-            text.push('[')?;
-        }
-        text.push_str(inner)?;
-        for _ in 0..depth {
-            text.push(']')?;
-        }
-        text.push(';')?;
-        Ok(read_xfst(alloc, &text).is_ok())
-    }
-
-    #[test]
-    fn opens_16_brackets(rt: HostRuntime) -> Result<(), AllocError> {
-        let alloc = rt.alloc();
-        assert!(rt; is_nested(alloc, 16, "a")?);
-        assert!(rt; !is_nested(alloc, 17, "a")?);
-        assert!(rt; is_nested(alloc, 17, "")?);
-        assert!(rt; !is_nested(alloc, 18, "")?);
-        assert!(rt; !is_nested(alloc, 16, "(a)")?);
-        Ok(())
-    }
+    let line = first_line(places);
+    Err(ReadError::Fault { line, why })
 }

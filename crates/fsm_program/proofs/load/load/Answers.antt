@@ -1,8 +1,5 @@
-use Rattle.fsm_program.proofs.Loading.{reads_no_manifest, reads_no_project, refused_so, most_read_big, asks_both}
+use Rattle.fsm_program.proofs.Loading.{reads_no_manifest, reads_no_project, refused_so, asks_both}
 use Rattle.fsm_program.proofs.load.load.Goals as goal
-
-pub load_file-requires-clause-most : goal.load_file-requires-clause-most
-load_file-requires-clause-most g c = most_read_big c.args.most c.requires
 
 pub returns-in-Some-clause-asked : goal.returns-in-Some-clause-asked
 returns-in-Some-clause-asked g c =
@@ -14,9 +11,9 @@ pub returns-in-Ok-Bytes-clause-error : goal.returns-in-Ok-Bytes-clause-error
 returns-in-Ok-Bytes-clause-error g c =
     let found = rw c.in-Ok-Bytes.field-0-is at c.in-Ok-Bytes.ensures.found in
     let none = rw c.deref.ensures.value at c.in-None.ensures.none in
-    refused_so _ _ _ _ _ c.refused.ensures (reads_no_manifest c.args.most (most_read_big c.args.most c.requires) _ c.in-Ok-Bytes.manifest found none)
+    refused_so _ _ _ _ _ c.refused.ensures (reads_no_manifest c.args.most c.requires _ c.in-Ok-Bytes.manifest found none)
 
 pub returns-in-Ok-Missing-clause-error : goal.returns-in-Ok-Missing-clause-error
 returns-in-Ok-Missing-clause-error g c =
     let missing = rw c.in-Ok-Missing.field-0-is at c.in-Ok-Missing.ensures.found in
-    refused_so _ _ _ _ _ c.refused-in-Ok-Missing.ensures (reads_no_project c.args.most (most_read_big c.args.most c.requires) _ missing)
+    refused_so _ _ _ _ _ c.refused-in-Ok-Missing.ensures (reads_no_project c.args.most c.requires _ missing)

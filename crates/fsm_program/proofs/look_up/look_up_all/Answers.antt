@@ -6,7 +6,7 @@ use Rattle.fsm_program.proofs.look_up.look_up_all.Goals as goal
 
 pub lines-init : goal.lines-init
 lines-init g c = record {
-  sofar = λ project shown. sofar_start (Replies project c.args.direction 1 c.args.net.now) most_taken _ _ _ _ c.requires.start c.requires.empty;
+  sofar = λ project shown. sofar_start (Replies project c.args.direction 1 c.args.network.now.name) most_taken _ _ _ _ c.requires.start c.requires.empty;
   later_input = omega arith;
   later_output = omega arith;
 }
@@ -20,6 +20,6 @@ lines-preserved g c = record {
 
 pub returns-in-Some-clause-answered : goal.returns-in-Some-clause-answered
 returns-in-Some-clause-answered g c project shown =
-    finished (Replies project c.args.direction 1 c.args.net.now) most_taken _ _ _ _ _ _ _ _ _ _
+    finished (Replies project c.args.direction 1 c.args.network.now.name) most_taken _ _ _ _ _ _ _ _ _ _
     (λ is. let same = c.finish.ensures.failed is in (same.0, ap (λ o. g.O.Sink.held o) same.1)) c.finish.ensures.written c.finish.ensures.bytes
     (c.in-Some.ensures.turns project most_taken _ _ shown (c.lines.invariant.sofar project shown))

@@ -1,13 +1,29 @@
-use Rattle.std.proofs.Common.{◌∙◌}
-use Rattle.fsm_program.proofs.Endings.{refusal, answer, completes}
+use Rattle.fsm_program.proofs.Endings.{answer, check, completes, fault_cause, help, refusal, spent_cause, unsaid, usage_cause}
 use Rattle.fsm_program.proofs.program.run.Goals as goal
 
-pub returns-in-Some-clause-refused : goal.returns-in-Some-clause-refused
-returns-in-Some-clause-refused g c net fault is told whole = refusal c.look_up.ensures.ends net fault (c.in-Some.ensures ∙ is) told whole
+pub returns-clause-usage : goal.returns-clause-usage
+returns-clause-usage g c = usage_cause c.ended.ensures.ends
 
-pub returns-in-Some-clause-answered : goal.returns-in-Some-clause-answered
-returns-in-Some-clause-answered g c net project is told whole = answer c.look_up.ensures.ends net project (c.in-Some.ensures ∙ is) told whole
+pub returns-clause-no_words : goal.returns-clause-no_words
+returns-clause-no_words g c = unsaid c.ended.ensures.ends
 
-pub returns-in-Some-clause-complete : goal.returns-in-Some-clause-complete
-returns-in-Some-clause-complete g c net project is told whole read written unspent =
-    completes c.look_up.ensures.ends c.look_up.ensures.read c.look_up.ensures.write net project (c.in-Some.ensures ∙ is) told whole read written unspent
+pub returns-clause-helped : goal.returns-clause-helped
+returns-clause-helped g c = help c.ended.ensures.ends
+
+pub returns-clause-fault : goal.returns-clause-fault
+returns-clause-fault g c = fault_cause c.ended.ensures.ends
+
+pub returns-clause-refused : goal.returns-clause-refused
+returns-clause-refused g c = refusal c.ended.ensures.ends
+
+pub returns-clause-checked : goal.returns-clause-checked
+returns-clause-checked g c = check c.ended.ensures.ends
+
+pub returns-clause-answered : goal.returns-clause-answered
+returns-clause-answered g c = answer c.ended.ensures.ends
+
+pub returns-clause-complete : goal.returns-clause-complete
+returns-clause-complete g c = completes c.ended.ensures.ends c.ended.ensures.read c.ended.ensures.write
+
+pub returns-clause-spent : goal.returns-clause-spent
+returns-clause-spent g c = spent_cause c.ended.ensures.ends

@@ -1,0 +1,52 @@
+ghost use Rattle.std.specs.Prelude.{◌<◌, ◌-◌, ◌^◌, List, ℕ, Some, length, IfOk};
+ghost use Rattle.fsm_meaning.specs.Answers.{Answers};
+ghost use Rattle.fsm_meaning.specs.Projects.{Project};
+ghost use Rattle.fsm_meaning.specs.Replies.{RepliesToWord};
+ghost use Rattle.lookup.specs.Answering.{IsOverAlphabet, found_of};
+ghost use Rattle.fsm_program.specs.Networks.{Shows, TextsTo};
+
+use fsm_base::{Alphabet, Sym, TokensError};
+use fsm_meaning::Direction;
+use lookup::{Answer, Net, down, up};
+use reply_text::{answer, symbol};
+use std::alloc::{AllocError, Global};
+
+/// The words that a network relates to a word, in one direction.
+fn look(
+    alloc: Global,
+    alphabet: &Alphabet,
+    net: &Net,
+    direction: Direction,
+    word: &[Sym],
+) -> Result<Answer, AllocError>
+    requires { IsOverAlphabet alphabet.now net.now }
+    ensures { IfOk result (λ answer. Answers (TextsTo direction net.now alphabet.now word.now) (found_of answer)) }
+{
+    match direction {
+        Direction::Up => up(alloc, net, alphabet, word),
+        Direction::Down => down(alloc, net, alphabet, word),
+    }
+}
+
+/// The reply to a word that is looked up in a network over an alphabet.
+pub fn reply_in(
+    alloc: Global,
+    alphabet: &Alphabet,
+    net: &Net,
+    direction: Direction,
+    word: &str,
+) -> Result<Vec<u8>, AllocError>
+    requires over { IsOverAlphabet alphabet.now net.now }
+    requires short { length word.now < 2 ^ 32 - 1 }
+    ensures { (project : Project) (name : List ℕ) → Shows (record { alphabet = alphabet.now; name = name; net = Some net.now }) project
+        → IfOk result (λ bytes. RepliesToWord project direction 1 name word.now bytes.items) }
+{
+    match alphabet.tokens(alloc, word) {
+        Ok(symbols) => {
+            let found = look(alloc, alphabet, net, direction, &symbols)?;
+            answer(alloc, 1, word, &found)
+        }
+        Err(TokensError::NoSymbol { at }) => symbol(alloc, 1, at, word),
+        Err(TokensError::Memory(error)) => Err(error),
+    }
+}

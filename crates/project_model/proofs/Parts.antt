@@ -1,0 +1,61 @@
+-- The leaves of the items of a list, item by item.
+use Rattle.std.proofs.Common.{◌≡◌, ◌+◌, ◌<◌, ℕ, List, [], ◌∷◌, ◌++◌, map, length, drop, get_or, refl, sym, ap, ◌∙◌, append_assoc, append-nil}
+use Rattle.regex_ast.specs.Terms.{Term, term, terms_of, links_of, contexts_of, steps_by, mappings_of, groups_of, maps_of, contexts_in}
+use Rattle.regex_ast.specs.declared.expr.Raw.{Raw}
+use Rattle.regex_ast.specs.declared.expr.Expr.{Expr}
+use Rattle.regex_ast.specs.declared.expr.Context.{Context}
+use Rattle.regex_ast.specs.declared.expr.Group.{Group}
+use Rattle.regex_ast.specs.declared.expr.Link.{Link, Or, And, Less}
+use Rattle.regex_ast.specs.declared.expr.Step.{Step, CrossWith, Then}
+use Rattle.regex_ast.specs.declared.expr.Mapping.{Mapping, Plain, Markup, Insert}
+use Rattle.fsm_meaning.specs.Projects.{leaves_in}
+use Rattle.project_model.specs.Leaves.{leaves_in_each, leaves_in_links, leaves_in_contexts, leaves_in_steps, leaves_in_mappings, leaves_in_groups}
+use Rattle.project_model.proofs.Behind.{left_behind}
+
+pub each_left : (parts : List (Expr Raw)) (i : ℕ) (part : Expr Raw) → i < length parts → part ≡ get_or parts i part
+    → leaves_in_each (terms_of (map term (drop i parts))) ≡ leaves_in (term part) ++ leaves_in_each (terms_of (map term (drop (i + 1) parts)))
+each_left parts i part below is = ap (λ (z : List (Expr Raw)). leaves_in_each (terms_of (map term z))) (left_behind parts i part below is)
+
+-- the terms of operands
+abbrev pub operand_term : Link Raw → Term Raw
+operand_term (Or e) = term e
+operand_term (And e) = term e
+operand_term (Less e) = term e
+
+abbrev pub step_term : Step Raw → Term Raw
+step_term (CrossWith e) = term e
+step_term (Then e) = term e
+
+pub links_left : (links : List (Link Raw)) (i : ℕ) (link : Link Raw) → i < length links → link ≡ get_or links i link
+    → leaves_in_links (links_of (drop i links)) ≡ leaves_in (operand_term link) ++ leaves_in_links (links_of (drop (i + 1) links))
+links_left links i link below is = ap (λ (z : List (Link Raw)). leaves_in_links (links_of z)) (left_behind links i link below is) ∙ by link
+  where
+    by : (l : Link Raw) → leaves_in_links (links_of (l ∷ drop (i + 1) links)) ≡ leaves_in (operand_term l) ++ leaves_in_links (links_of (drop (i + 1) links))
+    by (Or e) = refl
+    by (And e) = refl
+    by (Less e) = refl
+
+pub steps_left : (steps : List (Step Raw)) (i : ℕ) (step : Step Raw) → i < length steps → step ≡ get_or steps i step
+    → leaves_in_steps (steps_by (drop i steps)) ≡ leaves_in (step_term step) ++ leaves_in_steps (steps_by (drop (i + 1) steps))
+steps_left steps i step below is = ap (λ (z : List (Step Raw)). leaves_in_steps (steps_by z)) (left_behind steps i step below is) ∙ by step
+  where
+    by : (s : Step Raw) → leaves_in_steps (steps_by (s ∷ drop (i + 1) steps)) ≡ leaves_in (step_term s) ++ leaves_in_steps (steps_by (drop (i + 1) steps))
+    by (CrossWith e) = refl
+    by (Then e) = refl
+
+pub contexts_left : (contexts : List (Context Raw)) (i : ℕ) (context : Context Raw) → i < length contexts → context ≡ get_or contexts i context
+    → leaves_in_contexts (contexts_of (drop i contexts)) ≡ (leaves_in (term context.left) ++ leaves_in (term context.right)) ++ leaves_in_contexts (contexts_of (drop (i + 1) contexts))
+contexts_left contexts i context below is = ap (λ (z : List (Context Raw)). leaves_in_contexts (contexts_of z)) (left_behind contexts i context below is)
+
+pub groups_left : (groups : List (Group Raw)) (i : ℕ) (group : Group Raw) → i < length groups → group ≡ get_or groups i group
+    → leaves_in_groups (groups_of (drop i groups)) ≡ (leaves_in_mappings (mappings_of (maps_of group)) ++ leaves_in_contexts (contexts_of (contexts_in group))) ++ leaves_in_groups (groups_of (drop (i + 1) groups))
+groups_left groups i group below is = ap (λ (z : List (Group Raw)). leaves_in_groups (groups_of z)) (left_behind groups i group below is)
+
+mapping_first : (m : Mapping Raw) (maps : List (Mapping Raw)) → leaves_in_mappings (mappings_of (m ∷ maps)) ≡ leaves_in_mappings (mappings_of (m ∷ [])) ++ leaves_in_mappings (mappings_of maps)
+mapping_first (Plain c r) maps = simp (append_assoc, append-nil)
+mapping_first (Markup c b a) maps = simp (append_assoc, append-nil)
+mapping_first (Insert r) maps = simp (append_assoc, append-nil)
+
+pub mappings_left : (maps : List (Mapping Raw)) (i : ℕ) (m : Mapping Raw) → i < length maps → m ≡ get_or maps i m
+    → leaves_in_mappings (mappings_of (drop i maps)) ≡ leaves_in_mappings (mappings_of (m ∷ [])) ++ leaves_in_mappings (mappings_of (drop (i + 1) maps))
+mappings_left maps i m below is = ap (λ (z : List (Mapping Raw)). leaves_in_mappings (mappings_of z)) (left_behind maps i m below is) ∙ mapping_first m (drop (i + 1) maps)

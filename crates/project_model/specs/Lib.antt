@@ -1,0 +1,4 @@
+pub mod Gathered
+pub mod Leaves
+pub mod Plans
+pub mod Together

@@ -1,0 +1,110 @@
+ghost use Rattle.std.specs.Prelude.{◌≡◌, Some, false, not, [], length, map, slice_get, MatchOption, IfOk, IfErr, OnOk};
+ghost use Rattle.std.specs.List.{list_any};
+ghost use Rattle.std.specs.Str.{bytes_eq};
+ghost use Rattle.fsm_base.specs.Symbols.{with_text};
+ghost use Rattle.fsm_words.specs.Words.{IsDistinct};
+ghost use Rattle.fsm_meaning.specs.Projects.{is_symbol};
+ghost use Rattle.regex_reader.specs.Files.{statement_of};
+ghost use Rattle.project_model.specs.Together.{HaveNames, IsWhyNoPlan, defined_by};
+
+use crate::plan_error::{PlanError, refused};
+use indexmap::IndexSet;
+use regex_ast::{Define, Raw, Why};
+use std::alloc::{AllocError, Global};
+use std::marker::Model;
+
+/// The most names of a project.
+const MOST_NAMES: usize = 512;
+
+/// Different names, in the order in which they came. Contracts see them as the list of their texts.
+#[derive(Drop)]
+pub struct Names {
+    texts: IndexSet<String>,
+}
+
+impl Model for Names {
+    ghost use Rattle.std.specs.Prelude.{List, ℕ, map};
+    ghost use Rattle.std.specs.String.{string_bytes};
+    ghost use Rattle.fsm_words.specs.Words.{IsDistinct};
+
+    ghost Value = { List (List ℕ) };
+
+    ghost view = { λ names. map string_bytes names.texts.keys };
+
+    ghost invariant = { λ names. IsDistinct (map string_bytes names.texts.keys) };
+}
+
+impl Names {
+    /// No names.
+    pub fn new(alloc: Global) -> Names
+        ensures { result ≡ [] }
+    {
+        Names {
+            texts: IndexSet::new(alloc),
+        }
+    }
+
+    /// The number of names.
+    pub fn len(&self) -> usize
+        ensures { result ≡ length self.now }
+    {
+        self.texts.len()
+    }
+
+    /// Puts a name behind the others where it's new, and answers whether it is.
+    pub fn add(&mut self, name: &str) -> Result<bool, AllocError>
+        ensures new { IfOk result (λ new. new ≡ not (list_any (bytes_eq name.now) self.old)) }
+        ensures names { OnOk result (self.new ≡ with_text name.now self.old) }
+        ensures distinct { OnOk result (IsDistinct self.new) }
+    {
+        if self.texts.contains(name) {
+            return Ok(false);
+        }
+        let owned = String::from_str(*self.texts.allocator(), name)?;
+        self.texts.insert_full(owned)?;
+        Ok(true)
+    }
+
+    /// Whether this is one of the names.
+    pub fn contains(&self, name: &str) -> bool
+        ensures { result ≡ list_any (bytes_eq name.now) self.now }
+    {
+        self.texts.contains(name)
+    }
+
+    /// The place of a name, counted from 0, or `None` where it's none of them.
+    pub fn place_of(&self, name: &str) -> Option<usize>
+        ensures { MatchOption result (list_any (bytes_eq name.now) self.now ≡ false) (λ place. slice_get self.now place ≡ Some name.now) }
+    {
+        self.texts.get_index_of(name)
+    }
+
+    /// Whether a leaf is a symbol where these names are defined.
+    pub fn is_symbol(&self, leaf: &Raw) -> bool
+        ensures { result ≡ is_symbol self.now leaf.now }
+    {
+        match leaf {
+            Raw::Run(text) => !text.as_str().is_empty() && !self.contains(text.as_str()),
+            Raw::Quoted(text) => !text.as_str().is_empty(),
+        }
+    }
+}
+
+/// The names of the definitions of a file, in their order. They are refused at the first definition whose name an
+/// earlier one has, or that comes behind 512.
+pub fn names_of(alloc: Global, file: &str, defines: &[Define<Raw>]) -> Result<Names, PlanError>
+    ensures names { IfOk result (λ names. names ≡ defined_by (map statement_of defines.now)) }
+    ensures formed { OnOk result (HaveNames (map statement_of defines.now)) }
+    ensures error { IfErr result (IsWhyNoPlan file.now (map statement_of defines.now)) }
+{
+    let mut names = Names::new(alloc);
+    'defines: for define in defines {
+        if !names.add(define.name.as_str())? {
+            return Err(refused(alloc, file, define.line, Why::Duplicate));
+        }
+        if names.len() > MOST_NAMES {
+            return Err(refused(alloc, file, define.line, Why::LimitNames));
+        }
+    }
+    Ok(names)
+}

@@ -1,0 +1,35 @@
+ghost use Rattle.project_model.specs.Together.{IsRefusal, fault};
+
+use fsm_base::Text;
+use regex_ast::{Fault, Why};
+use std::alloc::{AllocError, Global};
+
+/// Why there is no plan.
+#[derive(Debug, Drop)]
+pub enum PlanError {
+    /// The definitions have this first fault.
+    Refused(Fault),
+    /// There was no memory.
+    Memory(AllocError),
+}
+
+impl From<AllocError> for PlanError {
+    ghost use Rattle.std.specs.Prelude.{◌≡◌};
+    ghost use Rattle.project_model.specs.declared.plan_error.PlanError.TheVariants.{Memory};
+
+    ghost from_gives = { λ refused error. error ≡ Memory refused };
+
+    fn from(refused: AllocError) -> PlanError {
+        PlanError::Memory(refused)
+    }
+}
+
+/// That definitions are refused for this fault, or that there was no memory for its text.
+pub fn refused(alloc: Global, file: &str, line: u32, why: Why) -> PlanError
+    ensures { IsRefusal (fault file.now line why) result }
+{
+    match Text::of(alloc, file) {
+        Ok(file) => PlanError::Refused(Fault { file, line, why }),
+        Err(error) => PlanError::Memory(error),
+    }
+}

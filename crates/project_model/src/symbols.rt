@@ -1,0 +1,64 @@
+ghost use Rattle.std.specs.Prelude.{◌≡◌, ◌≤◌, ◌+◌, [], length, map, IfOk, OnOk};
+ghost use Rattle.std.specs.List.{flat_map};
+ghost use Rattle.regex_reader.specs.Files.{statement_of};
+ghost use Rattle.fsm_meaning.specs.Projects.{symbol_of, symbol_beside};
+ghost use Rattle.project_model.specs.Gathered.{gathered, symbols_of_all};
+ghost use Rattle.project_model.specs.Leaves.{seen};
+ghost use Rattle.project_model.specs.Together.{definitions_of, most_symbols};
+
+use crate::leaves::leaves;
+use crate::names::Names;
+use fsm_base::SymbolTable;
+use regex_ast::{Define, Raw};
+use std::alloc::{AllocError, Global};
+
+/// The most symbols of a project.
+pub const MOST_SYMBOLS: usize = 1024;
+
+/// The text of the symbol that a leaf stands for.
+fn symbol_text(leaf: &Raw) -> &str
+    ensures { result.now ≡ symbol_of leaf.now }
+{
+    match leaf {
+        Raw::Run(text) => text.as_str(),
+        Raw::Quoted(text) => text.as_str(),
+    }
+}
+
+/// Puts the symbol of a leaf into a table, where it's new and the table has room for it.
+fn add_symbol(leaf: &Raw, names: &Names, table: &mut SymbolTable) -> Result<(), AllocError>
+    requires { length table.old ≤ most_symbols + 1 }
+    ensures { OnOk result (table.new ≡ gathered table.old (symbol_beside names.now leaf.now)) }
+{
+    if names.is_symbol(leaf) && table.len() <= MOST_SYMBOLS {
+        table.intern(symbol_text(leaf))?;
+    }
+    Ok(())
+}
+
+/// Puts the symbols of leaves into a table, each where it's new and the table has room for it.
+fn add_symbols(leaves: &[&Raw], names: &Names, table: &mut SymbolTable) -> Result<(), AllocError>
+    requires { length table.old ≤ most_symbols + 1 }
+    ensures { OnOk result (table.new ≡ gathered table.old (flat_map (symbol_beside names.now) (seen leaves.now))) }
+{
+    'leaves: for leaf in leaves {
+        add_symbol(leaf, names, table)?;
+    }
+    Ok(())
+}
+
+/// The symbols that stand in definitions where these names are defined, in the order of their first places. Where
+/// they are more than a project may have, it's one more than that.
+pub fn symbols_of(
+    alloc: Global,
+    names: &Names,
+    defines: &[Define<Raw>],
+) -> Result<SymbolTable, AllocError>
+    ensures { IfOk result (λ table. table ≡ gathered [] (symbols_of_all names.now (definitions_of (map statement_of defines.now)))) }
+{
+    let mut table = SymbolTable::new(alloc);
+    'defines: for define in defines {
+        add_symbols(&leaves(alloc, &define.expr)?, names, &mut table)?;
+    }
+    Ok(table)
+}

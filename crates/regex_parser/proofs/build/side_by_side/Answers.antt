@@ -1,0 +1,5 @@
+use Rattle.regex_parser.proofs.Terms.{term-side_by_side, not_none}
+use Rattle.regex_parser.proofs.build.side_by_side.Goals as goal
+
+pub returns : goal.returns
+returns c = term-side_by_side c.args.first c.args.more.items c.insert.new.self c.in_ok-insert.ensures.items (not_none c.args.more c.if-is_empty.ensures)

@@ -1,0 +1,5 @@
+use Rattle.regex_parser.proofs.Terms.{term-with_links, not_none}
+use Rattle.regex_parser.proofs.build.with_links.Goals as goal
+
+pub returns : goal.returns
+returns c = term-with_links c.in_ok-new.field-0 c.args.first c.args.links c.in_ok-new.ensures.ok (not_none c.args.links c.if-is_empty.ensures)

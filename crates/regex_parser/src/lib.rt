@@ -1,0 +1,13 @@
+//! The reader of xfst expressions (Beesley and Karttunen, Finite State Morphology, 2003, chapters 2 and 3), from their
+//! tokens to their trees.
+//!
+//! - [`read_tokens`]: the expression that tokens are.
+#![tactic(auto)]
+
+mod build;
+mod front;
+mod leaf;
+mod parser;
+mod whole;
+
+pub use whole::read_tokens;

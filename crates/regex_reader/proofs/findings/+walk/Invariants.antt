@@ -1,0 +1,25 @@
+use Rattle.std.proofs.Common.{◌≡◌, map, drop}
+use Rattle.regex_ast.specs.Terms.{term, terms_of, links_of, contexts_of, steps_by, mappings_of, groups_of}
+use Rattle.regex_reader.specs.Found.{found_in, either}
+use Rattle.regex_reader.specs.Tests.{each_of, each_link, each_context, each_step, each_mapping, each_group}
+use Rattle.regex_reader.proofs.findings.+walk.Given as goal
+
+-- what was found with what is in the other items
+
+abbrev pub invariant-in_contexts-contexts : goal.invariant-in_contexts-contexts
+invariant-in_contexts-contexts l = either l.found (found_in (each_context (contexts_of (drop l.context-index l.contexts)))) ≡ found_in (each_context (contexts_of l.contexts))
+
+abbrev pub invariant-in_each-operands : goal.invariant-in_each-operands
+invariant-in_each-operands l = either l.found (found_in (each_of l.inside (terms_of (map term (drop l.operand-index l.operands))))) ≡ found_in (each_of l.inside (terms_of (map term l.operands)))
+
+abbrev pub invariant-in_groups-groups : goal.invariant-in_groups-groups
+invariant-in_groups-groups l = either l.found (found_in (each_group l.inside (groups_of (drop l.group-index l.groups)))) ≡ found_in (each_group l.inside (groups_of l.groups))
+
+abbrev pub invariant-in_links-links : goal.invariant-in_links-links
+invariant-in_links-links l = either l.found (found_in (each_link l.inside (links_of (drop l.link-index l.links)))) ≡ found_in (each_link l.inside (links_of l.links))
+
+abbrev pub invariant-in_mappings-mappings : goal.invariant-in_mappings-mappings
+invariant-in_mappings-mappings l = either l.found (found_in (each_mapping l.inside (mappings_of (drop l.mapping-index l.mappings)))) ≡ found_in (each_mapping l.inside (mappings_of l.mappings))
+
+abbrev pub invariant-in_steps-steps : goal.invariant-in_steps-steps
+invariant-in_steps-steps l = either l.found (found_in (each_step l.inside (steps_by (drop l.step-index l.steps)))) ≡ found_in (each_step l.inside (steps_by l.steps))

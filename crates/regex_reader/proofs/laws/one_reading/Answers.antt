@@ -1,0 +1,5 @@
+use Rattle.regex_reader.proofs.Once.{one_reading}
+use Rattle.regex_reader.proofs.laws.one_reading.Goals as goal
+
+pub returns : goal.returns
+returns c = one_reading
