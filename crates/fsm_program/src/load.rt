@@ -54,11 +54,7 @@ fn no_text(alloc: Global, name: &str, error: TextError) -> LoadError
 }
 
 /// The plan of the definitions of a file of this name.
-fn plan_of_defines(
-    alloc: Global,
-    name: &str,
-    defines: Vec<Define<Raw>>,
-) -> Result<Plan, LoadError>
+fn plan_of_defines(alloc: Global, name: &str, defines: Vec<Define<Raw>>) -> Result<Plan, LoadError>
     ensures { IsAnswer (SayTogether name.now (map statement_of defines.items)) result }
 {
     match plan_of(alloc, name, defines) {

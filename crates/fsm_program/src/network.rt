@@ -36,12 +36,7 @@ impl Model for Network {
 }
 
 /// The network of the definition of a name.
-fn net_of(
-    alloc: Global,
-    plan: &Plan,
-    name: &str,
-    define: &Define<Raw>,
-) -> Result<Net, AllocError>
+fn net_of(alloc: Global, plan: &Plan, name: &str, define: &Define<Raw>) -> Result<Net, AllocError>
     requires { IsFound (project_in plan.now) name.now define.now }
     ensures { IfOk result (λ net. ShowsName plan.now.alphabet name.now net (project_in plan.now)) }
 {

@@ -85,7 +85,12 @@ fn answer_of(
 }
 
 /// What these words write for the lines of the input in a project of this source, where nothing fails.
-fn said(alloc: Global, words: &str, text: &[u8], input: &[u8]) -> Result<(u8, Vec<u8>), AllocError> {
+fn said(
+    alloc: Global,
+    words: &str,
+    text: &[u8],
+    input: &[u8],
+) -> Result<(u8, Vec<u8>), AllocError> {
     answer_of(alloc, words, &[MANIFEST, ("r.xfst", text)], input, WELL)
 }
 
@@ -109,26 +114,101 @@ fn words_that_are_looked_up(rt: HostRuntime) -> Result<(), Fail> {
         rt.alloc(),
         &[
             ("up d N", CAT, b"cat\n", b"1 1 cat\ncat+N\n"),
-            ("up d N", CAT, b"cat\ndog\n", b"1 1 cat\ncat+N\n1 symbol 1 dog\n"),
+            (
+                "up d N",
+                CAT,
+                b"cat\ndog\n",
+                b"1 1 cat\ncat+N\n1 symbol 1 dog\n",
+            ),
             ("up d N", CAT, b"cat", b"1 1 cat\ncat+N\n"),
             ("up d N", CAT, b"", b""),
-            ("down d N", CAT, b"cat+N\ncat\n", b"1 1 cat+N\ncat\n1 0 cat\n"),
-            ("up d N", b"define N a:b c ;", b"bc\nac\n", b"1 1 bc\nac\n1 0 ac\n"),
-            ("up d N", b"define N a:0 b ;", b"b\nab\n\n", b"1 1 b\nab\n1 0 ab\n1 0 \n"),
-            ("up d N", b"define N {ab}:\"+X\" ;", b"+X\nab\n", b"1 1 +X\nab\n1 0 ab\n"),
-            ("up d N", b"define N ab a ;", b"aba\naab\n", b"1 1 aba\naba\n1 0 aab\n"),
-            ("up d N", b"define N 0 ;", b"\na\n", b"1 1 \n\n1 symbol 1 a\n"),
+            (
+                "down d N",
+                CAT,
+                b"cat+N\ncat\n",
+                b"1 1 cat+N\ncat\n1 0 cat\n",
+            ),
+            (
+                "up d N",
+                b"define N a:b c ;",
+                b"bc\nac\n",
+                b"1 1 bc\nac\n1 0 ac\n",
+            ),
+            (
+                "up d N",
+                b"define N a:0 b ;",
+                b"b\nab\n\n",
+                b"1 1 b\nab\n1 0 ab\n1 0 \n",
+            ),
+            (
+                "up d N",
+                b"define N {ab}:\"+X\" ;",
+                b"+X\nab\n",
+                b"1 1 +X\nab\n1 0 ab\n",
+            ),
+            (
+                "up d N",
+                b"define N ab a ;",
+                b"aba\naab\n",
+                b"1 1 aba\naba\n1 0 aab\n",
+            ),
+            (
+                "up d N",
+                b"define N 0 ;",
+                b"\na\n",
+                b"1 1 \n\n1 symbol 1 a\n",
+            ),
             ("up d N", b"define N (a) ;", b"\naa\n", b"1 1 \n\n1 0 aa\n"),
-            ("up d N", b"define N [a:b | c:b | a:b] ;", b"b\n", b"1 2 b\na\nc\n"),
-            ("up d N", b"define N [a:0]* c:d | b ;", b"b\n", b"1 1 b\nb\n"),
-            ("up d N", b"define N a:x b:0 | ab:x ;", b"x\n", b"1 1 x\nab\n"),
-            ("up d N", b"define N a [0:b]* ;", b"abb\na\n", b"1 1 abb\na\n1 1 a\na\n"),
-            ("up d N", b"define N a^0 b ;", b"b\nab\n", b"1 1 b\nb\n1 0 ab\n"),
+            (
+                "up d N",
+                b"define N [a:b | c:b | a:b] ;",
+                b"b\n",
+                b"1 2 b\na\nc\n",
+            ),
+            (
+                "up d N",
+                b"define N [a:0]* c:d | b ;",
+                b"b\n",
+                b"1 1 b\nb\n",
+            ),
+            (
+                "up d N",
+                b"define N a:x b:0 | ab:x ;",
+                b"x\n",
+                b"1 1 x\nab\n",
+            ),
+            (
+                "up d N",
+                b"define N a [0:b]* ;",
+                b"abb\na\n",
+                b"1 1 abb\na\n1 1 a\na\n",
+            ),
+            (
+                "up d N",
+                b"define N a^0 b ;",
+                b"b\nab\n",
+                b"1 1 b\nb\n1 0 ab\n",
+            ),
             ("up d N", b"define N a+ ;", b"aa\n\n", b"1 1 aa\naa\n1 0 \n"),
             ("up d N", b"define N a*^2 ;", b"\n", b"1 1 \n\n"),
-            ("up d N", b"define N b | a c* ;", b"acc\nbc\n", b"1 1 acc\nacc\n1 0 bc\n"),
-            ("down d N", b"define N [a:0]* b ;", b"aab\n", b"1 1 aab\nb\n"),
-            ("down d N", b"define N a:b | a:c ;", b"a\nb\n", b"1 2 a\nb\nc\n1 0 b\n"),
+            (
+                "up d N",
+                b"define N b | a c* ;",
+                b"acc\nbc\n",
+                b"1 1 acc\nacc\n1 0 bc\n",
+            ),
+            (
+                "down d N",
+                b"define N [a:0]* b ;",
+                b"aab\n",
+                b"1 1 aab\nb\n",
+            ),
+            (
+                "down d N",
+                b"define N a:b | a:c ;",
+                b"a\nb\n",
+                b"1 2 a\nb\nc\n1 0 b\n",
+            ),
         ],
     )?;
     assert_eq!(rt; wrong, None);
@@ -141,17 +221,62 @@ fn symbols_of_sources_and_lines(rt: HostRuntime) -> Result<(), Fail> {
     let wrong = first_wrong(
         rt.alloc(),
         &[
-            ("up d A", b"define A cat ; define B {cat} ;", b"cat\n", b"1 1 cat\ncat\n"),
-            ("up d B", b"define A cat ; define B {cat} ;", b"cat\n", b"1 0 cat\n"),
-            ("up d A", b"define A e\xcc\x81 ;", b"\xc3\xa9\ne\xcc\x81\n", b"1 1 \xc3\xa9\n\xc3\xa9\n1 1 \xc3\xa9\n\xc3\xa9\n"),
-            ("up d e\u{301}", b"define \xc3\xa9 a ;", b"a\n", b"1 1 a\na\n"),
-            ("up d e\u{301}", b"define A a ;", b"a\n", b"1 net \xc3\xa9\n"),
-            ("up d A", b"\xef\xbb\xbfdefine A a ;\r\n", b"a\r\n", b"1 1 a\na\n"),
+            (
+                "up d A",
+                b"define A cat ; define B {cat} ;",
+                b"cat\n",
+                b"1 1 cat\ncat\n",
+            ),
+            (
+                "up d B",
+                b"define A cat ; define B {cat} ;",
+                b"cat\n",
+                b"1 0 cat\n",
+            ),
+            (
+                "up d A",
+                b"define A e\xcc\x81 ;",
+                b"\xc3\xa9\ne\xcc\x81\n",
+                b"1 1 \xc3\xa9\n\xc3\xa9\n1 1 \xc3\xa9\n\xc3\xa9\n",
+            ),
+            (
+                "up d e\u{301}",
+                b"define \xc3\xa9 a ;",
+                b"a\n",
+                b"1 1 a\na\n",
+            ),
+            (
+                "up d e\u{301}",
+                b"define A a ;",
+                b"a\n",
+                b"1 net \xc3\xa9\n",
+            ),
+            (
+                "up d A",
+                b"\xef\xbb\xbfdefine A a ;\r\n",
+                b"a\r\n",
+                b"1 1 a\na\n",
+            ),
             ("down d A", b"define A a %+N:0 ;", b"a+N\n", b"1 1 a+N\na\n"),
-            ("up d A", b"define A %0 | \"a b\" | {%!} ;", b"0\na b\n!\n", b"1 1 0\n0\n1 1 a b\na b\n1 1 !\n!\n"),
+            (
+                "up d A",
+                b"define A %0 | \"a b\" | {%!} ;",
+                b"0\na b\n!\n",
+                b"1 1 0\n0\n1 1 a b\na b\n1 1 !\n!\n",
+            ),
             ("up d N", CAT, b"cat\r", b"1 1 cat\ncat+N\n"),
-            ("up d N", CAT, b"cat\r\r\nca t\n", b"1 symbol 4 cat\r\n1 symbol 3 ca t\n"),
-            ("up d N", CAT, b"\n\r\n\xff\nc\x7f\n", b"1 0 \n1 0 \n1 line\n1 symbol 2 c\x7f\n"),
+            (
+                "up d N",
+                CAT,
+                b"cat\r\r\nca t\n",
+                b"1 symbol 4 cat\r\n1 symbol 3 ca t\n",
+            ),
+            (
+                "up d N",
+                CAT,
+                b"\n\r\n\xff\nc\x7f\n",
+                b"1 0 \n1 0 \n1 line\n1 symbol 2 c\x7f\n",
+            ),
             ("up d M", CAT, b"cat\n\xff\n", b"1 net M\n1 line\n"),
         ],
     )?;
@@ -166,7 +291,12 @@ fn projects_that_are_checked(rt: HostRuntime) -> Result<(), Fail> {
         &[
             ("check d", b"", b"cat\n", b"ok 1 rebuilt\n"),
             ("check d", CAT, b"", b"ok 1 rebuilt N\n"),
-            ("check d", b"define b 0 ; define B 0 ; define a 0 ;", b"", b"ok 1 rebuilt B a b\n"),
+            (
+                "check d",
+                b"define b 0 ; define B 0 ; define a 0 ;",
+                b"",
+                b"ok 1 rebuilt B a b\n",
+            ),
         ],
     )?;
     assert_eq!(rt; wrong, None);
@@ -177,22 +307,52 @@ fn projects_that_are_checked(rt: HostRuntime) -> Result<(), Fail> {
 fn projects_that_are_refused(rt: HostRuntime) -> Result<(), Fail> {
     let alloc = rt.alloc();
     let rows: [(&[u8], &[u8]); 22] = [
-        (b"define A a ;\ndefine B\nb c", b"refused r.xfst 2 statement\n"),
+        (
+            b"define A a ;\ndefine B\nb c",
+            b"refused r.xfst 2 statement\n",
+        ),
         (b"define A a ;\ndefine B <", b"refused r.xfst 2 token\n"),
-        (b"define A a ;\ndefine A a ;", b"refused r.xfst 2 duplicate\n"),
-        (b"define A a ;\ndefine\nA b ;\ndefine A c ;", b"refused r.xfst 2 duplicate\n"),
-        (b"define A ? ;\ndefine A a ;", b"refused r.xfst 2 duplicate\n"),
-        (b"define A ? ;\ndefine B \xff ;", b"refused r.xfst 2 not-utf8\n"),
+        (
+            b"define A a ;\ndefine A a ;",
+            b"refused r.xfst 2 duplicate\n",
+        ),
+        (
+            b"define A a ;\ndefine\nA b ;\ndefine A c ;",
+            b"refused r.xfst 2 duplicate\n",
+        ),
+        (
+            b"define A ? ;\ndefine A a ;",
+            b"refused r.xfst 2 duplicate\n",
+        ),
+        (
+            b"define A ? ;\ndefine B \xff ;",
+            b"refused r.xfst 2 not-utf8\n",
+        ),
         (b"define A \x01 ;\n\xff", b"refused r.xfst 2 not-utf8\n"),
-        (b"define A < ;\ndefine B\r\r\n", b"refused r.xfst 2 control\n"),
+        (
+            b"define A < ;\ndefine B\r\r\n",
+            b"refused r.xfst 2 control\n",
+        ),
         (b"define A a", b"refused r.xfst 1 statement\n"),
         (b"define A\n;\n<", b"refused r.xfst 1 statement\n"),
         (b"foo bar\n< ;", b"refused r.xfst 2 token\n"),
         (b"define A a^256 ;", b"refused r.xfst 1 limit-power\n"),
-        (b"define A \n0 => _ , .#. _ .#. .#. | .#. ;", b"refused r.xfst 1 not-built\n"),
-        (b"define A a ;\ndefine B .#. ;", b"refused r.xfst 2 statement\n"),
-        (b"define A a ;\ndefine B ? ;", b"refused r.xfst 2 not-built\n"),
-        (b"define A a ;\ndefine B A ;", b"refused r.xfst 2 not-built\n"),
+        (
+            b"define A \n0 => _ , .#. _ .#. .#. | .#. ;",
+            b"refused r.xfst 1 not-built\n",
+        ),
+        (
+            b"define A a ;\ndefine B .#. ;",
+            b"refused r.xfst 2 statement\n",
+        ),
+        (
+            b"define A a ;\ndefine B ? ;",
+            b"refused r.xfst 2 not-built\n",
+        ),
+        (
+            b"define A a ;\ndefine B A ;",
+            b"refused r.xfst 2 not-built\n",
+        ),
         (b"define A a -> b ;", b"refused r.xfst 1 not-built\n"),
         (b"define A [a|b] & b ;", b"refused r.xfst 1 not-built\n"),
         (b"define A a .o. b ;", b"refused r.xfst 1 not-built\n"),
@@ -224,7 +384,12 @@ fn manifests_that_are_refused(rt: HostRuntime) -> Result<(), Fail> {
         ("project", b"xfst a/b\n", "a/b", not_built),
         ("project", b"xfst project\n", "r.xfst", not_built),
         ("project", b"xfst r.xfst\xff\n", "r.xfst", not_built),
-        ("project", b"xfst r.xfst\n", "s", b"refused project 1 no-file\n"),
+        (
+            "project",
+            b"xfst r.xfst\n",
+            "s",
+            b"refused project 1 no-file\n",
+        ),
     ];
     for (name, bytes, other, wanted) in rows {
         let files: [(&str, &[u8]); 2] = [(name, bytes), (other, CAT)];
@@ -333,7 +498,11 @@ fn sizes_of_files(rt: HostRuntime) -> Result<(), Fail> {
     let alloc = rt.alloc();
     let name = "n0123456789-0123456789_0123456789.0123456789ABCDEFGHIJKLMNOPQRST";
     for (extra, large, long) in [
-        (0usize, b"ok 1 rebuilt N\n".as_slice(), b"ok 1 rebuilt N\n".as_slice()),
+        (
+            0usize,
+            b"ok 1 rebuilt N\n".as_slice(),
+            b"ok 1 rebuilt N\n".as_slice(),
+        ),
         (
             1,
             b"refused r.xfst 0 limit-file\n".as_slice(),
@@ -394,7 +563,16 @@ fn streams_that_fail(rt: HostRuntime) -> Result<(), Fail> {
         ("up d N", 2, 0, 1, 0, three, 3, b""),
         ("up d N", 2, 0, 2, 0, three, 3, b"1 1 cat\ncat+N\n"),
         ("up d N", 2, 0, 3, 0, three, 3, b"1 1 cat\ncat+N\n1 0 c\n"),
-        ("up d N", 2, 0, 4, 0, three, 3, b"1 1 cat\ncat+N\n1 0 c\n1 0 at\n"),
+        (
+            "up d N",
+            2,
+            0,
+            4,
+            0,
+            three,
+            3,
+            b"1 1 cat\ncat+N\n1 0 c\n1 0 at\n",
+        ),
         ("up d N", 2, 0, 3, 0, b"cat\nca", 3, b"1 1 cat\ncat+N\n"),
         ("check d", 2, 0, 1, 0, three, 0, b"ok 1 rebuilt N\n"),
         ("up d N", 2, 0, 0, 1, b"cat\n", 4, b""),

@@ -1,7 +1,6 @@
 -- Symbols that are gathered in a table as far as there may be: in two steps, and at the limit.
-use Rattle.std.proofs.Common.{◌≡◌, ℕ, ◌+◌, ◌<◌, ◌≤◌, Bool, true, false, cond, not, ◌&&◌, nat_lt, List, [], ◌∷◌, ◌++◌, take, drop, map, length, refl, sym, ap, subst, ◌∙◌, inl, inr, arith, zero, suc, append_assoc, append-nil, length-append}
+use Rattle.std.proofs.Common.{◌≡◌, ℕ, ◌+◌, ◌<◌, ◌≤◌, Bool, true, false, cond, List, [], ◌∷◌, ◌++◌, take, length, refl, sym, ap, ◌∙◌, inl, inr, arith, append_assoc, append-nil, length-append}
 use Rattle.std.proofs.lemmas.Bool.{cases_lt}
-use Rattle.std.proofs.lemmas.Bool.Decides.{nat_tests}
 use Rattle.std.proofs.lemmas.Grind.{flat_map-append}
 use Rattle.std.proofs.lemmas.List.{take_all, take-append-le, length-take}
 use Rattle.std.specs.List.{flat_map, list_any}
@@ -9,7 +8,7 @@ use Rattle.std.specs.Str.{bytes_eq}
 use Rattle.regex_ast.specs.declared.expr.Raw.{Raw}
 use Rattle.regex_ast.specs.Terms.{Term, Terms, Links, Contexts, Steps, Mappings, Groups, empty, any, edge, atom, letters, group, maybe, not_one, cross, suffixed, prefixed, ignore, concat, chain, only, rules, steps, no_term, then_term, no_link, or, and, less, no_context, between, no_step, cross_with, then, no_mapping, plain, markup, insert, no_group, then_group}
 use Rattle.fsm_base.specs.Symbols.{with_text}
-use Rattle.fsm_meaning.specs.Projects.{listed, listed_each, listed_links, listed_contexts, listed_steps, listed_mappings, listed_groups, is_symbol, names_one_of, symbol_of, symbol_beside, symbols_beside, leaves_in, with_texts}
+use Rattle.fsm_meaning.specs.Projects.{listed, listed_each, listed_links, listed_contexts, listed_steps, listed_mappings, listed_groups, is_symbol, symbol_of, symbol_beside, with_texts}
 use Rattle.project_model.specs.Gathered.{gathered}
 use Rattle.project_model.specs.Together.{most_symbols}
 

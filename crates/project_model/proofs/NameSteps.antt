@@ -1,5 +1,5 @@
 -- A loop over definitions that gathers their names: a definition more, and where it ends with a fault.
-use Rattle.std.proofs.Common.{◌≡◌, ℕ, ◌+◌, ◌<◌, ◌≤◌, Bool, true, false, not, List, [], ◌∷◌, ◌++◌, map, take, drop, length, get_or, Ok, Err, refl, sym, ap, subst, ◌∙◌, arith, length-append}
+use Rattle.std.proofs.Common.{◌≡◌, ℕ, ◌+◌, ◌<◌, ◌≤◌, Bool, true, false, not, List, [], ◌∷◌, ◌++◌, map, take, drop, length, get_or, Err, refl, sym, ap, subst, ◌∙◌, arith}
 use Rattle.std.proofs.lemmas.List.{take_more, map-append, take-append-drop, length-map, length-take}
 use Rattle.std.specs.List.{Contains, list_any}
 use Rattle.std.specs.Str.{bytes_eq}
@@ -10,7 +10,7 @@ use Rattle.regex_ast.specs.declared.fault.Fault.{Fault}
 use Rattle.regex_ast.specs.declared.fault.Why.TheVariants as why
 use Rattle.regex_reader.specs.Files.{Statement, statement_of}
 use Rattle.fsm_meaning.specs.Projects.{Definition, names_of}
-use Rattle.project_model.specs.Together.{HaveNames, IsRefusal, IsWhyNoPlan, NameFault, again, too_many, SayTogether, names, defined_by, definitions_of, definition_of, fault, most_names}
+use Rattle.project_model.specs.Together.{HaveNames, IsRefusal, IsWhyNoPlan, again, too_many, SayTogether, names, defined_by, definitions_of, definition_of, fault, most_names}
 use Rattle.project_model.specs.declared.plan_error.PlanError.{PlanError}
 use Rattle.project_model.specs.declared.plan_error.PlanError.TheVariants.{Refused, Memory}
 use Rattle.project_model.proofs.Behind.{left_behind}

@@ -1,5 +1,5 @@
 -- The leaves of the items of a list, item by item.
-use Rattle.std.proofs.Common.{◌≡◌, ◌+◌, ◌<◌, ℕ, List, [], ◌∷◌, ◌++◌, map, length, drop, get_or, refl, sym, ap, ◌∙◌, append_assoc, append-nil}
+use Rattle.std.proofs.Common.{◌≡◌, ◌+◌, ◌<◌, ℕ, List, [], ◌∷◌, ◌++◌, map, length, drop, get_or, refl, ap, ◌∙◌, append_assoc, append-nil}
 use Rattle.regex_ast.specs.Terms.{Term, term, terms_of, links_of, contexts_of, steps_by, mappings_of, groups_of, maps_of, contexts_in}
 use Rattle.regex_ast.specs.declared.expr.Raw.{Raw}
 use Rattle.regex_ast.specs.declared.expr.Expr.{Expr}

@@ -1,5 +1,5 @@
 -- Why a plan is one of the project that its definitions say together, and what is found in it.
-use Rattle.std.proofs.Common.{◌≡◌, ◌↔◌, ℕ, ◌+◌, ◌<◌, ◌≤◌, Bool, true, false, cond, IsTrue, ◌&&◌, List, [], ◌∷◌, ◌++◌, map, take, length, get_or, Option, Some, None, MatchOption, refl, sym, ap, subst, ◌∙◌, arith, All, Contains, slice_get, append-nil}
+use Rattle.std.proofs.Common.{◌≡◌, ℕ, ◌+◌, ◌<◌, ◌≤◌, Bool, true, false, cond, ◌&&◌, List, [], ◌∷◌, ◌++◌, map, take, length, get_or, Some, refl, sym, ap, subst, ◌∙◌, arith, All, Contains, slice_get}
 use Rattle.std.proofs.lemmas.List.{take_all, length-take, length-map}
 use Rattle.std.proofs.lemmas.List.Elements.{All-nil, All-cons, All-head, All-tail, Contains-append_left}
 use Rattle.std.proofs.lemmas.List.Sorted.{Contains-permutation, IsPermutation-sym}
@@ -20,14 +20,14 @@ use Rattle.regex_ast.specs.declared.expr.Raw.{Raw}
 use Rattle.regex_ast.specs.declared.expr.Define.{Define}
 use Rattle.regex_ast.specs.Terms.{Term, term}
 use Rattle.regex_reader.specs.Files.{Statement, statement_of}
-use Rattle.fsm_meaning.specs.Built.{IsBuilt, IsCompiled}
+use Rattle.fsm_meaning.specs.Built.{IsCompiled}
 use Rattle.fsm_meaning.specs.Projects.{Project, Definition, Defines, names_of, alphabet_of, is_symbol, leaves_in, symbol_alone, symbol_beside, symbols_beside, symbols_in, symbol_of, with_texts}
 use Rattle.project_model.specs.Gathered.{gathered, symbols_of_all}
 use Rattle.project_model.specs.Plans.{PlanView, IsPlan, IsCompiledOver, IsFound, AreNames, defined, numbered, project_in}
 use Rattle.project_model.specs.Together.{IsCompiledIn, defined_by, definitions_of, most_symbols}
 use Rattle.project_model.proofs.Gathering.{listed_is, with_texts_behind}
 use Rattle.project_model.proofs.Ordered.{in_order_from_sorted}
-use Rattle.project_model.proofs.Texts.{has_from_any, not_had, text_with}
+use Rattle.project_model.proofs.Texts.{not_had, text_with}
 
 -- the definitions of trees are those of their statements
 pub defined_are : (xs : List (Define Raw)) → map defined xs ≡ definitions_of (map statement_of xs)
@@ -106,7 +106,7 @@ planned xs table alphabet table_is alphabet_is texts_are formed distinct compile
   in_turn = alphabet_is ∙ ap numbered (sym texts_are);
   distinct = subst (λ ds. IsDistinct (names_of ds)) (sym (defined_are xs)) distinct;
   compiled = subst (λ (t : List (List ℕ)). All (IsCompiledOver t) (map defined xs)) (sym (texts_are ∙ table_is))
-    (over (defined_by (map statement_of xs)) (alphabet_of (definitions_of (map statement_of xs))) xs compiled (put (symbols_of_all (defined_by (map statement_of xs)) (definitions_of (map statement_of xs))) []));
+      (over (defined_by (map statement_of xs)) (alphabet_of (definitions_of (map statement_of xs))) xs compiled (put (symbols_of_all (defined_by (map statement_of xs)) (definitions_of (map statement_of xs))) []));
 }
 
 pub same_project : (alphabet other : List (List ℕ)) (definitions others : List Definition) → alphabet ≡ other → definitions ≡ others → ◌≡◌ {A = Project} (record { alphabet = alphabet; definitions = definitions }) (record { alphabet = other; definitions = others })

@@ -1,5 +1,5 @@
 -- What the definitions of a file say together: a project, or its first fault.
-use Rattle.std.specs.Prelude.{◌≡◌, ◌<◌, ◌≤◌, ◌++◌, ⊤, ℕ, List, [], ◌∷◌, length, map, All, Contains, Result, Ok, Err, codes}
+use Rattle.std.specs.Prelude.{◌≡◌, ◌<◌, ◌≤◌, ◌++◌, ⊤, ℕ, List, ◌∷◌, length, map, All, Contains, Result, Ok, Err, codes}
 use Rattle.fsm_words.specs.Words.{IsDistinct}
 use Rattle.regex_ast.specs.declared.fault.Fault.{Fault}
 use Rattle.regex_ast.specs.declared.fault.Why.{Why}

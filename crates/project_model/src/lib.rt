@@ -10,7 +10,6 @@ mod names;
 mod plan;
 mod plan_error;
 mod symbols;
-
 #[cfg(test)]
 mod tests;
 

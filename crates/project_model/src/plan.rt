@@ -105,11 +105,7 @@ fn alphabet_of(alloc: Global, table: &SymbolTable) -> Result<Alphabet, AllocErro
 /// The plan of the definitions of a file of this name, in their order. They are refused for their first fault:
 /// a name that stands twice or names that are too many, symbols that are too many, or a definition that can't be
 /// compiled yet.
-pub fn plan_of(
-    alloc: Global,
-    file: &str,
-    defines: Vec<Define<Raw>>,
-) -> Result<Plan, PlanError>
+pub fn plan_of(alloc: Global, file: &str, defines: Vec<Define<Raw>>) -> Result<Plan, PlanError>
     ensures { IsPlanned file.now (map statement_of defines.items) result }
 {
     let names = names_of(alloc, file, &defines)?;

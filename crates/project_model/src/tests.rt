@@ -38,12 +38,7 @@ fn expr(alloc: Global, form: Form<'_>) -> Result<Expr<Raw>, AllocError> {
     }
 }
 
-fn define(
-    alloc: Global,
-    name: &str,
-    line: u32,
-    form: Form<'_>,
-) -> Result<Define<Raw>, AllocError> {
+fn define(alloc: Global, name: &str, line: u32, form: Form<'_>) -> Result<Define<Raw>, AllocError> {
     Ok(Define {
         name: Text::of(alloc, name)?,
         line,

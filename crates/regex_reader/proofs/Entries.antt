@@ -1,5 +1,5 @@
 -- What tokens say as one expression of an entry.
-use Rattle.std.proofs.Common.{◌≡◌, ℕ, Bool, true, false, List, Some, Result, Ok, Err, refl, sym, ap, subst, ◌∙◌}
+use Rattle.std.proofs.Common.{◌≡◌, ℕ, Bool, true, false, List, Ok, Err, sym, ap, subst, ◌∙◌}
 use Rattle.std.specs.List.{list_any}
 use Rattle.regex_ast.specs.Terms.{Term, term}
 use Rattle.regex_ast.specs.declared.expr.Expr.{Expr}
@@ -8,13 +8,12 @@ use Rattle.regex_ast.specs.declared.fault.ReadError.{ReadError}
 use Rattle.regex_ast.specs.declared.fault.ReadError.TheVariants.{Fault, Memory}
 use Rattle.regex_ast.specs.declared.fault.Why.{Why}
 use Rattle.regex_ast.specs.declared.fault.Why.TheVariants as why
-use Rattle.regex_grammar.specs.Whole.{IsReading}
 use Rattle.regex_tokens.specs.declared.token.Ending.TheVariants.{Whole}
 use Rattle.regex_tokens.specs.declared.token.Token.{Token}
 use Rattle.regex_reader.specs.declared.findings.Findings.{Findings}
 use Rattle.regex_reader.specs.Files.{ExpressionSays, deep, unread, power, fine, IsEntry, is_too_deep, is_ruling}
 use Rattle.regex_reader.specs.Found.{found_in}
-use Rattle.regex_reader.specs.Tests.{nodes, is_misplaced, has_high_power}
+use Rattle.regex_reader.specs.Tests.{nodes, has_high_power}
 use Rattle.regex_reader.specs.Verdicts.{IsChecked, IsEntryAnswer}
 
 true_false : true ≡ false → ⊥

@@ -1,5 +1,5 @@
 -- Statements by their tokens.
-use Rattle.std.proofs.Common.{◌≡◌, ◌≤◌, ◌<◌, ◌+◌, ℕ, zero, suc, Bool, true, false, ◌&&◌, not, List, [], ◌∷◌, ◌++◌, length, map, take, drop, get_or, refl, sym, ap, subst, ◌∙◌, arith, length-append}
+use Rattle.std.proofs.Common.{◌≡◌, ◌≤◌, ◌+◌, ℕ, zero, suc, Bool, true, false, ◌&&◌, not, List, [], ◌∷◌, ◌++◌, length, take, get_or, refl, sym, ap, subst, ◌∙◌, arith, length-append}
 use Rattle.std.specs.Prelude.{codes}
 use Rattle.std.specs.Str.{bytes_eq}
 use Rattle.std.proofs.lemmas.Slice.Eq.{bytes_eq-Decides}
@@ -10,7 +10,7 @@ use Rattle.regex_tokens.specs.declared.token.Token.{Token}
 use Rattle.regex_tokens.specs.declared.token.Token.TheVariants.{Operator as operator, Run as run}
 use Rattle.regex_reader.specs.Files.{Placed, IsForm, tokens_of, places_of, plain_run, is_name, is_round, is_joined_round}
 use Rattle.regex_reader.specs.Verdicts.{placed, fits}
-use Rattle.regex_reader.proofs.Placed.{tokens_placed, places_placed, placed_split}
+use Rattle.regex_reader.proofs.Placed.{tokens_placed, places_placed}
 
 tokens_append : (p : List Placed) (last : Placed) → tokens_of (p ++ last ∷ []) ≡ tokens_of p ++ last.token ∷ []
 tokens_append [] last = refl

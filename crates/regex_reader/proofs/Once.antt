@@ -1,5 +1,5 @@
 -- A text says one thing only.
-use Rattle.std.proofs.Common.{◌≡◌, ◌≢◌, ℕ, Bool, true, false, ◌||◌, List, [], ◌∷◌, ◌++◌, Some, Result, Ok, Err, refl, sym, ap, subst, ◌∙◌}
+use Rattle.std.proofs.Common.{◌≡◌, ℕ, Bool, true, false, ◌||◌, List, [], ◌∷◌, ◌++◌, Result, Ok, Err, refl, sym, ap, subst, ◌∙◌}
 use Rattle.std.specs.List.{list_any}
 use Rattle.regex_ast.specs.Terms.{Term}
 use Rattle.regex_ast.specs.declared.expr.Raw.{Raw}
@@ -8,11 +8,10 @@ use Rattle.regex_ast.specs.declared.fault.Why.TheVariants as why
 use Rattle.regex_tokens.specs.declared.token.Ending.{Ending}
 use Rattle.regex_tokens.specs.declared.token.Ending.TheVariants.{Whole, NoToken}
 use Rattle.regex_tokens.specs.declared.token.Operator.TheVariants.{Semicolon}
-use Rattle.regex_tokens.specs.declared.token.Place.{Place}
 use Rattle.regex_tokens.specs.declared.token.Token.{Token}
 use Rattle.regex_tokens.specs.declared.token.Token.TheVariants.{Operator as operator}
 use Rattle.regex_tokens.proofs.Texts.{cuts_once}
-use Rattle.regex_reader.specs.Files.{Placed, Statement, FaultAt, Verdict, deep, unread, power, rule, fine, IsOne, IsStatement, Says, nothing, no_token, unended, read, later, refused, ExpressionSays, IsEntry, tokens_of, places_of, first_line, is_semicolon}
+use Rattle.regex_reader.specs.Files.{Placed, Statement, FaultAt, Verdict, deep, unread, power, rule, fine, IsOne, Says, nothing, no_token, unended, read, later, refused, ExpressionSays, IsEntry, tokens_of, places_of, first_line, is_semicolon}
 use Rattle.regex_reader.specs.Reads.{OneReading, OneExpression}
 use Rattle.regex_reader.specs.Tests.{nodes, has_high_power, has_large_rule}
 use Rattle.regex_reader.specs.Verdicts.{placed}

@@ -1,8 +1,8 @@
 -- Statement by statement: what was read, and what the rest says.
-use Rattle.std.proofs.Common.{◌≡◌, ℕ, List, [], ◌∷◌, ◌++◌, Result, Ok, Err, refl, sym, ap, subst, ◌∙◌, append_assoc, append-nil}
+use Rattle.std.proofs.Common.{◌≡◌, ℕ, List, [], ◌∷◌, ◌++◌, Result, Ok, Err, sym, subst, append_assoc, append-nil}
 use Rattle.regex_ast.specs.declared.fault.Why.{Why}
 use Rattle.regex_tokens.specs.declared.token.Ending.{Ending}
-use Rattle.regex_reader.specs.Files.{Placed, Statement, FaultAt, Says, nothing, no_token, unended, read, later, refused, IsOne, Verdict, first_line}
+use Rattle.regex_reader.specs.Files.{Placed, Statement, FaultAt, Says, read, later, refused, IsOne, Verdict, first_line}
 
 -- the answer where these statements come first
 abbrev pub behind : List Statement → Result (List Statement) FaultAt → Result (List Statement) FaultAt

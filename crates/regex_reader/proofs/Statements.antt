@@ -1,5 +1,5 @@
 -- What is found in the tokens of a statement.
-use Rattle.std.proofs.Common.{◌≡◌, ℕ, Bool, true, false, not, ◌&&◌, List, [], ◌∷◌, ◌++◌, length, Some, Result, Ok, Err, refl, sym, ap, subst, ◌∙◌}
+use Rattle.std.proofs.Common.{◌≡◌, ℕ, Bool, true, false, List, length, Some, Ok, Err, refl, sym, ap, subst, ◌∙◌}
 use Rattle.std.specs.List.{list_any}
 use Rattle.regex_ast.specs.Terms.{Term, term}
 use Rattle.regex_ast.specs.declared.expr.Expr.{Expr}
@@ -9,12 +9,10 @@ use Rattle.regex_ast.specs.declared.fault.ReadError.TheVariants.{Fault, Memory}
 use Rattle.regex_ast.specs.declared.fault.Why.{Why}
 use Rattle.regex_ast.specs.declared.fault.Why.TheVariants as why
 use Rattle.regex_grammar.specs.Whole.{IsReading}
-use Rattle.regex_tokens.specs.declared.token.Operator.TheVariants.{Semicolon}
 use Rattle.regex_tokens.specs.declared.token.Place.{Place}
 use Rattle.regex_tokens.specs.declared.token.Token.{Token}
-use Rattle.regex_tokens.specs.declared.token.Token.TheVariants.{Operator as operator}
 use Rattle.regex_reader.specs.declared.findings.Findings.{Findings}
-use Rattle.regex_reader.specs.Files.{Placed, Statement, IsForm, IsStatement, Verdict, deep, unread, power, rule, fine, tokens_of, first_line, plain_run, is_too_deep}
+use Rattle.regex_reader.specs.Files.{Placed, Statement, IsForm, IsStatement, Verdict, deep, unread, power, rule, fine, tokens_of, first_line, is_too_deep}
 use Rattle.regex_reader.specs.Found.{found_in}
 use Rattle.regex_reader.specs.Tests.{nodes, is_misplaced, has_high_power, has_large_rule}
 use Rattle.regex_reader.specs.Verdicts.{placed, line_of, IsChecked, IsVerdict}

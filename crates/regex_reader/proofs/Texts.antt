@@ -1,5 +1,5 @@
 -- What a text says, by its tokens.
-use Rattle.std.proofs.Common.{◌≡◌, ℕ, List, [], ◌∷◌, length, Result, Ok, Err, Vec, Global, refl, sym, ap, subst, ◌∙◌, arith}
+use Rattle.std.proofs.Common.{◌≡◌, ℕ, List, [], ◌∷◌, length, Result, Ok, Err, Vec, Global, refl, sym, subst, arith}
 use Rattle.regex_ast.specs.declared.expr.Define.{Define}
 use Rattle.regex_ast.specs.declared.expr.Expr.{Expr}
 use Rattle.regex_ast.specs.declared.expr.Raw.{Raw}
@@ -11,7 +11,7 @@ use Rattle.regex_tokens.specs.declared.token.Ending.{Ending}
 use Rattle.regex_tokens.specs.declared.token.Ending.TheVariants.{Whole, NoToken}
 use Rattle.regex_tokens.specs.declared.token.Place.{Place}
 use Rattle.regex_tokens.specs.declared.token.Token.{Token}
-use Rattle.regex_reader.specs.Files.{FaultAt, Says, ReadsAs, ReadsExpression, ExpressionSays, no_token, tokens_of, places_of}
+use Rattle.regex_reader.specs.Files.{Says, ReadsExpression, no_token, tokens_of, places_of}
 use Rattle.regex_reader.specs.Reads.{IsAnswer, IsRead, IsReadExpression}
 use Rattle.regex_reader.specs.Verdicts.{placed, IsEntryAnswer}
 use Rattle.regex_reader.proofs.Placed.{tokens_placed, places_placed}

@@ -1,7 +1,7 @@
 -- What a text says: its definitions, or its first fault (Beesley and Karttunen, Finite State Morphology, 2003, chapter 3, on
 -- scripts of `define` commands). A text is a sequence of statements `define NAME EXPRESSION ;`. Statement by statement
 -- a place without a token is tried first, then the depth of brackets, the form, and the limits of powers and rules.
-use Rattle.std.specs.Prelude.{◌≡◌, ◌≢◌, ◌+◌, ◌-◌, ◌++◌, ℕ, Bool, true, false, not, ◌&&◌, ◌||◌, ◌==◌, nat_le, nat_lt, IsTrue, List, [], ◌∷◌, map, codes, Option, None, Some, Result, Ok, Err, if◌then◌else◌}
+use Rattle.std.specs.Prelude.{◌≡◌, ◌≢◌, ◌+◌, ◌-◌, ◌++◌, ℕ, Bool, true, false, not, ◌&&◌, ◌||◌, nat_le, nat_lt, List, [], ◌∷◌, map, codes, Some, Result, Ok, Err, if◌then◌else◌}
 use Rattle.std.specs.List.{list_all, list_any}
 use Rattle.fsm_base.specs.Cut.{characters}
 use Rattle.regex_ast.specs.Terms.{Term, term}
@@ -13,7 +13,6 @@ use Rattle.regex_tokens.specs.Bytes.{begins}
 use Rattle.regex_tokens.specs.Cuts.{Cuts}
 use Rattle.regex_tokens.specs.declared.token.Ending.{Ending}
 use Rattle.regex_tokens.specs.declared.token.Ending.TheVariants.{Whole, NoToken}
-use Rattle.regex_tokens.specs.declared.token.Operator.{Operator}
 use Rattle.regex_tokens.specs.declared.token.Operator.TheVariants.{OpenSquare, CloseSquare, OpenRound, CloseRound, Semicolon, Arrow, Optional, Only}
 use Rattle.regex_tokens.specs.declared.token.Place.{Place}
 use Rattle.regex_tokens.specs.declared.token.Token.{Token}

@@ -1,5 +1,5 @@
 -- What is found in the parts of an expression.
-use Rattle.std.specs.Prelude.{Bool, ◌||◌, List}
+use Rattle.std.specs.Prelude.{◌||◌, List}
 use Rattle.std.specs.List.{list_any}
 use Rattle.regex_reader.specs.declared.findings.Findings.{Findings}
 use Rattle.regex_reader.specs.Tests.{Node, is_misplaced, has_high_power, has_large_rule}

@@ -18,7 +18,7 @@ use Rattle.regex_tokens.specs.declared.token.Place.{Place}
 use Rattle.regex_tokens.specs.declared.token.Token.{Token}
 use Rattle.regex_tokens.specs.declared.token.Token.TheVariants.{Operator as operator}
 use Rattle.regex_reader.specs.declared.findings.Findings.{Findings}
-use Rattle.regex_reader.specs.Files.{is_name, is_round, Placed, Statement, Verdict, Says, IsForm, ExpressionSays, first_line, tokens_of, plain_run, statement_of}
+use Rattle.regex_reader.specs.Files.{is_name, is_round, Placed, Verdict, Says, IsForm, ExpressionSays, first_line, tokens_of, plain_run, statement_of}
 use Rattle.regex_reader.specs.Found.{found_in}
 use Rattle.regex_reader.specs.Tests.{nodes, is_misplaced}
 

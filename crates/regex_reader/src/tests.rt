@@ -135,16 +135,16 @@ fn reads_each_level(rt: HostRuntime) -> Result<(), AllocError> {
             "? | 0 ? & 0 - ?",
             "Chain(Any, [Or(Concat([Empty, Any])), And(Empty), Less(Any)])",
         ),
-        ("0|? .x. ?", "Steps(Chain(Empty, [Or(Any)]), [CrossWith(Any)])"),
+        (
+            "0|? .x. ?",
+            "Steps(Chain(Empty, [Or(Any)]), [CrossWith(Any)])",
+        ),
         ("? .o. 0 .x. ?", "Steps(Any, [Then(Empty), CrossWith(Any)])"),
         (
             "? => 0 _ , _ [.#. 0] .o. ?",
             "Steps(Only(Any, [Context { left: Empty, right: Empty }, Context { left: Empty, right: Group(Concat([Edge, Empty])) }]), [Then(Any)])",
         ),
-        (
-            "? -> 0 , 0 (->) ?",
-            "",
-        ),
+        ("? -> 0 , 0 (->) ?", ""),
         (
             "? (->) 0 , 0 (->) ... \\/ ? _ , _",
             "Rules(RuleSet { optional: true, groups: [Group { maps: [Plain { centre: Any, result: Empty }, Markup { centre: Empty, before: Empty, after: Empty }], side: LowLow, contexts: [Context { left: Any, right: Empty }, Context { left: Empty, right: Empty }] }] })",
@@ -190,15 +190,24 @@ fn reads_each_level(rt: HostRuntime) -> Result<(), AllocError> {
 fn reads_special_characters(rt: HostRuntime) -> Result<(), AllocError> {
     let alloc = rt.alloc();
     for character in "[](){}|/&-~$*+^:;,?_.<>=!#@ %".chars() {
-        let quoted = shown(alloc, format!(in alloc; "define A \"{character}\" ;")?.as_str())?;
-        let escaped = shown(alloc, format!(in alloc; "define A %{character} ;")?.as_str())?;
-        let braced = shown(alloc, format!(in alloc; "define A {{%{character}}} ;")?.as_str())?;
-        let want =
-            format!(in alloc; "1 A = Atom(Quoted(Text {{ inner: \"{character}\" }}));")?;
+        let quoted = shown(
+            alloc,
+            format!(in alloc; "define A \"{character}\" ;")?.as_str(),
+        )?;
+        let escaped = shown(
+            alloc,
+            format!(in alloc; "define A %{character} ;")?.as_str(),
+        )?;
+        let braced = shown(
+            alloc,
+            format!(in alloc; "define A {{%{character}}} ;")?.as_str(),
+        )?;
+        let want = format!(in alloc; "1 A = Atom(Quoted(Text {{ inner: \"{character}\" }}));")?;
         assert_eq!(rt; quoted.as_str(), want.as_str());
         assert_eq!(rt; escaped.as_str(), want.as_str());
-        let want =
-            format!(in alloc; "1 A = Letters([Quoted(Text {{ inner: \"{character}\" }})]);")?;
+        let want = format!(in alloc;
+            "1 A = Letters([Quoted(Text {{ inner: \"{character}\" }})]);"
+        )?;
         assert_eq!(rt; braced.as_str(), want.as_str());
     }
     Ok(())

@@ -1,5 +1,5 @@
-use Rattle.std.proofs.Common.{◌↔◌, ◌∙◌, ap, sym, subst, IsTrue, map}
-use Rattle.regex_ast.specs.Terms.{term, terms_of, links_of}
+use Rattle.std.proofs.Common.{◌↔◌, ◌∙◌, ap, sym, subst, IsTrue}
+use Rattle.regex_ast.specs.Terms.{term}
 use Rattle.regex_ast.proofs.Rows.{term-Concat, term-Chain}
 use Rattle.fsm_meaning.specs.Built.{IsBuilt}
 use Rattle.project_model.proofs.built.+built.Goals as goal

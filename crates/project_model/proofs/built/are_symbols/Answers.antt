@@ -1,8 +1,8 @@
-use Rattle.std.proofs.Common.{◌≡◌, ◌∙◌, sym, ap, arith}
+use Rattle.std.proofs.Common.{◌∙◌, sym, ap, arith}
 use Rattle.std.specs.List.{list_all}
 use Rattle.fsm_meaning.specs.Projects.{is_symbol}
 use Rattle.project_model.specs.Leaves.{seen}
-use Rattle.project_model.proofs.Behind.{left_behind, none_left}
+use Rattle.project_model.proofs.Behind.{none_left}
 use Rattle.project_model.proofs.BuiltRows.{all_more, all_never}
 use Rattle.project_model.proofs.built.are_symbols.Goals as goal
 

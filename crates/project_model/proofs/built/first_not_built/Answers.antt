@@ -1,8 +1,8 @@
-use Rattle.std.proofs.Common.{◌≡◌, ◌∙◌, ◌+◌, All, List, [], map, take, drop, refl, sym, ap, subst, true≢false, arith}
+use Rattle.std.proofs.Common.{◌∙◌, ◌+◌, All, [], map, take, drop, refl, sym, subst, true≢false, arith}
 use Rattle.std.proofs.lemmas.List.{take_all}
 use Rattle.std.proofs.lemmas.List.Elements.{All-append, All-cons, All-nil}
 use Rattle.regex_ast.specs.Terms.{term}
-use Rattle.regex_reader.specs.Files.{Statement, statement_of}
+use Rattle.regex_reader.specs.Files.{statement_of}
 use Rattle.fsm_meaning.specs.Built.{IsCompiled}
 use Rattle.project_model.specs.Together.{IsCompiledIn}
 use Rattle.project_model.proofs.NameSteps.{split_here, statements_more}

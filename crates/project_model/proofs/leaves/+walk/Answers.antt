@@ -1,10 +1,8 @@
-use Rattle.std.proofs.Common.{◌≡◌, ◌++◌, OnOk, List, Result, Ok, Err, map, drop, sym, ap, subst, ◌∙◌, arith}
-use Rattle.regex_ast.specs.Terms.{Term, term, terms_of, links_of, contexts_of, steps_by, groups_of, mappings_of, maps_of, contexts_in}
-use Rattle.regex_ast.specs.declared.expr.Raw.{Raw}
-use Rattle.regex_ast.specs.declared.expr.Expr.TheViews.{out-RuleSet}
+use Rattle.std.proofs.Common.{◌≡◌, ◌++◌, OnOk, sym, ap, subst, ◌∙◌, arith}
+use Rattle.regex_ast.specs.Terms.{term, links_of, contexts_of, steps_by, mappings_of, maps_of, contexts_in}
 use Rattle.regex_ast.proofs.Rows.{term-Concat, term-Chain, term-Ignore, term-Only, term-Steps}
 use Rattle.fsm_meaning.specs.Projects.{leaves_in}
-use Rattle.project_model.specs.Leaves.{seen, leaves_in_each, leaves_in_links, leaves_in_contexts, leaves_in_steps, leaves_in_mappings, leaves_in_groups}
+use Rattle.project_model.specs.Leaves.{seen, leaves_in_links, leaves_in_contexts, leaves_in_steps, leaves_in_mappings}
 use Rattle.project_model.proofs.Behind.{go_on, add_both, add_both_ok, flat_map-alone}
 use Rattle.project_model.proofs.Parts.{groups_left}
 use Rattle.regex_ast.proofs.Sets.{term_rules, maps_of_is, contexts_in_is}

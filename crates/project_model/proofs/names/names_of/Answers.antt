@@ -1,8 +1,6 @@
-use Rattle.std.proofs.Common.{◌≡◌, ◌++◌, ◌∷◌, ◌+◌, [], List, ℕ, false, true, map, take, sym, ap, ◌∙◌, subst, arith}
+use Rattle.std.proofs.Common.{◌++◌, ◌∷◌, [], List, ℕ, sym, ap, ◌∙◌, arith}
 use Rattle.std.specs.List.{list_any}
 use Rattle.std.specs.Str.{bytes_eq}
-use Rattle.regex_reader.specs.Files.{statement_of}
-use Rattle.project_model.specs.Together.{defined_by}
 use Rattle.project_model.proofs.NameSteps.{names_more, names_length, still_formed, why_again, why_too_many, not_false, not_true}
 use Rattle.project_model.proofs.Texts.{with_text-new}
 use Rattle.project_model.proofs.names.names_of.Goals as goal
@@ -31,5 +29,5 @@ defines-preserved c =
     record {
       names = now_is;
       formed = still_formed c.args.defines.now c.defines.define-index c.define-item.result (omega arith) c.define-item.is _ now_is c.in_ok-add.ensures.distinct
-        (omega (arith, names_length c.args.defines.now c.defines.define-index c.define-item.result (omega arith) c.define-item.is _ now_is));
+          (omega (arith, names_length c.args.defines.now c.defines.define-index c.define-item.result (omega arith) c.define-item.is _ now_is));
     }

@@ -1,9 +1,8 @@
-use Rattle.std.proofs.Common.{◌≡◌, ◌≤◌, ◌+◌, map, length, sym, ap, subst, ◌∙◌, arith, Ok}
+use Rattle.std.proofs.Common.{map, sym, ap, subst, ◌∙◌, arith, Ok}
 use Rattle.regex_reader.specs.Files.{statement_of}
 use Rattle.fsm_meaning.specs.Projects.{Project, names_of}
 use Rattle.fsm_base.specs.Alphabet.{texts_of}
 use Rattle.project_model.specs.Together.{SayTogether, symbols, not_built, whole as together, fault, project_name}
-use Rattle.project_model.specs.declared.plan_error.PlanError.{PlanError}
 use Rattle.regex_ast.specs.declared.fault.Why.TheVariants as why
 use Rattle.project_model.proofs.Alphabets.{texts_of-all}
 use Rattle.project_model.proofs.NameSteps.{why_refused}
@@ -48,6 +47,6 @@ returns c =
     let whole_is = table_whole c.args.defines.items _ _ names_are table_is (omega arith) in
     let statements = map statement_of c.args.defines.items in (
       subst (λ (p : Project). SayTogether c.args.file.now statements (Ok p)) (same_project _ _ _ _ (sym (texts_are ∙ whole_is)) (sym (defined_are c.args.defines.items)))
-      (together formed (within c.args.defines.items _ _ names_are table_is (omega arith)) compiled),
+          (together formed (within c.args.defines.items _ _ names_are table_is (omega arith)) compiled),
       planned c.args.defines.items c.in_ok-table.table c.in_ok-alphabet.alphabet whole_is c.in_ok-alphabet.ensures.alphabet texts_are c.in_ok-alphabet.ensures.formed formed.distinct compiled,
     )

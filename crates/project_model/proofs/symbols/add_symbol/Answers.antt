@@ -1,6 +1,4 @@
-use Rattle.std.proofs.Common.{sym, ◌∙◌, ◌≡◌, ◌<◌, ◌≤◌, length, true, false, arith}
-use Rattle.fsm_meaning.specs.Projects.{is_symbol, symbol_beside}
-use Rattle.project_model.specs.Gathered.{gathered}
+use Rattle.std.proofs.Common.{sym, ◌∙◌, arith}
 use Rattle.project_model.specs.Together.{most_symbols}
 use Rattle.project_model.proofs.Gathering.{leaf_passed, leaf_full, leaf_added}
 use Rattle.project_model.proofs.symbols.add_symbol.Goals as goal

@@ -2,7 +2,7 @@ use Rattle.std.proofs.Common.{◌≡◌, ◌+◌, map, drop, sym, ap, ◌∙◌,
 use Rattle.std.specs.List.{flat_map}
 use Rattle.regex_ast.specs.Terms.{term}
 use Rattle.regex_reader.specs.Files.{statement_of}
-use Rattle.fsm_meaning.specs.Projects.{leaves_in, symbol_beside, symbols_beside}
+use Rattle.fsm_meaning.specs.Projects.{symbol_beside, symbols_beside}
 use Rattle.project_model.specs.Gathered.{gathered, symbols_of_all}
 use Rattle.project_model.specs.Leaves.{seen}
 use Rattle.project_model.specs.Together.{definitions_of}

@@ -1,4 +1,4 @@
-use Rattle.std.proofs.Common.{◌≤◌, arith}
+use Rattle.std.proofs.Common.{arith}
 use Rattle.regex_reader.proofs.Depths.{deep_here, deep_goes_on, none_deep, one_more_at_most}
 use Rattle.regex_reader.proofs.brackets.is_too_deep.Goals as goal
 

@@ -1,4 +1,3 @@
-use Rattle.std.proofs.Common.{◌≡◌}
 use Rattle.regex_reader.proofs.Texts.{entry_no_token}
 use Rattle.regex_reader.proofs.entry.read_expr.Goals as goal
 

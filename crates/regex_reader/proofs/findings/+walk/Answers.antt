@@ -1,11 +1,9 @@
-use Rattle.std.proofs.Common.{◌≡◌, ◌++◌, refl, ap, sym, ◌∙◌, arith, inl, inr, true, map, drop, nat_lt, length, List}
-use Rattle.regex_ast.specs.Terms.{term, terms_of, contexts_of, steps_by, links_of, groups_of, mappings_of, maps_of, contexts_in, ignore, concat, chain, only, rules, steps}
+use Rattle.std.proofs.Common.{◌≡◌, ◌++◌, refl, ap, sym, ◌∙◌, arith, inl, inr, map, drop, nat_lt, length}
+use Rattle.regex_ast.specs.Terms.{term, terms_of, contexts_of, steps_by, links_of, groups_of, mappings_of, only, rules}
 use Rattle.regex_ast.specs.declared.expr.Raw.{Raw}
-use Rattle.regex_ast.specs.declared.expr.Context.{Context}
 use Rattle.regex_ast.specs.declared.expr.Expr.TheViews.{out-RuleSet}
-use Rattle.regex_ast.specs.declared.expr.Mapping.{Mapping}
 use Rattle.regex_ast.proofs.Rows.{term-Concat, term-Chain, term-Ignore, term-Only, term-Steps}
-use Rattle.regex_reader.specs.Found.{found_in, either}
+use Rattle.regex_reader.specs.Found.{found_in}
 use Rattle.regex_reader.specs.Tests.{at, nodes, each_of, each_context, each_step, each_link, each_group, each_mapping}
 use Rattle.regex_reader.proofs.Rows.{none_left}
 use Rattle.regex_ast.proofs.Sets.{term_rules, maps_of_is, contexts_in_is}

@@ -1,5 +1,4 @@
-use Rattle.std.proofs.Common.{◌≡◌, ◌+◌, length, drop, ap, sym, ◌∙◌, arith}
-use Rattle.regex_ast.specs.Terms.{maps_of, contexts_in}
+use Rattle.std.proofs.Common.{length, ap, arith}
 use Rattle.regex_ast.specs.declared.expr.Raw.{Raw}
 use Rattle.regex_ast.specs.declared.expr.Expr.TheViews.{out-Group}
 use Rattle.regex_ast.proofs.Sets.{maps_of_is, contexts_in_is}

@@ -1,4 +1,4 @@
-use Rattle.std.proofs.Common.{◌≡◌, sym, ap, ◌∙◌, true, false, get_or}
+use Rattle.std.proofs.Common.{sym, ◌∙◌}
 use Rattle.regex_reader.proofs.Forms.{no_command, no_name, no_end, no_fit, is_form}
 use Rattle.regex_reader.proofs.form.form_of.Goals as goal
 

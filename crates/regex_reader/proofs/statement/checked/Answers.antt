@@ -1,12 +1,10 @@
-use Rattle.std.proofs.Common.{◌≡◌, true, false, Some, Option, refl, sym, ap, subst, ◌∙◌}
-use Rattle.std.specs.List.{list_any}
+use Rattle.std.proofs.Common.{Some, Option, refl, sym, ap, subst, ◌∙◌}
 use Rattle.std.specs.Option.{option_map}
 use Rattle.regex_ast.specs.Terms.{term}
 use Rattle.regex_ast.specs.declared.expr.Raw.{Raw}
 use Rattle.regex_ast.specs.declared.expr.Expr.{Expr}
 use Rattle.regex_grammar.specs.Whole.{IsReading}
 use Rattle.regex_reader.specs.declared.findings.Findings.{Findings}
-use Rattle.regex_reader.specs.Tests.{nodes, is_misplaced}
 use Rattle.regex_reader.proofs.Readings.{no_other_term}
 use Rattle.regex_reader.proofs.statement.checked.Goals as goal
 

@@ -1,4 +1,4 @@
-use Rattle.std.proofs.Common.{◌≡◌, sym, ap, subst, ◌∙◌, List, ℕ, Ok}
+use Rattle.std.proofs.Common.{◌≡◌, sym, subst, List, ℕ, Ok}
 use Rattle.regex_ast.specs.Terms.{term}
 use Rattle.regex_reader.specs.Files.{Verdict}
 use Rattle.regex_reader.specs.Verdicts.{placed}

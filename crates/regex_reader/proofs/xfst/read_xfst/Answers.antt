@@ -1,4 +1,4 @@
-use Rattle.std.proofs.Common.{◌≡◌, length, ap, sym, ◌∙◌, arith}
+use Rattle.std.proofs.Common.{length, ap, sym, ◌∙◌}
 use Rattle.regex_reader.proofs.Texts.{as_many, is_read}
 use Rattle.regex_reader.proofs.xfst.read_xfst.Goals as goal
 

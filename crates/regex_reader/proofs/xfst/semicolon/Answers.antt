@@ -1,4 +1,4 @@
-use Rattle.std.proofs.Common.{◌<◌, ◌^◌, length, arith}
+use Rattle.std.proofs.Common.{length}
 use Rattle.regex_reader.proofs.Placed.{semicolon_within}
 use Rattle.regex_reader.proofs.xfst.semicolon.Goals as goal
 

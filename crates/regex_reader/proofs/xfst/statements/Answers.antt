@@ -1,8 +1,6 @@
-use Rattle.std.proofs.Common.{◌≡◌, ◌+◌, ◌<◌, length, map, List, [], ◌∷◌, ◌++◌, sym, ap, subst, ◌∙◌, arith, length-drop, Some}
-use Rattle.std.specs.List.{position}
-use Rattle.regex_reader.specs.Files.{statement_of, is_semicolon}
-use Rattle.regex_reader.specs.Verdicts.{placed}
-use Rattle.regex_reader.proofs.Placed.{semicolon_below, no_semicolon}
+use Rattle.std.proofs.Common.{◌≡◌, map, [], ◌∷◌, ◌++◌}
+use Rattle.regex_reader.specs.Files.{statement_of}
+use Rattle.regex_reader.proofs.Placed.{no_semicolon}
 use Rattle.regex_reader.proofs.Stepping.{step, stopped}
 use Rattle.regex_reader.proofs.xfst.statements.Goals as goal
 

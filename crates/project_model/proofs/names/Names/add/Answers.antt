@@ -1,7 +1,5 @@
-use Rattle.std.proofs.Common.{◌≡◌, not, map, sym, ap, ◌∙◌, true, false}
-use Rattle.std.specs.List.{list_any}
+use Rattle.std.proofs.Common.{not, map, sym, ap, ◌∙◌}
 use Rattle.std.specs.String.{string_bytes}
-use Rattle.std.specs.Str.{bytes_eq}
 use Rattle.fsm_base.proofs.TableLemmas.{list_any-strings, with_text-held, with_text-strings, IsDistinct-strings}
 use Rattle.project_model.proofs.names.Names.add.Goals as goal
 

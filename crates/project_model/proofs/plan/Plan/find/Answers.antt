@@ -1,4 +1,4 @@
-use Rattle.std.proofs.Common.{ℕ, List, sym, subst, ◌∙◌, ◌≡◌, Some, slice_get, false, arith}
+use Rattle.std.proofs.Common.{ℕ, List, sym, subst, ◌≡◌, Some, slice_get, false, arith}
 use Rattle.std.specs.List.{list_any}
 use Rattle.std.specs.Str.{bytes_eq}
 use Rattle.project_model.specs.Plans.{PlanView}
