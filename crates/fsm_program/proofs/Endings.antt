@@ -84,6 +84,19 @@ check_look asked query check look = let e : for_check ≡ for_look query = same_
 same_query : (asked : Option Asked) (a b : Query) → asked ≡ Some (for_look a) → asked ≡ Some (for_look b) → a ≡ b
 same_query asked a b e f = let g : for_look a ≡ for_look b = same_asked asked (for_look a) (for_look b) e f in cc
 
+-- what was said whole has its status
+said_whole : (held0 held : Option (List ℕ)) {text : List ℕ} {status : ℕ} {O : Type 0} → IsSaid held0 held text 0 status → (status ≡ 4 → O) → (O → ⊥) → status ≡ 0
+said_whole held0 held {status = status} (front, rest, is, appended, either) four written = elim either as (λ _. status ≡ 0) [ inl all ↦ all.0 | inr failed ↦ absurd (written (four failed)) ]
+
+said_other : {P : Type 0} (held0 held : Option (List ℕ)) {text : List ℕ} {said status k : ℕ} → IsSaid held0 held text said status → status ≡ k → said ≢ k → 4 ≢ k → P
+said_other held0 held (front, rest, is, appended, either) e other four = absurd (elim either as (λ _. ⊥) [ inl all ↦ other (sym all.0 ∙ e) | inr failed ↦ four (sym failed ∙ e) ])
+
+answered_other : {P : Type 0} {status : ℕ} (ending : Ending) (k : ℕ) → status ≡ status_of ending → status ≡ k → (k ≡ 1) ⊎ (k ≡ 2) → P
+answered_other Finished k s e either = absurd (elim either as (λ _. ⊥) [ inl is ↦ omega (arith, s, e, is) | inr is ↦ omega (arith, s, e, is) ])
+answered_other WriteFailed k s e either = absurd (elim either as (λ _. ⊥) [ inl is ↦ omega (arith, s, e, is) | inr is ↦ omega (arith, s, e, is) ])
+answered_other ReadFailed k s e either = absurd (elim either as (λ _. ⊥) [ inl is ↦ omega (arith, s, e, is) | inr is ↦ omega (arith, s, e, is) ])
+answered_other Spent k s e either = absurd (elim either as (λ _. ⊥) [ inl is ↦ omega (arith, s, e, is) | inr is ↦ omega (arith, s, e, is) ])
+
 module _ {asked : Option Asked} {files : Option Files} {faults0 faults : ℕ} {left0 left held0 held : Option (List ℕ)} {status : ℕ} where
   -- words in no form
   pub unsaid : Ends asked files faults0 faults left0 left held0 held status → asked ≡ None → IsSaid held0 held usage_text 1 status
@@ -142,10 +155,6 @@ module _ {asked : Option Asked} {files : Option Files} {faults0 faults : ℕ} {l
       inl (subst (λ (p : Project). IsAnswered (Replies p query.direction 1 query.net) left0 left held0 held status) (sym (same_project project project' (one_told files (Ok project) (Ok project') told told')))
       (subst (λ (q : Query). IsAnswered (Replies project' q.direction 1 q.net) left0 left held0 held status) (same_query asked query' query is e) answers))
 
-  -- what was said whole has its status
-  said_whole : {text : List ℕ} {O : Type 0} → IsSaid held0 held text 0 status → (status ≡ 4 → O) → (O → ⊥) → status ≡ 0
-  said_whole (front, rest, is, appended, either) four written = elim either as (λ _. status ≡ 0) [ inl all ↦ all.0 | inr failed ↦ absurd (written (four failed)) ]
-
   -- with no failure and bytes left to take, all was done or there was no memory
   pub completes : {I O : Type 0} → Ends asked files faults0 faults left0 left held0 held status → (status ≡ 3 → Rose faults0 faults ⊎ I) → (status ≡ 4 → O) → (what : Asked) (project : Project) → asked ≡ Some what → Loads what
       → IsTold files (λ fs. Reads fs (Ok project)) → (Rose faults0 faults → ⊥) → (I → ⊥) → (O → ⊥) → status ≢ 6 → (status ≡ 0) ⊎ (status ≡ 5)
@@ -158,47 +167,38 @@ module _ {asked : Option Asked} {files : Option Files} {faults0 faults : ℕ} {l
       by_ending Spent s = absurd (unspent s)
 
       by : (what : Asked) → asked ≡ Some what → Loads what → (status ≡ 0) ⊎ (status ≡ 5)
-      by for_check e loads = elim (check ends project e told whole) as (λ _. (status ≡ 0) ⊎ (status ≡ 5)) [ inl (names, are, said) ↦ inl (said_whole said four written) | inr five ↦ inr five ]
+      by for_check e loads = elim (check ends project e told whole) as (λ _. (status ≡ 0) ⊎ (status ≡ 5)) [ inl (names, are, said) ↦ inl (said_whole held0 held said four written) | inr five ↦ inr five ]
       by (for_look query) e loads = elim (answer ends query project e told whole) as (λ _. (status ≡ 0) ⊎ (status ≡ 5)) [ inl (ending, s, a) ↦ by_ending ending s | inr five ↦ inr five ]
       by for_help e loads = absurd loads
-
-  said_other : {P : Type 0} {text : List ℕ} {said k : ℕ} → IsSaid held0 held text said status → status ≡ k → said ≢ k → 4 ≢ k → P
-  said_other (front, rest, is, appended, either) e other four = absurd (elim either as (λ _. ⊥) [ inl all ↦ other (sym all.0 ∙ e) | inr failed ↦ four (sym failed ∙ e) ])
-
-  answered_other : {P : Type 0} (ending : Ending) (k : ℕ) → status ≡ status_of ending → status ≡ k → (k ≡ 1) ⊎ (k ≡ 2) → P
-  answered_other Finished k s e either = absurd (elim either as (λ _. ⊥) [ inl is ↦ omega (arith, s, e, is) | inr is ↦ omega (arith, s, e, is) ])
-  answered_other WriteFailed k s e either = absurd (elim either as (λ _. ⊥) [ inl is ↦ omega (arith, s, e, is) | inr is ↦ omega (arith, s, e, is) ])
-  answered_other ReadFailed k s e either = absurd (elim either as (λ _. ⊥) [ inl is ↦ omega (arith, s, e, is) | inr is ↦ omega (arith, s, e, is) ])
-  answered_other Spent k s e either = absurd (elim either as (λ _. ⊥) [ inl is ↦ omega (arith, s, e, is) | inr is ↦ omega (arith, s, e, is) ])
 
   -- status 1 comes for words in no form
   pub usage_cause : Ends asked files faults0 faults left0 left held0 held status → status ≡ 1 → asked ≡ None
   usage_cause (no_words none l said) e = none
-  usage_cause (helped is l said) e = said_other said e (λ z. omega (arith, z)) (λ z. omega (arith, z))
-  usage_cause (refused what fault is loads told l said) e = said_other said e (λ z. omega (arith, z)) (λ z. omega (arith, z))
+  usage_cause (helped is l said) e = said_other held0 held said e (λ z. omega (arith, z)) (λ z. omega (arith, z))
+  usage_cause (refused what fault is loads told l said) e = said_other held0 held said e (λ z. omega (arith, z)) (λ z. omega (arith, z))
   usage_cause (folder_failed what is loads l h rose s) e = absurd (omega (arith, s, e))
   usage_cause (no_memory what is loads l h s) e = absurd (omega (arith, s, e))
-  usage_cause (checked project names is told are l said) e = said_other said e (λ z. omega (arith, z)) (λ z. omega (arith, z))
+  usage_cause (checked project names is told are l said) e = said_other held0 held said e (λ z. omega (arith, z)) (λ z. omega (arith, z))
   usage_cause (answered query project is told (ending, s, a)) e = answered_other ending 1 s e (inl refl)
 
   -- 2 for a project with a fault
   pub fault_cause : Ends asked files faults0 faults left0 left held0 held status → status ≡ 2 → (fault : Fault) × Told files (λ fs. Reads fs (Err fault))
-  fault_cause (no_words none l said) e = said_other said e (λ z. omega (arith, z)) (λ z. omega (arith, z))
-  fault_cause (helped is l said) e = said_other said e (λ z. omega (arith, z)) (λ z. omega (arith, z))
+  fault_cause (no_words none l said) e = said_other held0 held said e (λ z. omega (arith, z)) (λ z. omega (arith, z))
+  fault_cause (helped is l said) e = said_other held0 held said e (λ z. omega (arith, z)) (λ z. omega (arith, z))
   fault_cause (refused what fault is loads told l said) e = (fault, told)
   fault_cause (folder_failed what is loads l h rose s) e = absurd (omega (arith, s, e))
   fault_cause (no_memory what is loads l h s) e = absurd (omega (arith, s, e))
-  fault_cause (checked project names is told are l said) e = said_other said e (λ z. omega (arith, z)) (λ z. omega (arith, z))
+  fault_cause (checked project names is told are l said) e = said_other held0 held said e (λ z. omega (arith, z)) (λ z. omega (arith, z))
   fault_cause (answered query project is told (ending, s, a)) e = answered_other ending 2 s e (inr refl)
 
   -- and 6 where so many bytes were taken
   pub spent_cause : Ends asked files faults0 faults left0 left held0 held status → status ≡ 6 → (taken : List ℕ) × Consumes left0 left taken × (length taken ≡ most_taken)
-  spent_cause (no_words none l said) e = said_other said e (λ z. omega (arith, z)) (λ z. omega (arith, z))
-  spent_cause (helped is l said) e = said_other said e (λ z. omega (arith, z)) (λ z. omega (arith, z))
-  spent_cause (refused what fault is loads told l said) e = said_other said e (λ z. omega (arith, z)) (λ z. omega (arith, z))
+  spent_cause (no_words none l said) e = said_other held0 held said e (λ z. omega (arith, z)) (λ z. omega (arith, z))
+  spent_cause (helped is l said) e = said_other held0 held said e (λ z. omega (arith, z)) (λ z. omega (arith, z))
+  spent_cause (refused what fault is loads told l said) e = said_other held0 held said e (λ z. omega (arith, z)) (λ z. omega (arith, z))
   spent_cause (folder_failed what is loads l h rose s) e = absurd (omega (arith, s, e))
   spent_cause (no_memory what is loads l h s) e = absurd (omega (arith, s, e))
-  spent_cause (checked project names is told are l said) e = said_other said e (λ z. omega (arith, z)) (λ z. omega (arith, z))
+  spent_cause (checked project names is told are l said) e = said_other held0 held said e (λ z. omega (arith, z)) (λ z. omega (arith, z))
   spent_cause (answered query project is told (Spent, s, a)) e = (a.taken, a.consumed, a.spends refl)
   spent_cause (answered query project is told (Finished, s, a)) e = absurd (omega (arith, s, e))
   spent_cause (answered query project is told (WriteFailed, s, a)) e = absurd (omega (arith, s, e))

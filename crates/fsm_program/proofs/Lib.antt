@@ -8,3 +8,4 @@ pub mod Sending
 pub mod Shown
 pub mod Together
 pub mod Transport
+pub mod Unread

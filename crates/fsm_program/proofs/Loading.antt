@@ -38,7 +38,7 @@ unfolding most_bytes
 most_bytes_is = refl
 
 next_read : most_read ≡ most_bytes + 1
-unfolding most_read, most_bytes
+unfolding most_read most_bytes
 next_read = refl
 
 read_big : 70 < most_read

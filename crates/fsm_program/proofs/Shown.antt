@@ -88,14 +88,14 @@ module _ (table : List (List ℕ)) (alphabet : List (Sym × List ℕ)) (is : alp
 
 -- the one definition of a name that a plan finds
 module _ (plan : PlanView) (formed : IsPlan plan) (name : List ℕ) (define : Define Raw) (found : IsFound (project_in plan) name define) (m : Automaton Pair) where
-  d : Definition
+  abbrev pub d : Definition
   d = defined define
 
-  table : List (List ℕ)
+  abbrev pub table : List (List ℕ)
   table = texts_of plan.alphabet
 
   held : (text : List ℕ) → Contains (symbols_in d.term) text → Contains table text
-  held text among = All-contains (Contains table) (symbols_in d.term) found.compiled.symbols text among
+  held text among = All-contains (Contains table) (symbols_in d.term) text found.compiled.symbols among
 
   -- its relation is the name's
   one_meaning : (u w : List (List ℕ)) → Meaning (project_in plan) name u w ↔ Relates symbol_of table d.term u w

@@ -1,10 +1,38 @@
-use Rattle.std.proofs.Common.{refl}
-use Rattle.fsm_program.specs.Ends.{no_memory}
+use Rattle.std.proofs.Common.{refl, inl, inr}
+use Rattle.project_model.specs.Plans.{project_in}
+use Rattle.fsm_program.specs.Ends.{for_look, no_memory}
 use Rattle.fsm_program.proofs.Endings.{most_read_is, told_most, ends_answered, ends_unloaded}
 use Rattle.fsm_program.proofs.program.look_up.Goals as goal
+
+pub returns-in_default-clause-ends : goal.returns-in_default-clause-ends
+returns-in_default-clause-ends g c = no_memory (for_look _) refl tt refl refl refl
+
+pub returns-in_default-open-clause-ends : goal.returns-in_default-open-clause-ends
+returns-in_default-open-clause-ends g c = no_memory (for_look _) refl tt refl refl refl
 
 pub load-requires : goal.load-requires
 load-requires g c = most_read_is
 
 pub answered-requires-clause-start : goal.answered-requires-clause-start
 answered-requires-clause-start g c = told_most c.in-Ok.lines c.in-Ok.ensures.told
+
+pub returns-in-Err-clause-ends : goal.returns-in-Err-clause-ends
+returns-in-Err-clause-ends g c = ends_unloaded (for_look _) tt _ _ _ _ _ _ _ c.in-Err.error c.in-Err.ensures.error c.not_loaded.ensures.ends
+
+pub returns-in-Ok-of-clause-ends : goal.returns-in-Ok-of-clause-ends
+returns-in-Ok-of-clause-ends g c =
+    let project = project_in c.in-Ok-load.plan in
+    ends_answered _ _ _ _ _ _ _ _ _ project c.in-Ok-of.network.name c.in-Ok-load.ensures.loaded c.in-Ok-of.ensures.name (c.answered.ensures.answered project c.in-Ok-of.ensures.shows)
+
+pub returns-in-Ok-of-clause-unread : goal.returns-in-Ok-of-clause-unread
+returns-in-Ok-of-clause-unread g c either =
+    absurd (elim either as (λ _. ⊥) [
+      | inl one ↦ c.answered.ensures.status.0 one
+      | inr others ↦ elim others as (λ _. ⊥) [ inl two ↦ c.answered.ensures.status.1 two | inr five ↦ c.answered.ensures.status.2 five ]
+    ])
+
+pub returns-in-Ok-of-clause-read : goal.returns-in-Ok-of-clause-read
+returns-in-Ok-of-clause-read g c three = inr (c.answered.ensures.read three)
+
+pub returns-clause-ends : goal.returns-clause-ends
+returns-clause-ends g c = no_memory (for_look _) refl tt refl refl refl
