@@ -13,7 +13,6 @@ use Rattle.project_model.specs.Plans.{AreNames}
 use Rattle.reply_text.specs.Projects.{accepted_line, refused_line}
 use Rattle.fsm_program.specs.Ends.{Ends, Asked, for_check, for_look, for_help, Loads, Query, no_words, helped, refused, folder_failed, no_memory, checked, answered, IsAnswered, IsNotLoaded, IsSaid, usage_text, status_of}
 use Rattle.fsm_program.specs.Files.{Reads, IsLoaded, IsLoadError, most_read}
-use Rattle.fsm_program.specs.Networks.{NetworkView, Shows}
 use Rattle.fsm_program.specs.Running.{most_taken}
 use Rattle.fsm_program.proofs.Loading.{one_reading}
 use Rattle.fsm_program.specs.declared.load.LoadError.{LoadError}

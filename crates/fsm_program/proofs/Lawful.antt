@@ -2,12 +2,12 @@
 use Rattle.std.proofs.Common.{◌≡◌, ◌↔◌, ◌++◌, ℕ, ◌==◌, Bool, true, false, cond, List, [], ◌∷◌, Some, None, Ok, Err, IfOk, Result, codes, decimal, refl, sym, ap, subst, ◌∙◌, inl, inr, slice_get, arith, suc, Contains}
 use Rattle.std.proofs.lemmas.Bool.Decides.{nat_tests}
 use Rattle.std.proofs.lemmas.List.Elements.{All-head, All-tail, All-weaker, All-contains_itself}
-use Rattle.fsm_words.specs.Words.{joined, IsOver}
-use Rattle.fsm_words.proofs.Members.{Contains-nil_cases, Contains-head, Contains-cons_cases}
+use Rattle.fsm_words.specs.Words.{IsOver}
+use Rattle.fsm_words.proofs.Members.{Contains-nil_cases, Contains-cons_cases}
 use Rattle.fsm_base.specs.declared.letters.Sym.{Sym}
 use Rattle.fsm_base.specs.Alphabet.{IsAlphabet, symbols_of, texts_of, text_of, spelled}
 use Rattle.fsm_base.specs.Cut.{cut}
-use Rattle.fsm_meaning.specs.Answers.{Texts, Answers, Found, strings, more, loop, times}
+use Rattle.fsm_meaning.specs.Answers.{Answers, Found, strings, more, loop, times}
 use Rattle.fsm_meaning.specs.declared.direction.Direction.{Direction}
 use Rattle.fsm_meaning.specs.declared.direction.Direction.TheVariants.{Up, Down}
 use Rattle.fsa.specs.Automaton.{Automaton}

@@ -1,15 +1,13 @@
 -- What the files read say of the project, as far as they are told.
 use Rattle.std.proofs.Common.{◌≡◌, ℕ, ◌<◌, ◌≤◌, ◌+◌, List, length, take, Some, None, Option, Ok, Err, IfOk, IfErr, Result, refl, sym, ap, subst, ◌∙◌, arith, lit<}
 use Rattle.std.proofs.lemmas.List.{length-take, take_all}
-use Rattle.fsm_base.specs.Normal.{source_text, IsWhyNoText}
-use Rattle.fsm_base.specs.declared.normalize.TextError.{TextError}
+use Rattle.fsm_base.specs.Normal.{source_text}
 use Rattle.fsm_base.specs.declared.normalize.TextError.TheVariants.{NotUtf8, Control}
 use Rattle.fsm_io.specs.Folders.{Files, file_of, Finds, Told}
 use Rattle.fsm_io.specs.declared.folder.Found.TheVariants.{Bytes, Missing}
 use Rattle.std.specs.declared.vec.Vec.{Vec}
 use Rattle.std.specs.declared.alloc.Global.{Global}
 use Rattle.regex_ast.specs.declared.fault.Fault.{Fault}
-use Rattle.regex_ast.specs.declared.fault.Why.{Why}
 use Rattle.regex_ast.specs.declared.fault.Why.TheVariants as why
 use Rattle.regex_reader.specs.Files.{Statement, FaultAt, ReadsAs}
 use Rattle.fsm_meaning.specs.Projects.{Project}

@@ -1,6 +1,5 @@
 -- Statements say one thing together.
-use Rattle.std.proofs.Common.{◌≡◌, ◌⊎◌, ℕ, ◌+◌, ◌<◌, ◌≤◌, ◌++◌, List, [], ◌∷◌, length, map, slice_get, Some, Contains, All, Result, Ok, Err, refl, sym, ap, subst, ◌∙◌, inl, inr, arith, length-append}
-use Rattle.std.proofs.lemmas.List.{map-append}
+use Rattle.std.proofs.Common.{◌≡◌, ℕ, ◌+◌, ◌<◌, ◌≤◌, ◌++◌, List, [], ◌∷◌, length, Contains, All, Result, Err, refl, sym, ap, subst, ◌∙◌, arith, length-append}
 use Rattle.std.proofs.lemmas.List.Elements.{All-contains, Contains-append_right}
 use Rattle.std.proofs.lemmas.Option.{slice_get_within}
 use Rattle.fsm_words.specs.Words.{IsDistinct}
@@ -10,7 +9,7 @@ use Rattle.regex_ast.specs.declared.fault.Fault.{Fault}
 use Rattle.regex_ast.specs.declared.fault.Why.TheVariants as why
 use Rattle.regex_reader.specs.Files.{Statement, FaultAt}
 use Rattle.fsm_meaning.specs.Projects.{Project}
-use Rattle.project_model.specs.Together.{SayTogether, names, symbols, not_built, whole, HaveNames, NameFault, again, too_many, FirstNotBuilt, IsCompiledIn, defined_by, definition_of, fault, most_names}
+use Rattle.project_model.specs.Together.{SayTogether, names, symbols, not_built, whole, HaveNames, NameFault, again, too_many, FirstNotBuilt, IsCompiledIn, defined_by, fault}
 
 -- one of two fronts of a list, each with what stands behind it, is the shorter, if they aren't the same
 data Parted {X : Type 0} (front other : List X) (x y : X) : Type 0 where

@@ -5,7 +5,6 @@ use Rattle.fsm_base.specs.Normal.{source_text}
 use Rattle.fsm_base.specs.declared.normalize.TextError.TheVariants.{NotUtf8, Control}
 use Rattle.fsm_io.specs.Folders.{Files, file_of, Told}
 use Rattle.regex_ast.specs.declared.fault.Fault.{Fault}
-use Rattle.regex_ast.specs.declared.fault.Why.{Why}
 use Rattle.regex_ast.specs.declared.fault.Why.TheVariants as why
 use Rattle.regex_reader.specs.Files.{Statement, FaultAt, ReadsAs}
 use Rattle.fsm_meaning.specs.Projects.{Project}

@@ -1,5 +1,4 @@
 use Rattle.std.proofs.Common.{ℕ, Vec, Global}
-use Rattle.lookup.specs.Answering.{found_of}
 use Rattle.fsm_program.proofs.Lawful.{if_ok, lawful, lawful_stop}
 use Rattle.fsm_program.proofs.answers.reply_in.Goals as goal
 
