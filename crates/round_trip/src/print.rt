@@ -45,7 +45,8 @@ fn print_suffix(out: &mut String, suffix: Suffix) -> Result<(), AllocError> {
         Suffix::Inverse => out.push_str(".i "),
         Suffix::Reverse => out.push_str(".r "),
         Suffix::Power(times) => {
-            let power = format!(in out.allocator(); "^{times} ")?;
+            let alloc = *out.allocator();
+            let power = format!(in alloc; "^{times} ")?;
             out.push_str(power.as_str())
         }
     }
@@ -135,11 +136,11 @@ fn print_between(
 /// Writes operands with a sign between them.
 #[cycle(print)]
 fn print_row(out: &mut String, operands: &[Expr<Raw>], sign: &str) -> Result<(), AllocError> {
-    let mut between = "";
-    'operands: for operand in operands {
-        out.push_str(between)?;
+    'operands: for (place, operand) in operands.iter().enumerate() {
+        if place > 0 {
+            out.push_str(sign)?;
+        }
         print_expression(out, operand)?;
-        between = sign;
     }
     Ok(())
 }
@@ -174,12 +175,10 @@ fn print_contexts(
     sign: &str,
     contexts: &[Context<Raw>],
 ) -> Result<(), AllocError> {
-    let mut between = sign;
-    'contexts: for context in contexts {
-        out.push_str(between)?;
+    'contexts: for (place, context) in contexts.iter().enumerate() {
+        out.push_str(if place == 0 { sign } else { ", " })?;
         print_expression(out, &context.left)?;
         print_between(out, "_ ", &context.right, "")?;
-        between = ", ";
     }
     Ok(())
 }
@@ -187,22 +186,22 @@ fn print_contexts(
 #[cycle(print)]
 fn print_rules(out: &mut String, rules: &RuleSet<Raw>) -> Result<(), AllocError> {
     let arrow = if rules.optional { "(->) " } else { "-> " };
-    let mut between = "";
-    'groups: for group in &rules.groups {
-        out.push_str(between)?;
+    'groups: for (place, group) in rules.groups.iter().enumerate() {
+        if place > 0 {
+            out.push_str(",, ")?;
+        }
         print_group(out, arrow, group)?;
-        between = ",, ";
     }
     Ok(())
 }
 
 #[cycle(print)]
 fn print_group(out: &mut String, arrow: &str, group: &Group<Raw>) -> Result<(), AllocError> {
-    let mut between = "";
-    'maps: for mapping in &group.maps {
-        out.push_str(between)?;
+    'maps: for (place, mapping) in group.maps.iter().enumerate() {
+        if place > 0 {
+            out.push_str(", ")?;
+        }
         print_mapping(out, arrow, mapping)?;
-        between = ", ";
     }
     let sign = match group.side {
         Side::UpUp => "|| ",
