@@ -3,6 +3,8 @@
 #![tactic(auto)]
 
 mod print;
+#[cfg(test)]
+mod tests;
 
 use crate::print::print_expression;
 use regex_ast::{Define, Raw, ReadError};
