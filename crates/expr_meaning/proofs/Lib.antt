@@ -1,0 +1,4 @@
+pub mod Inner
+pub mod Itself
+pub mod Languages
+pub mod Operators
