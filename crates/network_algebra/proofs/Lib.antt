@@ -1,0 +1,6 @@
+pub mod RenamedWords
+pub mod EdgedWords
+pub mod WordAlone
+pub mod Steps
+pub mod Counted
+pub mod Meanings

@@ -1,0 +1,18 @@
+use Rattle.network_algebra.proofs.Meanings.{concat_of_words, concat_of_pairs, letters_of_words, symbols_of_pairs}
+use Rattle.network_algebra.proofs.joining.concat.Goals as goal
+
+pub returns-in_ok-concat-in-Words-clause-letters : goal.returns-in_ok-concat-in-Words-clause-letters
+returns-in_ok-concat-in-Words-clause-letters c =
+    letters_of_words c.args.a c.args.b c.in_ok-x.field-0 c.in_ok-x.ensures c.in-Words.x c.in-Words.y c.in_ok-concat-in-Words.field-0 c.in-Words.is c.in_ok-concat-in-Words.ensures.letters
+
+pub returns-in_ok-concat-in-Words-clause-meaning : goal.returns-in_ok-concat-in-Words-clause-meaning
+returns-in_ok-concat-in-Words-clause-meaning c =
+    concat_of_words c.args.a c.args.b c.in_ok-x.field-0 c.in_ok-x.ensures c.in-Words.x c.in-Words.y c.in_ok-concat-in-Words.field-0 c.in-Words.is c.in_ok-concat-in-Words.ensures.language
+
+pub returns-in_ok-concat-in-Pairs-clause-letters : goal.returns-in_ok-concat-in-Pairs-clause-letters
+returns-in_ok-concat-in-Pairs-clause-letters c =
+    symbols_of_pairs c.args.a c.args.b c.in_ok-x.field-0 c.in_ok-x.ensures c.in-Pairs.x c.in-Pairs.y c.in_ok-concat-in-Pairs.field-0 c.in-Pairs.is c.in_ok-concat-in-Pairs.ensures.letters
+
+pub returns-in_ok-concat-in-Pairs-clause-meaning : goal.returns-in_ok-concat-in-Pairs-clause-meaning
+returns-in_ok-concat-in-Pairs-clause-meaning c =
+    concat_of_pairs c.args.a c.args.b c.in_ok-x.field-0 c.in_ok-x.ensures c.in-Pairs.x c.in-Pairs.y c.in_ok-concat-in-Pairs.field-0 c.in-Pairs.is c.in_ok-concat-in-Pairs.ensures.language

@@ -1,0 +1,32 @@
+ghost use Rattle.std.specs.Prelude.{◌≡◌, ◌⊎◌, IfOk, List};
+ghost use Rattle.fsm_base.specs.declared.letters.Sym.{Sym};
+ghost use Rattle.fsm_words.specs.Words.{IsConcatenation};
+ghost use Rattle.fsm_words.specs.Relations.{IsConcatenationOfPairs};
+ghost use Rattle.expr_forms.specs.Kinds.{both};
+ghost use Rattle.network_algebra.specs.Networks.{IsFor, IsNetwork, PairsOf, WordsOf, kind_of_network};
+
+use crate::network::Network;
+use crate::operands::{Operands, alike};
+use std::alloc::{AllocError, Global};
+
+/// What one network and then another is.
+pub fn concat(alloc: Global, a: Network, b: Network) -> Result<Network, AllocError>
+    ensures letters { IfOk result (λ n. (symbols : List Sym) → IsNetwork symbols a → IsNetwork symbols b → IsNetwork symbols n) }
+    ensures meaning { IfOk result (IsFor (both (kind_of_network a) (kind_of_network b)) (IsConcatenation (WordsOf a) (WordsOf b)) (IsConcatenationOfPairs (PairsOf a) (PairsOf b))) }
+{
+    match alike(alloc, a, b)? {
+        Operands::Words(x, y) => Ok(Network::Words(fsa_rational::concat(alloc, &x, &y)?)),
+        Operands::Pairs(x, y) => Ok(Network::Pairs(fsa_rational::concat(alloc, &x, &y)?)),
+    }
+}
+
+/// What either of two networks is.
+pub fn union(alloc: Global, a: Network, b: Network) -> Result<Network, AllocError>
+    ensures letters { IfOk result (λ n. (symbols : List Sym) → IsNetwork symbols a → IsNetwork symbols b → IsNetwork symbols n) }
+    ensures meaning { IfOk result (IsFor (both (kind_of_network a) (kind_of_network b)) (λ w. WordsOf a w ⊎ WordsOf b w) (λ u w. PairsOf a u w ⊎ PairsOf b u w)) }
+{
+    match alike(alloc, a, b)? {
+        Operands::Words(x, y) => Ok(Network::Words(fsa_rational::union(alloc, &x, &y)?)),
+        Operands::Pairs(x, y) => Ok(Network::Pairs(fsa_rational::union(alloc, &x, &y)?)),
+    }
+}

@@ -1,0 +1,27 @@
+//! Networks, as the operators of expressions make them of networks (Beesley and Karttunen, Finite State Morphology, 2003,
+//! section 2.3). Read `specs/Networks.antt` first.
+//!
+//! - [`Network`]: the automaton of a language or the transducer of a relation.
+//! - [`word`], [`one_of`]: automata of leaves.
+//! - [`concat`], [`union`], [`repeated`]: of languages and of relations; a language beside a relation stands for its
+//!   identity.
+//! - [`upper`], [`lower`], [`inverse`], [`reversed`], [`cross`]: what turns one kind into the other, or the sides.
+#![tactic(auto)]
+
+mod joining;
+mod letters;
+mod network;
+mod operands;
+mod renaming;
+mod repeating;
+mod sides;
+mod words;
+
+pub use joining::{concat, union};
+pub use letters::{every_letter, inner_letters, inside, with_edge};
+pub use network::Network;
+pub use operands::{Operands, alike};
+pub use renaming::{Renaming, renamed};
+pub use repeating::{Times, repeated};
+pub use sides::{cross, inverse, lower, reversed, upper};
+pub use words::{one_of, word};

@@ -1,0 +1,65 @@
+ghost use Rattle.std.specs.Prelude.{◌≡◌, ◌↔◌, IfOk, List};
+ghost use Rattle.fsm_base.specs.declared.letters.Sym.{Sym};
+ghost use Rattle.fsm_words.specs.Relations.{IsRepetitionOfPairs};
+ghost use Rattle.fsa.specs.Automaton.{UsesLetter};
+ghost use Rattle.fsa.specs.Language.{Accepts};
+ghost use Rattle.expr_meaning.specs.Operators.{IsRepetitionOf, Just};
+ghost use Rattle.network_algebra.specs.Networks.{Counts, IsFor, IsNetwork, PairsOf, WordsOf, kind_of_network};
+
+use crate::network::Network;
+use crate::words::word;
+use fsa::Fsa;
+use fsa_rational::{concat, star};
+use fsm_base::Letter;
+use std::alloc::{AllocError, Global};
+
+/// How often an operand stands.
+#[derive(Clone, Copy, Debug, PartialEq, Eq)]
+pub enum Times {
+    /// Any number of times.
+    Any,
+    /// Once or more.
+    OneOrMore,
+    /// Just so often.
+    Exactly(u32),
+}
+
+/// What a network repeated so often is.
+pub fn repeated(alloc: Global, network: Network, times: Times) -> Result<Network, AllocError>
+    ensures letters { IfOk result (λ n. (symbols : List Sym) → IsNetwork symbols network → IsNetwork symbols n) }
+    ensures meaning { IfOk result (IsFor (kind_of_network network) (IsRepetitionOf (Counts times) (WordsOf network)) (IsRepetitionOfPairs (Counts times) (PairsOf network))) }
+{
+    match network {
+        Network::Words(m) => Ok(Network::Words(repeat(alloc, &m, times)?)),
+        Network::Pairs(m) => Ok(Network::Pairs(repeat(alloc, &m, times)?)),
+    }
+}
+
+/// The automaton of so many words of `m`, joined.
+fn repeat<L: Letter>(alloc: Global, m: &Fsa<L>, times: Times) -> Result<Fsa<L>, AllocError>
+    ensures letters { IfOk result (λ p. (x : L) → UsesLetter p x → UsesLetter m.now x) }
+    ensures language { IfOk result (λ p. (w : List L) → Accepts p w ↔ IsRepetitionOf (Counts times) (Accepts m.now) w) }
+{
+    match times {
+        Times::Any => star(alloc, m),
+        Times::OneOrMore => concat(alloc, m, &star(alloc, m)?),
+        Times::Exactly(count) => power(alloc, m, count),
+    }
+}
+
+/// The automaton of just so many words of `m`, joined. Takes time in proportion to its size, since it joins two
+/// halves.
+fn power<L: Letter>(alloc: Global, m: &Fsa<L>, count: u32) -> Result<Fsa<L>, AllocError>
+    ensures letters { IfOk result (λ p. (x : L) → UsesLetter p x → UsesLetter m.now x) }
+    ensures language { IfOk result (λ p. (w : List L) → Accepts p w ↔ IsRepetitionOf (Just count) (Accepts m.now) w) }
+{
+    if count == 0 {
+        return word(alloc, &[]);
+    }
+    let half = power(alloc, m, count / 2)?;
+    let twice = concat(alloc, &half, &half)?;
+    if count % 2 == 0 {
+        return Ok(twice);
+    }
+    concat(alloc, &twice, m)
+}

@@ -1,0 +1,62 @@
+ghost use Rattle.std.specs.Prelude.{◌≡◌, IfOk, List, reverse};
+ghost use Rattle.fsm_base.specs.declared.letters.Sym.{Sym};
+ghost use Rattle.fsa.specs.Language.{Accepts};
+ghost use Rattle.fst_algebra.specs.Relations.{IsUpper, IsLower, IsInverse};
+ghost use Rattle.expr_forms.specs.declared.form.Kind.{Kind};
+ghost use Rattle.expr_meaning.specs.Operators.{inner, WithEdge};
+ghost use Rattle.network_algebra.specs.Networks.{IsFor, IsNetwork, PairsOf, UsesOnly, WordsOf, all_letters, kind_of_network};
+
+use crate::letters::{inside, with_edge};
+use crate::network::Network;
+use fsa::Fsa;
+use fsm_base::{Bound, Sym};
+use std::alloc::{AllocError, Global};
+
+/// The language on the upper side.
+pub fn upper(alloc: Global, network: Network) -> Result<Network, AllocError>
+    ensures letters { IfOk result (λ n. (symbols : List Sym) → IsNetwork symbols network → IsNetwork symbols n) }
+    ensures meaning { IfOk result (IsFor Kind.Language (WithEdge (IsUpper (PairsOf network))) (λ u w. IsUpper (PairsOf network) u × (u ≡ w))) }
+{
+    let side = fst_algebra::upper(alloc, &network.into_pairs(alloc)?)?;
+    Ok(Network::Words(with_edge(alloc, &side)?))
+}
+
+/// The language on the lower side.
+pub fn lower(alloc: Global, network: Network) -> Result<Network, AllocError>
+    ensures letters { IfOk result (λ n. (symbols : List Sym) → IsNetwork symbols network → IsNetwork symbols n) }
+    ensures meaning { IfOk result (IsFor Kind.Language (WithEdge (IsLower (PairsOf network))) (λ u w. IsLower (PairsOf network) u × (u ≡ w))) }
+{
+    let side = fst_algebra::lower(alloc, &network.into_pairs(alloc)?)?;
+    Ok(Network::Words(with_edge(alloc, &side)?))
+}
+
+/// The network with its sides exchanged; a language stays as it is.
+pub fn inverse(alloc: Global, network: Network) -> Result<Network, AllocError>
+    ensures letters { IfOk result (λ n. (symbols : List Sym) → IsNetwork symbols network → IsNetwork symbols n) }
+    ensures meaning { IfOk result (IsFor (kind_of_network network) (WordsOf network) (IsInverse (PairsOf network))) }
+{
+    match network {
+        Network::Words(m) => Ok(Network::Words(m)),
+        Network::Pairs(m) => Ok(Network::Pairs(fst_algebra::inverse(alloc, &m)?)),
+    }
+}
+
+/// The network read backwards.
+pub fn reversed(alloc: Global, network: Network) -> Result<Network, AllocError>
+    ensures letters { IfOk result (λ n. (symbols : List Sym) → IsNetwork symbols network → IsNetwork symbols n) }
+    ensures meaning { IfOk result (IsFor (kind_of_network network) (λ w. WordsOf network (reverse w)) (λ u w. PairsOf network (reverse u) (reverse w))) }
+{
+    match network {
+        Network::Words(m) => Ok(Network::Words(fsa_rational::reverse(alloc, &m)?)),
+        Network::Pairs(m) => Ok(Network::Pairs(fsa_rational::reverse(alloc, &m)?)),
+    }
+}
+
+/// The relation of each word of one language, as far as they are without the edge, to each of another.
+pub fn cross(alloc: Global, a: &Fsa<Bound<Sym>>, b: &Fsa<Bound<Sym>>) -> Result<Network, AllocError>
+    ensures letters { IfOk result (λ n. (symbols : List Sym) → UsesOnly (all_letters symbols) a.now → UsesOnly (all_letters symbols) b.now → IsNetwork symbols n) }
+    ensures meaning { IfOk result (IsFor Kind.Relation (λ w. Accepts a.now w × Accepts b.now w) (λ u w. Accepts a.now (inner u) × Accepts b.now (inner w))) }
+{
+    let pairs = fst_algebra::cross(alloc, &inside(alloc, a)?, &inside(alloc, b)?)?;
+    Ok(Network::Pairs(pairs))
+}
