@@ -16,8 +16,6 @@ mod manifest;
 mod network;
 mod program;
 mod reply;
-#[cfg(test)]
-mod tests;
 mod words;
 
 pub use program::run;
