@@ -1,0 +1,55 @@
+ghost use Rattle.std.specs.Prelude.{◌↔◌, IfOk, List};
+ghost use Rattle.fsm_base.specs.declared.letters.Bound.{Bound};
+ghost use Rattle.fsm_base.specs.declared.letters.Sym.{Sym};
+ghost use Rattle.fsm_words.specs.Words.{IsDistinct};
+ghost use Rattle.fsa.specs.Language.{Accepts};
+ghost use Rattle.expr_meaning.specs.Operators.{ArePrefixed, IsNotOne};
+ghost use Rattle.network_algebra.specs.Networks.{UsesOnly, all_letters};
+
+use fsa::Fsa;
+use fsm_base::{Bound, Sym};
+use network_sets::{not_one, prefixed};
+use regex_ast::Prefix;
+use std::alloc::{AllocError, Global};
+
+/// A language with prefixes, of which the last stands at it. They are taken by halves, so that a long row is no deep
+/// recursion.
+pub fn with_prefixes(
+    alloc: Global,
+    alphabet: &[Sym],
+    prefixes: &[Prefix],
+    words: Fsa<Bound<Sym>>,
+) -> Result<Fsa<Bound<Sym>>, AllocError>
+    requires distinct { IsDistinct alphabet.now }
+    requires only { UsesOnly (all_letters alphabet.now) words }
+    ensures letters { IfOk result (UsesOnly (all_letters alphabet.now)) }
+    ensures words { IfOk result (λ m. (w : List (Bound Sym)) → Accepts m w ↔ ArePrefixed alphabet.now prefixes.now (Accepts words) w) }
+{
+    match prefixes {
+        [] => Ok(words),
+        [prefix] => prefixed(alloc, alphabet, *prefix, &words),
+        _ => {
+            let (front, back) = prefixes.split_at(prefixes.len() / 2);
+            let inner = with_prefixes(alloc, alphabet, back, words)?;
+            with_prefixes(alloc, alphabet, front, inner)
+        }
+    }
+}
+
+/// A language with so many backslashes.
+pub fn not_one_times(
+    alloc: Global,
+    alphabet: &[Sym],
+    count: u32,
+    mut words: Fsa<Bound<Sym>>,
+) -> Result<Fsa<Bound<Sym>>, AllocError>
+    requires distinct { IsDistinct alphabet.now }
+    requires only { UsesOnly (all_letters alphabet.now) words }
+    ensures letters { IfOk result (UsesOnly (all_letters alphabet.now)) }
+    ensures words { IfOk result (λ m. (w : List (Bound Sym)) → Accepts m w ↔ IsNotOne alphabet.now count (Accepts words) w) }
+{
+    'times: for _ in 0..count {
+        words = not_one(alloc, alphabet, &words)?;
+    }
+    Ok(words)
+}

@@ -1,0 +1,19 @@
+//! What the operators of expressions make of languages alone, over the symbols of an alphabet and the edge of the word
+//! (Beesley and Karttunen, Finite State Morphology, 2003, sections 2.3 and 2.4), and composition.
+//!
+//! - [`language`]: a language over these letters.
+//! - [`both`], [`minus`], [`ignoring`], [`prefixed`], [`not_one`]: sets of words.
+//! - [`composed`]: composition, which of languages is [`both`].
+//! - [`restricted`]: the words in which each part that is in a language stands at an allowed place. Places are split
+//!   words ([`Split`]), and [`in_context`] gives those in a context.
+#![tactic(auto)]
+
+mod composing;
+mod parts;
+mod restricting;
+mod sets;
+
+pub use composing::composed;
+pub use parts::Split;
+pub use restricting::{in_context, restricted};
+pub use sets::{both, ignoring, language, minus, not_one, prefixed};
