@@ -89,22 +89,98 @@ impl Row {
         Ok(MemoryFolder::new(files, fails))
     }
 
-    /// Runs the row: its name, the status, and what was written.
-    pub fn outcome(&self, alloc: Global) -> Result<String, AllocError> {
+    /// The status and what was written for these words and this input.
+    fn answer(
+        &self,
+        alloc: Global,
+        words: &[String],
+        input: &[u8],
+    ) -> Result<(u8, Vec<u8>), AllocError> {
         let mut folder = self.folder(alloc)?;
-        let mut input = MemorySource::new(
-            Vec::from_slice(alloc, &self.input)?,
+        let mut source = MemorySource::new(
+            Vec::from_slice(alloc, input)?,
             self.sizes[0].max(1),
             Vec::from_slice(alloc, &[self.fails[1]])?,
         );
-        let mut output = MemorySink::new(
+        let mut sink = MemorySink::new(
             alloc,
             self.sizes[2],
             self.sizes[1].max(1),
             Vec::from_slice(alloc, &[self.fails[2]])?,
         )?;
-        let status = run(alloc, &self.words, &mut folder, &mut input, &mut output);
-        let written = shown(alloc, output.bytes())?;
+        let status = run(alloc, words, &mut folder, &mut source, &mut sink);
+        Ok((status, Vec::from_slice(alloc, sink.bytes())?))
+    }
+
+    /// Runs the row: its name, the status, and what was written.
+    pub fn outcome(&self, alloc: Global) -> Result<String, AllocError> {
+        let (status, written) = self.answer(alloc, &self.words, &self.input)?;
+        let written = shown(alloc, &written)?;
         format!(in alloc; "{} {status} {}", self.name.as_str(), written.as_str())
     }
+
+    /// The row's words, the first of which is `down` now.
+    fn down_words(&self, alloc: Global) -> Result<Vec<String>, AllocError> {
+        let mut words = Vec::new(alloc);
+        words.push(String::from_str(alloc, "down")?)?;
+        for word in self.words.iter().skip(1) {
+            words.push(String::from_str(alloc, word.as_str())?)?;
+        }
+        Ok(words)
+    }
+
+    /// Runs a row that looks up one word: its name, and whether the reply is a loop that goes round, and `down` gives the
+    /// word alone for the three shortest words that the loop stands for.
+    pub fn loop_outcome(&self, alloc: Global) -> Result<String, AllocError> {
+        let (_, reply) = self.answer(alloc, &self.words, &self.input)?;
+        let words = turned(alloc, &reply)?;
+        let (_, lower) = self.answer(alloc, &self.down_words(alloc)?, &words)?;
+        let wanted = each_with(alloc, &words, &self.input)?;
+        let is_lawful = reply.starts_with(b"1 loop ") && goes_round(&reply) && lower == wanted;
+        let verdict = if is_lawful {
+            "a lawful loop"
+        } else {
+            "no lawful loop"
+        };
+        format!(in alloc; "{} {verdict}", self.name.as_str())
+    }
+}
+
+/// A line of bytes, counted from 0; empty where there is none.
+fn line(bytes: &[u8], number: usize) -> &[u8] {
+    bytes
+        .split(|byte| *byte == b'\n')
+        .nth(number)
+        .unwrap_or(&[])
+}
+
+/// Whether the round of a loop's reply, its third line, is a text.
+fn goes_round(reply: &[u8]) -> bool {
+    !line(reply, 2).is_empty()
+}
+
+/// The three shortest words that a loop's reply stands for, one a line: before, round none to two times, and after.
+fn turned(alloc: Global, reply: &[u8]) -> Result<Vec<u8>, AllocError> {
+    let mut words = Vec::new(alloc);
+    for turns in 0usize..3 {
+        words.extend_from_slice(line(reply, 1))?;
+        for _ in 0..turns {
+            words.extend_from_slice(line(reply, 2))?;
+        }
+        words.extend_from_slice(line(reply, 3))?;
+        words.push(b'\n')?;
+    }
+    Ok(words)
+}
+
+/// The replies to three words, each with this one answer.
+fn each_with(alloc: Global, words: &[u8], answer: &[u8]) -> Result<Vec<u8>, AllocError> {
+    let mut replies = Vec::new(alloc);
+    for word in words.split(|byte| *byte == b'\n').take(3) {
+        replies.extend_from_slice(b"1 1 ")?;
+        replies.extend_from_slice(word)?;
+        replies.push(b'\n')?;
+        replies.extend_from_slice(answer)?;
+    }
+    Ok(replies)
 }
