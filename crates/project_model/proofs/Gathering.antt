@@ -12,7 +12,7 @@ use Rattle.fsm_meaning.specs.Projects.{listed, listed_each, listed_links, listed
 use Rattle.project_model.specs.Gathered.{gathered}
 use Rattle.project_model.specs.Together.{most_symbols}
 
-with_texts-append : (table first second : List (List ℕ)) → with_texts table (first ++ second) ≡ with_texts (with_texts table first) second
+pub with_texts-append : (table first second : List (List ℕ)) → with_texts table (first ++ second) ≡ with_texts (with_texts table first) second
 with_texts-append table [] second = refl
 with_texts-append table (text ∷ first) second = with_texts-append (with_text text table) first second
 
@@ -147,3 +147,15 @@ module _ {A B : Type 0} (of : A → List B) where
     groups_is (then_group maps side contexts groups) =
         two (listed_mappings alone maps ++ listed_contexts alone contexts) (listed_groups alone groups) _ _
         (two (listed_mappings alone maps) (listed_contexts alone contexts) _ _ (mappings_is maps) (contexts_is contexts)) (groups_is groups)
+
+-- one text more, where a table has no room, and where it has
+module _ (text : List ℕ) (table : List (List ℕ)) where
+  pub text_full : length table ≤ most_symbols + 1 → most_symbols < length table → table ≡ gathered table (text ∷ [])
+  text_full short many = sym (full (most_symbols + 1) (text ∷ []) table (omega arith) ∙ take_all (most_symbols + 1) table short)
+
+  pub text_added : (now : List (List ℕ)) → length table ≤ most_symbols → now ≡ with_text text table → now ≡ gathered table (text ∷ [])
+  text_added now room now_is = now_is ∙ sym (take_all (most_symbols + 1) (with_text text table) (few (list_any (bytes_eq text) table)))
+    where
+      few : (b : Bool) → length (cond b table (table ++ text ∷ [])) ≤ most_symbols + 1
+      few true = omega arith
+      few false = omega (arith, length-append table (text ∷ []))

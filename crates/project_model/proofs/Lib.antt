@@ -1,5 +1,7 @@
 mod Behind
+mod Filed
 mod Parts
+mod Rowed
 mod Texts
 mod NameSteps
 mod Gathering
@@ -7,3 +9,5 @@ mod BuiltRows
 pub mod Alphabets
 mod Ordered
 mod Planning
+mod Projecting
+mod Reading

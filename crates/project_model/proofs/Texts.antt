@@ -1,5 +1,5 @@
 -- Whether a list of texts has a text, and at which place.
-use Rattle.std.proofs.Common.{◌≡◌, ℕ, ◌+◌, Bool, true, false, cond, not, suc, ◌||◌, List, [], ◌∷◌, ◌++◌, map, Option, Some, None, MatchOption, slice_get, refl, sym, ap, subst, ◌∙◌, inl, inr, true≢false, arith, String}
+use Rattle.std.proofs.Common.{◌≡◌, ℕ, ◌+◌, ◌≤◌, Bool, true, false, cond, not, suc, ◌||◌, List, [], ◌∷◌, ◌++◌, map, length, Option, Some, None, MatchOption, slice_get, refl, sym, ap, subst, ◌∙◌, inl, inr, true≢false, arith, length-append, String}
 use Rattle.std.proofs.lemmas.List.Elements.{Contains-append_right}
 use Rattle.std.proofs.lemmas.Option.{cond_some}
 use Rattle.std.proofs.lemmas.Slice.Eq.{bytes_eq-Decides}
@@ -8,6 +8,7 @@ use Rattle.std.specs.Option.{is_some}
 use Rattle.std.specs.Str.{bytes_eq}
 use Rattle.std.specs.String.{string_bytes}
 use Rattle.fsm_base.specs.Symbols.{number_of, with_text}
+use Rattle.project_model.specs.Together.{number_among}
 use Rattle.fsm_base.proofs.TableLemmas.{list_any-strings, position_or_len-strings}
 use Rattle.fsm_words.proofs.Members.{Contains-nil_cases, Contains-head, Contains-tail, Contains-cons_cases}
 
@@ -37,6 +38,24 @@ not_had text texts none among = absurd (true≢false (sym (any_from_has text tex
 
 pub with_text-new : (text : List ℕ) (texts : List (List ℕ)) → list_any (bytes_eq text) texts ≡ false → with_text text texts ≡ texts ++ text ∷ []
 with_text-new text texts none = ap (λ b. cond b texts (texts ++ text ∷ [])) none
+
+pub one_longer : (text : List ℕ) (texts : List (List ℕ)) (most : ℕ) → length texts ≤ most → length (with_text text texts) ≤ most + 1
+one_longer text texts most few = by (list_any (bytes_eq text) texts)
+  where
+    by : (b : Bool) → length (cond b texts (texts ++ text ∷ [])) ≤ most + 1
+    by true = omega (arith, few)
+    by false = omega (arith, few, length-append texts (text ∷ []))
+
+-- the number of a text among strings
+pub numbered : {Y : Type 0} (text : List ℕ) (ks : List (String Y)) (i : ℕ) → Some i ≡ position (λ k. bytes_eq text (string_bytes k)) ks → true ≡ list_any (λ k. bytes_eq text (string_bytes k)) ks
+    → Some i ≡ number_among (map string_bytes ks) text
+numbered text ks i index found =
+    let any : true ≡ list_any (bytes_eq text) (map string_bytes ks) = found ∙ list_any-strings text ks in
+    let number : i ≡ number_of text (map string_bytes ks) = sym (cond_some _ _ _ (sym index)).1 ∙ position_or_len-strings text ks in
+    ap (λ (n : ℕ). Some n) number ∙ ap (λ b. cond b (Some (number_of text (map string_bytes ks))) None) any
+
+pub not_numbered : {Y : Type 0} (text : List ℕ) (ks : List (String Y)) → false ≡ list_any (λ k. bytes_eq text (string_bytes k)) ks → None ≡ number_among (map string_bytes ks) text
+not_numbered text ks found = ap (λ b. cond b (Some (number_of text (map string_bytes ks))) None) (found ∙ list_any-strings text ks)
 
 -- a text that a list has stands at its number
 pub number_held : (text : List ℕ) (texts : List (List ℕ)) → list_any (bytes_eq text) texts ≡ true → slice_get texts (number_of text texts) ≡ Some text

@@ -1,5 +1,8 @@
 -- What the definitions of a file say together: a project, or its first fault.
-use Rattle.std.specs.Prelude.{◌≡◌, ◌<◌, ◌≤◌, ◌++◌, ⊤, ℕ, List, ◌∷◌, length, map, All, Contains, Result, Ok, Err, codes}
+use Rattle.std.specs.Prelude.{◌≡◌, ◌<◌, ◌≤◌, ◌++◌, ◌+◌, ⊤, ℕ, List, ◌∷◌, length, map, cond, All, Contains, Option, Some, None, Result, Ok, Err, codes}
+use Rattle.std.specs.List.{list_any}
+use Rattle.std.specs.Str.{bytes_eq}
+use Rattle.fsm_base.specs.Symbols.{number_of}
 use Rattle.fsm_words.specs.Words.{IsDistinct}
 use Rattle.regex_ast.specs.declared.fault.Fault.{Fault}
 use Rattle.regex_ast.specs.declared.fault.Why.{Why}
@@ -29,6 +32,15 @@ defined_by statements = names_of (definitions_of statements)
 -- the most names of a project
 unfoldable pub most_names : ℕ
 most_names = 512
+
+-- different names, and at most one more than that
+pub record IsNames (names : List (List ℕ)) : Type 0 where
+  pub distinct : IsDistinct names
+  pub few : length names ≤ most_names + 1
+
+-- the place of a name among names, if it is one of them
+abbrev pub number_among : List (List ℕ) → List ℕ → Option ℕ
+number_among names name = cond (list_any (bytes_eq name) names) (Some (number_of name names)) None
 
 -- at most 512 definitions, each of another name
 pub record HaveNames (statements : List Statement) : Type 0 where
@@ -64,6 +76,11 @@ pub data SayTogether (name : List ℕ) (statements : List Statement) : Result Pr
   symbols : HaveNames statements → most_symbols < length (alphabet_of (definitions_of statements)) → SayTogether name statements (Err (fault project_name 0 why.LimitSymbols))
   not_built : (line : ℕ) → HaveNames statements → length (alphabet_of (definitions_of statements)) ≤ most_symbols → FirstNotBuilt statements line → SayTogether name statements (Err (fault name line why.NotBuilt))
   whole : HaveNames statements → length (alphabet_of (definitions_of statements)) ≤ most_symbols → All (IsCompiledIn statements) statements → SayTogether name statements (Ok (project_of (definitions_of statements)))
+
+-- refused since the names of the statements have this fault, or for want of memory
+abbrev pub IsWhyNoNames : List ℕ → List Statement → PlanError → Type 0
+IsWhyNoNames name statements (Refused found) = (at : FaultAt) × (found ≡ fault name at.line at.why) × NameFault statements at
+IsWhyNoNames name statements (Memory refused) = ⊤
 
 -- refused for the first fault of the statements, or for want of memory
 abbrev pub IsWhyNoPlan : List ℕ → List Statement → PlanError → Type 0

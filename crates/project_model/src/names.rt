@@ -1,11 +1,11 @@
-ghost use Rattle.std.specs.Prelude.{◌≡◌, Some, false, not, [], length, map, slice_get, MatchOption, IfOk, IfErr, OnOk};
+ghost use Rattle.std.specs.Prelude.{◌≡◌, ◌≤◌, Some, false, not, [], length, map, slice_get, MatchOption, IfOk, IfErr, OnOk};
 ghost use Rattle.std.specs.List.{list_any};
 ghost use Rattle.std.specs.Str.{bytes_eq};
 ghost use Rattle.fsm_base.specs.Symbols.{with_text};
 ghost use Rattle.fsm_words.specs.Words.{IsDistinct};
 ghost use Rattle.fsm_meaning.specs.Projects.{is_symbol};
 ghost use Rattle.regex_reader.specs.Files.{statement_of};
-ghost use Rattle.project_model.specs.Together.{HaveNames, IsWhyNoPlan, defined_by};
+ghost use Rattle.project_model.specs.Together.{HaveNames, IsWhyNoNames, IsWhyNoPlan, defined_by, most_names, number_among};
 
 use crate::plan_error::{PlanError, refused};
 use indexmap::IndexSet;
@@ -25,13 +25,13 @@ pub struct Names {
 impl Model for Names {
     ghost use Rattle.std.specs.Prelude.{List, ℕ, map};
     ghost use Rattle.std.specs.String.{string_bytes};
-    ghost use Rattle.fsm_words.specs.Words.{IsDistinct};
+    ghost use Rattle.project_model.specs.Together.{IsNames};
 
     ghost Value = { List (List ℕ) };
 
     ghost view = { λ names. map string_bytes names.texts.keys };
 
-    ghost invariant = { λ names. IsDistinct (map string_bytes names.texts.keys) };
+    ghost invariant = { λ names. IsNames (map string_bytes names.texts.keys) };
 }
 
 impl Names {
@@ -53,6 +53,7 @@ impl Names {
 
     /// Puts a name behind the others where it's new, and answers whether it is.
     pub fn add(&mut self, name: &str) -> Result<bool, AllocError>
+        requires { length self.old ≤ most_names }
         ensures new { IfOk result (λ new. new ≡ not (list_any (bytes_eq name.now) self.old)) }
         ensures names { OnOk result (self.new ≡ with_text name.now self.old) }
         ensures distinct { OnOk result (IsDistinct self.new) }
@@ -79,6 +80,17 @@ impl Names {
         self.texts.get_index_of(name)
     }
 
+    /// The same, as a number of 32 bits.
+    #[tactic(auto, unfolding(crate::specs::Together::most_names))]
+    pub fn number_of(&self, name: &str) -> Option<u32>
+        ensures { result ≡ number_among self.now name.now }
+    {
+        match self.texts.get_index_of(name) {
+            Some(place) => Some(place as u32),
+            None => None,
+        }
+    }
+
     /// Whether a leaf is a symbol where these names are defined.
     pub fn is_symbol(&self, leaf: &Raw) -> bool
         ensures { result ≡ is_symbol self.now leaf.now }
@@ -96,6 +108,7 @@ pub fn names_of(alloc: Global, file: &str, defines: &[Define<Raw>]) -> Result<Na
     ensures names { IfOk result (λ names. names ≡ defined_by (map statement_of defines.now)) }
     ensures formed { OnOk result (HaveNames (map statement_of defines.now)) }
     ensures error { IfErr result (IsWhyNoPlan file.now (map statement_of defines.now)) }
+    ensures named { IfErr result (IsWhyNoNames file.now (map statement_of defines.now)) }
 {
     let mut names = Names::new(alloc);
     'defines: for define in defines {

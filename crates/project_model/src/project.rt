@@ -1,0 +1,217 @@
+ghost use Rattle.std.specs.Prelude.{◌≡◌, ◌≤◌, ◌+◌, ◌++◌, ◌∷◌, [], All, IfOk, IfErr, OnOk, length, map, take};
+ghost use Rattle.fsm_base.specs.Symbols.{IsSymbol};
+ghost use Rattle.regex_reader.specs.Files.{statement_of};
+ghost use Rattle.fsm_meaning.specs.Projects.{with_texts};
+ghost use Rattle.project_model.specs.Gathered.{gathered, symbols_of_all};
+ghost use Rattle.project_model.specs.Planned.{EntriesSay, IsPlanOf, IsUnsound, entry_of, numbers_in, resolved};
+ghost use Rattle.project_model.specs.Together.{definitions_of, most_symbols};
+
+use crate::definition::{Body, Definition};
+use crate::demands::{Demand, first_failing};
+use crate::names::{Names, names_of};
+use crate::plan_error::{PlanError, refused};
+use crate::resolve::resolve;
+use crate::symbols::{MOST_SYMBOLS, symbols_of};
+use fsm_base::{Sym, SymbolTable, Text};
+use regex_ast::{Define, Raw, Why};
+use std::alloc::{AllocError, Global};
+use std::marker::Model;
+
+/// The definitions of a project without fault, and the symbols of its alphabet.
+#[derive(Drop)]
+pub struct ProjectPlan {
+    definitions: Vec<Definition>,
+    symbols: Vec<Sym>,
+}
+
+impl Model for ProjectPlan {
+    ghost use Rattle.regex_ast.specs.contracts.expr.Atom as atom;
+    ghost use Rattle.regex_ast.specs.contracts.expr.Expr as expr;
+    ghost use Rattle.std.specs.Coded.{codes};
+    ghost use Rattle.project_model.specs.Planned.{PlannedView};
+
+    ghost Value = { PlannedView };
+
+    ghost coded = { Prim.hlevel (codes, (expr.the_row atom.the_row).coded) };
+
+    ghost view = { λ p. record { definitions = p.definitions.items; symbols = p.symbols.items } };
+}
+
+impl ProjectPlan {
+    /// The definitions, in the order of their statements.
+    pub fn definitions(&self) -> &[Definition]
+        ensures { result.now ≡ self.now.definitions }
+    {
+        &self.definitions
+    }
+
+    /// The symbols of the alphabet, in the order of their first places.
+    pub fn symbols(&self) -> &[Sym]
+        ensures { result.now ≡ self.now.symbols }
+    {
+        &self.symbols
+    }
+}
+
+/// Puts texts into a table, each where it's new and the table has room for it.
+fn add_texts(texts: &[Text], table: &mut SymbolTable) -> Result<(), AllocError>
+    requires symbols { All IsSymbol texts.now }
+    requires short { length table.old ≤ most_symbols + 1 }
+    ensures { OnOk result (table.new ≡ gathered table.old texts.now) }
+{
+    'texts: for text in texts {
+        add_text(text, table)?;
+    }
+    Ok(())
+}
+
+/// Puts a text into a table, where it's new and the table has room for it.
+fn add_text(text: &Text, table: &mut SymbolTable) -> Result<(), AllocError>
+    requires symbol { IsSymbol text.now }
+    requires short { length table.old ≤ most_symbols + 1 }
+    ensures { OnOk result (table.new ≡ gathered table.old (text.now ∷ [])) }
+{
+    if table.len() <= MOST_SYMBOLS {
+        table.intern(text.as_str())?;
+    }
+    Ok(())
+}
+
+/// The symbols that stand in definitions where these names are defined, and further ones, in the order of their first
+/// places. Where they are more than a project may have, it's one more than that.
+fn alphabet_of(
+    alloc: Global,
+    names: &Names,
+    defines: &[Define<Raw>],
+    further: &[Text],
+) -> Result<SymbolTable, AllocError>
+    requires { All IsSymbol further.now }
+    ensures { IfOk result (λ table. table ≡ gathered [] (symbols_of_all names.now (definitions_of (map statement_of defines.now)) ++ further.now)) }
+{
+    let mut alphabet = symbols_of(alloc, names, defines)?;
+    add_texts(further, &mut alphabet)?;
+    Ok(alphabet)
+}
+
+/// Puts the symbols of an alphabet into a table, in their order, each where it's new.
+fn intern_all(alphabet: &SymbolTable, table: &mut SymbolTable) -> Result<(), AllocError>
+    requires { length table.old + length alphabet.now ≤ 16777216 }
+    ensures table { OnOk result (table.new ≡ with_texts table.old alphabet.now) }
+    ensures front { take (length table.old) table.new ≡ table.old }
+{
+    'numbers: for number in 0..alphabet.len() {
+        let Some(text) = alphabet.text_of(Sym(number as u32)) else {
+            unreachable!()
+        };
+        table.intern(text)?;
+    }
+    Ok(())
+}
+
+/// The numbers of the symbols of an alphabet in a table.
+fn numbers_of(
+    alloc: Global,
+    alphabet: &SymbolTable,
+    table: &SymbolTable,
+) -> Result<Vec<Sym>, AllocError>
+    ensures { IfOk result (λ symbols. symbols.items ≡ numbers_in table.now alphabet.now) }
+{
+    let mut symbols = Vec::new(alloc);
+    'numbers: for number in 0..alphabet.len() {
+        let Some(text) = alphabet.text_of(Sym(number as u32)) else {
+            unreachable!()
+        };
+        symbols.push(table.number_of(text))?;
+    }
+    Ok(symbols)
+}
+
+/// The definition of a statement of a file, its leaves resolved.
+fn define(
+    alloc: Global,
+    file: &str,
+    names: &Names,
+    table: &SymbolTable,
+    define: &Define<Raw>,
+) -> Result<Definition, AllocError>
+    ensures { IfOk result (λ definition. entry_of definition ≡ resolved file.now names.now table.now (statement_of define.now)) }
+{
+    let expr = resolve(alloc, names, table, &define.expr)?;
+    Ok(Definition {
+        name: define.name.clone()?,
+        line: define.line,
+        file: Text::of(alloc, file)?,
+        body: Body::Xfst(expr),
+    })
+}
+
+/// The definitions of the statements of a file, their leaves resolved.
+fn define_each(
+    alloc: Global,
+    file: &str,
+    names: &Names,
+    table: &SymbolTable,
+    defines: &[Define<Raw>],
+) -> Result<Vec<Definition>, AllocError>
+    ensures { IfOk result (λ definitions. map entry_of definitions.items ≡ map (resolved file.now names.now table.now) (map statement_of defines.now)) }
+{
+    let mut definitions = Vec::new(alloc);
+    'defines: for one in defines {
+        definitions.push(define(alloc, file, names, table, one)?)?;
+    }
+    Ok(definitions)
+}
+
+/// That the definitions of a file are sound: each fits, none is too heavy, each can be built.
+fn check(alloc: Global, file: &str, definitions: &[Definition]) -> Result<(), PlanError>
+    ensures sound { OnOk result (EntriesSay file.now (map entry_of definitions.now) (Ok (map entry_of definitions.now))) }
+    ensures error { IfErr result (IsUnsound file.now (map entry_of definitions.now)) }
+{
+    if let Some(line) = first_failing(definitions, Demand::Fits) {
+        return Err(refused(alloc, file, line, Why::NotALanguage));
+    }
+    if let Some(line) = first_failing(definitions, Demand::Light) {
+        return Err(refused(alloc, file, line, Why::LimitWeight));
+    }
+    if let Some(line) = first_failing(definitions, Demand::Built) {
+        return Err(refused(alloc, file, line, Why::NotBuilt));
+    }
+    Ok(())
+}
+
+/// The plan of the statements of a file of this name and of further symbols, whose symbols are put into the table. They
+/// are refused for their first fault: a name that stands twice or names that are too many, symbols that are too many,
+/// an operand that must be a language and isn't one, a definition that is too heavy, or one that can't be built yet.
+/// Whatever it answers, the table begins with what it was.
+pub fn plan_of_statements(
+    alloc: Global,
+    file: &str,
+    defines: &[Define<Raw>],
+    further: &[Text],
+    table: &mut SymbolTable,
+) -> Result<ProjectPlan, PlanError>
+    requires symbols { All IsSymbol further.now }
+    requires room { length table.old ≤ 16776192 }
+    ensures plan { IsPlanOf file.now (map statement_of defines.now) further.now table.old table.new result }
+    ensures front { take (length table.old) table.new ≡ table.old }
+{
+    let names = match names_of(alloc, file, defines) {
+        Ok(names) => names,
+        Err(error) => return Err(error),
+    };
+    let alphabet = alphabet_of(alloc, &names, defines, further)?;
+    if alphabet.len() > MOST_SYMBOLS {
+        return Err(refused(alloc, "project", 0, Why::LimitSymbols));
+    }
+    intern_all(&alphabet, table)?;
+    let definitions = define_each(alloc, file, &names, table, defines)?;
+    match check(alloc, file, &definitions) {
+        Ok(()) => {}
+        Err(error) => return Err(error),
+    }
+    let symbols = numbers_of(alloc, &alphabet, table)?;
+    Ok(ProjectPlan {
+        definitions,
+        symbols,
+    })
+}
