@@ -1,7 +1,7 @@
 #!/usr/bin/env python3
-"""Writes 400 expressions of every form, one a line, from a fixed seed: the lines that crates/round_trip is run on.
+"""Writes 400 rows `again` with expressions of every form, from a fixed seed: the last rows of crates/reader_rows/stdin.
 
-usage: bench/expressions.py > crates/round_trip/stdin
+usage: bench/expressions.py
 """
 import random
 
@@ -113,7 +113,8 @@ def main():
         line = expressions.steps(2, False)
         if len(line) <= 200:
             lines.append(line)
-    print('\n'.join(lines))
+    for line in lines:
+        print('again ' + line.replace('\\', '\\\\'))
 
 
 if __name__ == '__main__':

@@ -9,12 +9,15 @@ use Rattle.fsm_meaning.specs.declared.ending.Ending.{Ending}
 use Rattle.fsm_meaning.specs.declared.ending.Ending.TheVariants.{Finished, WriteFailed, ReadFailed, Spent}
 use Rattle.fsm_meaning.specs.Projects.{Project}
 use Rattle.fsm_meaning.specs.Replies.{Replies}
-use Rattle.project_model.specs.Plans.{AreNames}
+use Rattle.project_model.specs.Reads.{FilesSay}
+use Rattle.project_model.specs.Written.{Planned, project_in}
+use Rattle.fsm_program.specs.Loaded.{AreNames, IsLoadedFrom, LoadedView}
 use Rattle.reply_text.specs.Projects.{accepted_line, refused_line}
 use Rattle.fsm_program.specs.Ends.{Ends, Asked, for_check, for_look, for_help, Loads, Query, no_words, helped, refused, folder_failed, no_memory, checked, answered, IsAnswered, IsNotLoaded, IsSaid, usage_text, status_of}
 use Rattle.fsm_program.specs.Files.{Reads, IsLoaded, IsLoadError, most_read}
 use Rattle.fsm_program.specs.Running.{most_taken}
-use Rattle.fsm_program.proofs.Loading.{one_reading}
+use Rattle.fsm_program.proofs.Loading.{told_so}
+use Rattle.fsm_program.proofs.Reading.{one_reading}
 use Rattle.fsm_program.specs.declared.load.LoadError.{LoadError}
 use Rattle.fsm_program.specs.declared.load.LoadError.TheVariants.{Failed, Memory, Refused}
 
@@ -39,19 +42,23 @@ module _ (what : Asked) (loads : Loads what) (files : Option Files) (faults0 fau
         | inr (same, is) ↦ no_memory what refl loads refl same is
       ]
 
+-- what the loaded project is, the files are
+told_reads : (planned : Planned) (files : Option Files) → Told files (λ fs. FilesSay fs [] (Ok planned)) → Told files (λ fs. Reads fs (Ok (project_in planned)))
+told_reads planned files told = told_so (λ fs. FilesSay fs [] (Ok planned)) (λ fs. Reads fs (Ok (project_in planned))) files (λ fs said. (planned, said, refl)) told
+
 -- the names of a project were written, or there was no memory for them
-pub ends_checked : (files : Option Files) (faults0 faults : ℕ) (left held0 held : Option (List ℕ)) (status : ℕ) (project : Project) → IsLoaded project files → (status ≡ 5 → held ≡ held0)
-    → ((names : List (List ℕ)) × AreNames project names × IsSaid held0 held (accepted_line 1 names) 0 status) ⊎ (status ≡ 5) → Ends (Some for_check) files faults0 faults left left held0 held status
-ends_checked files faults0 faults left held0 held status project told unwritten either =
-    elim either as (λ _. Ends (Some for_check) files faults0 faults left left held0 held status) [
-      | inl (names, are, said) ↦ checked project names refl told are refl said
+pub ends_checked : (files : Option Files) (faults0 faults : ℕ) (left held0 held : Option (List ℕ)) (status : ℕ) (loaded : LoadedView) → IsLoaded loaded files → (status ≡ 5 → held ≡ held0)
+    → ((planned : Planned) → IsLoadedFrom planned loaded → ((names : List (List ℕ)) × AreNames (project_in planned) names × IsSaid held0 held (accepted_line 1 names) 0 status) ⊎ (status ≡ 5)) → Ends (Some for_check) files faults0 faults left left held0 held status
+ends_checked files faults0 faults left held0 held status loaded (planned, from, told) unwritten said =
+    elim (said planned from) as (λ _. Ends (Some for_check) files faults0 faults left left held0 held status) [
+      | inl (names, are, line) ↦ checked (project_in planned) names refl (told_reads planned files told) are refl line
       | inr is ↦ no_memory for_check refl tt refl (unwritten is) is
     ]
 
-pub ends_answered : (query : Query) (files : Option Files) (faults0 faults : ℕ) (left0 left held0 held : Option (List ℕ)) (status : ℕ) (project : Project) (name : List ℕ) → IsLoaded project files → name ≡ query.net
-    → IsAnswered (Replies project query.direction 1 name) left0 left held0 held status → Ends (Some (for_look query)) files faults0 faults left0 left held0 held status
-ends_answered query files faults0 faults left0 left held0 held status project name told is answers =
-    answered query project refl told (subst (λ (n : List ℕ). IsAnswered (Replies project query.direction 1 n) left0 left held0 held status) is answers)
+pub ends_answered : (query : Query) (files : Option Files) (faults0 faults : ℕ) (left0 left held0 held : Option (List ℕ)) (status : ℕ) (loaded : LoadedView) (name : List ℕ) → IsLoaded loaded files → name ≡ query.net
+    → ((planned : Planned) → IsLoadedFrom planned loaded → IsAnswered (Replies (project_in planned) query.direction 1 name) left0 left held0 held status) → Ends (Some (for_look query)) files faults0 faults left0 left held0 held status
+ends_answered query files faults0 faults left0 left held0 held status loaded name (planned, from, told) is answers =
+    answered query (project_in planned) refl (told_reads planned files told) (subst (λ (n : List ℕ). IsAnswered (Replies (project_in planned) query.direction 1 n) left0 left held0 held status) is (answers planned from))
 
 -- files say one thing
 one_told : (files : Option Files) (r q : Result Project Fault) → IsTold files (λ fs. Reads fs r) → Told files (λ fs. Reads fs q) → r ≡ q

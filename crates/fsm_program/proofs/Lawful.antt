@@ -7,7 +7,7 @@ use Rattle.fsm_words.proofs.Members.{Contains-nil_cases, Contains-cons_cases}
 use Rattle.fsm_base.specs.declared.letters.Sym.{Sym}
 use Rattle.fsm_base.specs.Alphabet.{IsAlphabet, symbols_of, texts_of, text_of, spelled}
 use Rattle.fsm_base.specs.Cut.{cut}
-use Rattle.fsm_meaning.specs.Answers.{Answers, Found, strings, more, loop, times}
+use Rattle.lookup_answers.specs.Answers.{Answers, Found, strings, more, loop, times}
 use Rattle.fsm_meaning.specs.declared.direction.Direction.{Direction}
 use Rattle.fsm_meaning.specs.declared.direction.Direction.TheVariants.{Up, Down}
 use Rattle.fsa.specs.Automaton.{Automaton}
@@ -18,7 +18,7 @@ use Rattle.fst_relation.specs.Relation.{IsRelated}
 use Rattle.fst_relation.proofs.Used.{upper_used, lower_used}
 use Rattle.lookup.specs.Answering.{UpperTexts, LowerTexts}
 use Rattle.fsm_program.specs.Networks.{Shows, TextsTo}
-use Rattle.project_model.proofs.Alphabets.{cases_bool}
+use Rattle.fsm_program.proofs.Spelled.{cases_bool}
 
 -- a symbol of the alphabet and its text stand at one place
 text_placed : (alphabet : List (Sym × List ℕ)) (s : Sym) → Contains (symbols_of alphabet) s → (k : ℕ) × (slice_get (symbols_of alphabet) k ≡ Some s) × (slice_get (texts_of alphabet) k ≡ Some (text_of alphabet s))

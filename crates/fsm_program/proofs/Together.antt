@@ -1,5 +1,5 @@
 -- Statements say one thing together.
-use Rattle.std.proofs.Common.{◌≡◌, ℕ, ◌+◌, ◌<◌, ◌≤◌, ◌++◌, List, [], ◌∷◌, length, Contains, All, Result, Err, refl, sym, ap, subst, ◌∙◌, arith, length-append}
+use Rattle.std.proofs.Common.{◌≡◌, ℕ, ◌+◌, ◌<◌, ◌≤◌, ◌++◌, List, [], ◌∷◌, length, Contains, All, Result, Ok, Err, refl, sym, ap, subst, ◌∙◌, arith, length-append}
 use Rattle.std.proofs.lemmas.List.Elements.{All-contains, Contains-append_right}
 use Rattle.std.proofs.lemmas.Option.{slice_get_within}
 use Rattle.fsm_words.specs.Words.{IsDistinct}
@@ -8,8 +8,10 @@ use Rattle.fsm_words.proofs.Places.{slice_get_from_Contains, slice_get-append_le
 use Rattle.regex_ast.specs.declared.fault.Fault.{Fault}
 use Rattle.regex_ast.specs.declared.fault.Why.TheVariants as why
 use Rattle.regex_reader.specs.Files.{Statement, FaultAt}
-use Rattle.fsm_meaning.specs.Projects.{Project}
-use Rattle.project_model.specs.Together.{SayTogether, names, symbols, not_built, whole, HaveNames, NameFault, again, too_many, FirstNotBuilt, IsCompiledIn, defined_by, fault}
+use Rattle.project_model.specs.Planned.{EntriesSay, relation, heavy, unbuilt, sound, Entry, EntryMeets, FirstFailing, DefinitionsSay, unsound, planned, StatementsSay, names, large, sized}
+use Rattle.project_model.specs.Together.{HaveNames, NameFault, again, too_many, defined_by, fault}
+use Rattle.project_model.specs.Written.{Planned}
+use Rattle.project_model.specs.declared.demands.Demand.{Demand}
 
 -- one of two fronts of a list, each with what stands behind it, is the shorter, if they aren't the same
 data Parted {X : Type 0} (front other : List X) (x y : X) : Type 0 where
@@ -31,7 +33,7 @@ parted (a ∷ front) rest (b ∷ other) tail x y e =
     let behind : front ++ x ∷ rest ≡ other ++ y ∷ tail = cc in
     parted_more front other x y a b first (parted front rest other tail x y behind)
 
-twice : {X : Type 0} (xs ys : List X) (x : X) → IsDistinct (xs ++ x ∷ ys) → Contains xs x → ⊥
+pub twice : {X : Type 0} (xs ys : List X) (x : X) → IsDistinct (xs ++ x ∷ ys) → Contains xs x → ⊥
 twice xs ys x distinct among =
     let at = slice_get_from_Contains xs x among in
     let within = slice_get_within xs at.0 x at.1 in
@@ -99,39 +101,62 @@ one_name_fault statements a b f g = by (where_at statements a f) (where_at state
 no_name_fault : (statements : List Statement) (a : FaultAt) → NameFault statements a → HaveNames statements → ⊥
 no_name_fault statements a f all = let p = where_at statements a f in p.ends p.rest (subst HaveNames p.whole all)
 
--- the first definition that isn't built
-behind_front : (statements front more : List Statement) (s : Statement) (all : List Statement) → all ≡ front ++ s ∷ more → All (IsCompiledIn statements) all → IsCompiledIn statements s
-behind_front statements front more s all is compiled =
-    All-contains (IsCompiledIn statements) all s compiled (subst (λ z. Contains z s) (sym is) (Contains-append_right front (s ∷ more) s (Contains-head s more)))
+-- the first definition that fails
+behind_front : (asked : Demand) (entries front more : List Entry) (e : Entry) → entries ≡ front ++ e ∷ more → All (EntryMeets asked) entries → EntryMeets asked e
+behind_front asked entries front more e is meet =
+    All-contains (EntryMeets asked) entries e meet (subst (λ z. Contains z e) (sym is) (Contains-append_right front (e ∷ more) e (Contains-head e more)))
 
-one_not_built : (statements : List Statement) (m n : ℕ) → FirstNotBuilt statements m → FirstNotBuilt statements n → m ≡ n
-one_not_built statements m n p q = decide (parted p.front p.rest q.front q.rest p.first q.first (sym p.whole ∙ q.whole))
+one_failing : (asked : Demand) (entries : List Entry) (m n : ℕ) → FirstFailing asked entries m → FirstFailing asked entries n → m ≡ n
+one_failing asked entries m n p q = decide (parted p.front p.rest q.front q.rest p.first q.first (sym p.whole ∙ q.whole))
   where
     decide : Parted p.front q.front p.first q.first → m ≡ n
-    decide (same e d) = p.line_is ∙ ap (λ (s : Statement). s.line) d ∙ sym q.line_is
-    decide (shorter more is) = absurd (p.not_built (behind_front statements p.front more p.first q.front is q.before))
-    decide (longer more is) = absurd (q.not_built (behind_front statements q.front more q.first p.front is p.before))
+    decide (same e d) = p.line_is ∙ ap (λ (s : Entry). s.line) d ∙ sym q.line_is
+    decide (shorter more is) = absurd (p.fails (behind_front asked q.front p.front more p.first is q.before))
+    decide (longer more is) = absurd (q.fails (behind_front asked p.front q.front more q.first is p.before))
 
-none_not_built : (statements : List Statement) (n : ℕ) → FirstNotBuilt statements n → All (IsCompiledIn statements) statements → ⊥
-none_not_built statements n p all = p.not_built (behind_front statements p.front p.rest p.first statements p.whole all)
+none_failing : {P : Type 0} (asked : Demand) (entries : List Entry) (n : ℕ) → FirstFailing asked entries n → All (EntryMeets asked) entries → P
+none_failing asked entries n p all = absurd (p.fails (behind_front asked entries p.front p.rest p.first p.whole all))
 
-too_few : (m n : ℕ) → m < n → n ≤ m → ⊥
-too_few m n less few = omega (arith, less, few)
+one_of_entries : (file : List ℕ) (entries : List Entry) (r q : Result (List Entry) Fault) → EntriesSay file entries r → EntriesSay file entries q → r ≡ q
+one_of_entries file entries r q (relation m a) (relation n b) = ap (λ (k : ℕ). Err (fault file k why.NotALanguage)) (one_failing _ entries m n a b)
+one_of_entries file entries r q (relation m a) (heavy n fits b) = none_failing _ entries m a fits
+one_of_entries file entries r q (relation m a) (unbuilt n fits light b) = none_failing _ entries m a fits
+one_of_entries file entries r q (relation m a) (sound fits light built) = none_failing _ entries m a fits
+one_of_entries file entries r q (heavy m fits a) (relation n b) = none_failing _ entries n b fits
+one_of_entries file entries r q (heavy m fits a) (heavy n fits' b) = ap (λ (k : ℕ). Err (fault file k why.LimitWeight)) (one_failing _ entries m n a b)
+one_of_entries file entries r q (heavy m fits a) (unbuilt n fits' light b) = none_failing _ entries m a light
+one_of_entries file entries r q (heavy m fits a) (sound fits' light built) = none_failing _ entries m a light
+one_of_entries file entries r q (unbuilt m fits light a) (relation n b) = none_failing _ entries n b fits
+one_of_entries file entries r q (unbuilt m fits light a) (heavy n fits' b) = none_failing _ entries n b light
+one_of_entries file entries r q (unbuilt m fits light a) (unbuilt n fits' light' b) = ap (λ (k : ℕ). Err (fault file k why.NotBuilt)) (one_failing _ entries m n a b)
+one_of_entries file entries r q (unbuilt m fits light a) (sound fits' light' built) = none_failing _ entries m a built
+one_of_entries file entries r q (sound fits light built) (relation n b) = none_failing _ entries n b fits
+one_of_entries file entries r q (sound fits light built) (heavy n fits' b) = none_failing _ entries n b light
+one_of_entries file entries r q (sound fits light built) (unbuilt n fits' light' b) = none_failing _ entries n b built
+one_of_entries file entries r q (sound fits light built) (sound fits' light' built') = refl
 
-pub one_saying : (name : List ℕ) (statements : List Statement) (r q : Result Project Fault) → SayTogether name statements r → SayTogether name statements q → r ≡ q
-one_saying name statements r q (names a f) (names b g) = ap (λ (z : FaultAt). Err (fault name z.line z.why)) (one_name_fault statements a b f g)
-one_saying name statements r q (names a f) (symbols have many) = absurd (no_name_fault statements a f have)
-one_saying name statements r q (names a f) (not_built line have few first) = absurd (no_name_fault statements a f have)
-one_saying name statements r q (names a f) (whole have few all) = absurd (no_name_fault statements a f have)
-one_saying name statements r q (symbols have many) (names b g) = absurd (no_name_fault statements b g have)
-one_saying name statements r q (symbols have many) (symbols have' many') = refl
-one_saying name statements r q (symbols have many) (not_built line have' few first) = absurd (too_few _ _ many few)
-one_saying name statements r q (symbols have many) (whole have' few all) = absurd (too_few _ _ many few)
-one_saying name statements r q (not_built line have few first) (names b g) = absurd (no_name_fault statements b g have)
-one_saying name statements r q (not_built line have few first) (symbols have' many) = absurd (too_few _ _ many few)
-one_saying name statements r q (not_built line have few first) (not_built line' have' few' first') = ap (λ (n : ℕ). Err (fault name n why.NotBuilt)) (one_not_built statements line line' first first')
-one_saying name statements r q (not_built line have few first) (whole have' few' all) = absurd (none_not_built statements line first all)
-one_saying name statements r q (whole have few all) (names b g) = absurd (no_name_fault statements b g have)
-one_saying name statements r q (whole have few all) (symbols have' many) = absurd (too_few _ _ many few)
-one_saying name statements r q (whole have few all) (not_built line have' few' first) = absurd (none_not_built statements line first all)
-one_saying name statements r q (whole have few all) (whole have' few' all') = refl
+too_few : {P : Type 0} (m n : ℕ) → m < n → n ≤ m → P
+too_few m n less few = absurd (omega (arith, less, few))
+
+same_fault : (a b : Fault) → ◌≡◌ {A = Result (List Entry) Fault} (Err a) (Err b) → a ≡ b
+same_fault a b e = cc
+
+no_fault : {P : Type 0} (a : Fault) (es : List Entry) → ◌≡◌ {A = Result (List Entry) Fault} (Err a) (Ok es) → P
+no_fault a es e = cc
+
+one_of_definitions : (file : List ℕ) (statements : List Statement) (alphabet old : List (List ℕ)) (r q : Result Planned Fault) → DefinitionsSay file statements alphabet old r → DefinitionsSay file statements alphabet old q → r ≡ q
+one_of_definitions file statements alphabet old r q (unsound found said) (unsound other said') = ap (λ (f : Fault). Err f) (same_fault found other (one_of_entries file _ (Err found) (Err other) said said'))
+one_of_definitions file statements alphabet old r q (unsound found said) (planned entries said') = no_fault found entries (one_of_entries file _ (Err found) (Ok entries) said said')
+one_of_definitions file statements alphabet old r q (planned entries said) (unsound found said') = no_fault found entries (one_of_entries file _ (Err found) (Ok entries) said' said)
+one_of_definitions file statements alphabet old r q (planned entries said) (planned entries' said') = refl
+
+pub one_saying : (file : List ℕ) (statements : List Statement) (further old : List (List ℕ)) (r q : Result Planned Fault) → StatementsSay file statements further old r → StatementsSay file statements further old q → r ≡ q
+one_saying file statements further old r q (names a f) (names b g) = ap (λ (z : FaultAt). Err (fault file z.line z.why)) (one_name_fault statements a b f g)
+one_saying file statements further old r q (names a f) (large have many) = absurd (no_name_fault statements a f have)
+one_saying file statements further old r q (names a f) (sized q' have few said) = absurd (no_name_fault statements a f have)
+one_saying file statements further old r q (large have many) (names b g) = absurd (no_name_fault statements b g have)
+one_saying file statements further old r q (large have many) (large have' many') = refl
+one_saying file statements further old r q (large have many) (sized q' have' few said) = too_few _ _ many few
+one_saying file statements further old r q (sized r' have few said) (names b g) = absurd (no_name_fault statements b g have)
+one_saying file statements further old r q (sized r' have few said) (large have' many) = too_few _ _ many few
+one_saying file statements further old r q (sized r' have few said) (sized q' have' few' said') = one_of_definitions file statements _ old r q said said'

@@ -14,7 +14,7 @@ use Rattle.fsm_meaning.specs.declared.direction.Direction.{Direction}
 use Rattle.fsm_meaning.specs.declared.direction.Direction.TheVariants.{Up, Down}
 use Rattle.fsm_meaning.specs.Replies.{Replies, line_of}
 use Rattle.fsm_meaning.specs.Transcripts.{HasAnswered}
-use Rattle.project_model.specs.Plans.{AreNames}
+use Rattle.fsm_program.specs.Loaded.{AreNames}
 use Rattle.reply_text.specs.Projects.{accepted_line, refused_line}
 use Rattle.fsm_program.specs.Files.{Reads}
 use Rattle.fsm_program.specs.declared.load.LoadError.{LoadError}

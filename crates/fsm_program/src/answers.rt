@@ -1,5 +1,5 @@
 ghost use Rattle.std.specs.Prelude.{◌<◌, ◌-◌, ◌^◌, List, ℕ, Some, length, IfOk};
-ghost use Rattle.fsm_meaning.specs.Answers.{Answers};
+ghost use Rattle.lookup_answers.specs.Answers.{Answers};
 ghost use Rattle.fsm_meaning.specs.Projects.{Project};
 ghost use Rattle.fsm_meaning.specs.Replies.{RepliesToWord};
 ghost use Rattle.lookup.specs.Answering.{IsOverAlphabet, found_of};

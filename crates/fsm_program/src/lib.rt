@@ -3,18 +3,18 @@
 //! - [`run`]: answers the words of a command line, with its status.
 //! - [`read_words`]: the [`Command`] of the words, or why there is none, a [`WordsError`].
 //!
-//! Inside, `load` reads the project of the folder to its plan (`manifest` names its file), `network` compiles the
-//! definition that is looked up in, and `look_up` answers the lines of the input, each by the reply that `reply`
-//! gathers (`answers` has the replies to words).
+//! Inside, `load` reads the `project` of the folder, `network` builds the network of the definition that is looked up in,
+//! and `look_up` answers the lines of the input, each by the reply that `reply` gathers (`answers` has the replies to
+//! words).
 #![tactic(auto)]
 
 mod answers;
 mod bytes;
 mod load;
 mod look_up;
-mod manifest;
 mod network;
 mod program;
+mod project;
 mod reply;
 mod words;
 

@@ -1,25 +1,14 @@
-ghost use Rattle.std.specs.Prelude.{◌≡◌, ◌≤◌, List, ℕ, length, map, IfOk, IfErr};
-ghost use Rattle.fsm_base.specs.Normal.{IsWhyNoText, source_text};
-ghost use Rattle.fsm_io.specs.Folders.{Finds, Told};
-ghost use Rattle.regex_reader.specs.Files.{statement_of};
-ghost use Rattle.project_model.specs.Plans.{project_in};
-ghost use Rattle.project_model.specs.Together.{SayTogether, fault, project_name};
-ghost use Rattle.fsm_program.specs.Files.{Asks, FileSays, IsAnswer, IsLoadError, IsLoaded, IsManifest, IsRefusal, IsWhy, TextSays, most_bytes, most_read};
+ghost use Rattle.std.specs.Prelude.{◌≡◌, ◌≤◌, ℕ, List, None, MatchOption, IfOk, IfErr, OnOk};
+ghost use Rattle.fsm_io.specs.Folders.{Finds, Told, file_of};
+ghost use Rattle.fsm_program.specs.Files.{Asks, IsLoadError, IsLoaded, Names, most_read};
+ghost use Rattle.fsm_program.specs.Gathered.{HasAdded, IsGathered, IsOfSources, IsWhyNot, SourcesName};
 
-use crate::manifest::file_named;
-use fsm_base::{Text, TextError, normal};
+use crate::project::Project;
+use fsm_base::{SymbolTable, Text};
 use fsm_io::{Folder, FolderError, Found};
-use project_model::{Plan, PlanError, plan_of};
-use regex_ast::{Define, Fault, Raw, ReadError, Why};
-use regex_reader::read_xfst;
+use project_model::{PlanError, Sources, manifest_of, read_project};
+use regex_ast::Fault;
 use std::alloc::{AllocError, Global};
-
-/// The most bytes of a file.
-const MOST_BYTES: usize = 1_048_576;
-
-/// More bytes than a file's text has. Normalization Form C makes a text three times as long at most (Unicode Standard
-/// Annex 15, section 3).
-const MOST_TEXT: usize = 4 * MOST_BYTES;
 
 /// Why a project isn't loaded.
 #[derive(Debug, Drop)]
@@ -32,63 +21,25 @@ pub enum LoadError {
     Refused(Fault),
 }
 
-/// That a project is refused for this fault, or that there was no memory for its text.
-fn refused(alloc: Global, file: &str, line: u32, why: Why) -> LoadError
-    ensures { IsRefusal result (fault file.now line why) }
-{
-    match Text::of(alloc, file) {
-        Ok(file) => LoadError::Refused(Fault { file, line, why }),
-        Err(error) => LoadError::Memory(error),
+impl From<AllocError> for LoadError {
+    ghost use Rattle.std.specs.Prelude.{◌≡◌};
+    ghost use Rattle.fsm_program.specs.declared.load.LoadError.TheVariants.{Memory};
+
+    ghost from_gives = { λ refused error. error ≡ Memory refused };
+
+    fn from(refused: AllocError) -> LoadError {
+        LoadError::Memory(refused)
     }
 }
 
-/// That bytes are no text.
-fn no_text(alloc: Global, name: &str, error: TextError) -> LoadError
-    ensures { (bytes : List ℕ) → length bytes ≤ most_bytes → IsWhyNoText (source_text bytes) error → IsWhy (FileSays name.now bytes) result }
+/// The file that a manifest of this content names, or `None` where it is no manifest.
+fn file_named(alloc: Global, content: &[u8]) -> Result<Option<Text>, AllocError>
+    ensures { IfOk result (λ file. MatchOption file ((name : List ℕ) → Names content.now name → ⊥) (Names content.now)) }
 {
-    match error {
-        TextError::NotUtf8 { line } => refused(alloc, name, line, Why::NotUtf8),
-        TextError::Control { line } => refused(alloc, name, line, Why::Control),
-        TextError::Memory(error) => LoadError::Memory(error),
-    }
-}
-
-/// The plan of the definitions of a file of this name.
-fn plan_of_defines(alloc: Global, name: &str, defines: Vec<Define<Raw>>) -> Result<Plan, LoadError>
-    ensures { IsAnswer (SayTogether name.now (map statement_of defines.items)) result }
-{
-    match plan_of(alloc, name, defines) {
-        Ok(plan) => Ok(plan),
-        Err(PlanError::Refused(fault)) => Err(LoadError::Refused(fault)),
-        Err(PlanError::Memory(error)) => Err(LoadError::Memory(error)),
-    }
-}
-
-/// The plan of the text of a file of this name.
-fn plan_of_text(alloc: Global, name: &str, text: &str) -> Result<Plan, LoadError>
-    ensures { IsAnswer (TextSays name.now text.now) result }
-{
-    // This never comes, since no file's text is so long.
-    if text.len() > MOST_TEXT {
-        return Err(LoadError::Memory(AllocError));
-    }
-    match read_xfst(alloc, text) {
-        Ok(defines) => plan_of_defines(alloc, name, defines),
-        Err(ReadError::Fault { line, why }) => Err(refused(alloc, name, line, why)),
-        Err(ReadError::Memory(error)) => Err(LoadError::Memory(error)),
-    }
-}
-
-/// The plan of a file of this name.
-fn plan_of_file(alloc: Global, name: &str, bytes: &[u8]) -> Result<Plan, LoadError>
-    ensures { IsAnswer (FileSays name.now bytes.now) result }
-{
-    if bytes.len() > MOST_BYTES {
-        return Err(refused(alloc, name, 0, Why::LimitFile));
-    }
-    match normal(alloc, bytes) {
-        Ok(text) => plan_of_text(alloc, name, text.as_str()),
-        Err(error) => Err(no_text(alloc, name, error)),
+    match manifest_of(alloc, content) {
+        Ok(manifest) => Ok(Some(manifest.file().clone()?)),
+        Err(PlanError::Refused(_fault)) => Ok(None),
+        Err(PlanError::Memory(error)) => Err(error),
     }
 }
 
@@ -112,44 +63,78 @@ fn read_file<F: Folder>(
     }
 }
 
-/// The plan of the file of this name, which the manifest `manifest` names.
-fn load_file<F: Folder>(
+/// The sources with the first bytes of a file of the folder, `most` at most, if it is there.
+fn with_file<F: Folder>(
     alloc: Global,
     folder: &mut F,
-    manifest: &Vec<u8>,
+    mut sources: Sources,
     name: &str,
     most: usize,
-) -> Result<Plan, LoadError>
-    requires most { most ≡ most_read }
-    requires manifest { Told (F.files folder.old) (Finds project_name most (Found.Bytes manifest.now)) }
-    requires named { IsManifest manifest.now.items name.now }
-    ensures loaded { IfOk result (λ plan. IsLoaded (project_in plan) (F.files folder.old)) }
+) -> Result<Sources, LoadError>
+    requires { file_of name.now sources ≡ None }
+    ensures added { IfOk result (λ new. Told (F.files folder.old) (HasAdded name.now most sources new)) }
+    ensures others { IfOk result (λ new. (other : List ℕ) → (name.now ≡ other → ⊥) → file_of other new ≡ file_of other sources) }
     ensures error { IfErr result (λ error. IsLoadError error (F.files folder.old) (F.faults folder.old) (F.faults folder.new)) }
+    ensures files { F.files folder.new ≡ F.files folder.old }
     ensures asked { F.reads folder.old name.now most folder.new }
     ensures later { F.faults folder.old ≤ F.faults folder.new }
 {
     match read_file(alloc, folder, name, most) {
-        Ok(Found::Bytes(bytes)) => plan_of_file(alloc, name, &bytes),
-        Ok(Found::Missing) => Err(refused(alloc, "project", 1, Why::NoFile)),
+        Ok(Found::Bytes(bytes)) => {
+            sources.put(name, bytes)?;
+            Ok(sources)
+        }
+        Ok(Found::Missing) => Ok(sources),
         Err(error) => Err(error),
     }
 }
 
-/// Loads the project of a folder: its manifest, and the one file that this names. At most `most` bytes of each are
-/// read.
-pub fn load<F: Folder>(alloc: Global, folder: &mut F, most: usize) -> Result<Plan, LoadError>
+/// The file that the manifest of sources names, or `None` where there is none.
+fn named_in(alloc: Global, sources: &Sources) -> Result<Option<Text>, AllocError>
+    ensures { IfOk result (λ file. MatchOption file ((name : List ℕ) → SourcesName sources.now name → ⊥) (SourcesName sources.now)) }
+{
+    match sources.get("project") {
+        Some(content) => file_named(alloc, content),
+        None => Ok(None),
+    }
+}
+
+/// The sources of a folder's project: its manifest, and the file that this names. At most `most` bytes of each are read.
+fn gather<F: Folder>(alloc: Global, folder: &mut F, most: usize) -> Result<Sources, LoadError>
     requires { most ≡ most_read }
-    ensures loaded { IfOk result (λ plan. IsLoaded (project_in plan) (F.files folder.old)) }
+    ensures gathered { IfOk result (λ sources. Told (F.files folder.old) (IsGathered sources)) }
     ensures error { IfErr result (λ error. IsLoadError error (F.files folder.old) (F.faults folder.old) (F.faults folder.new)) }
     ensures asked { Asks F.reads (F.files folder.old) folder.old folder.new }
     ensures later { F.faults folder.old ≤ F.faults folder.new }
 {
-    match read_file(alloc, folder, "project", most) {
-        Ok(Found::Bytes(manifest)) => match file_named(&manifest) {
-            Some(name) => load_file(alloc, folder, &manifest, name, most),
-            None => Err(refused(alloc, "project", 0, Why::NotBuilt)),
-        },
-        Ok(Found::Missing) => Err(refused(alloc, "project", 0, Why::NoProject)),
-        Err(error) => Err(error),
+    let sources = with_file(alloc, folder, Sources::new(alloc), "project", most)?;
+    match named_in(alloc, &sources)? {
+        Some(file) => with_file(alloc, folder, sources, file.as_str(), most),
+        None => Ok(sources),
     }
+}
+
+/// The project of sources.
+fn project_of(alloc: Global, sources: &Sources) -> Result<Project, LoadError>
+    ensures project { IfOk result (IsOfSources sources.now) }
+    ensures error { IfErr result (IsWhyNot sources.now) }
+{
+    let mut table = SymbolTable::new(alloc);
+    match read_project(alloc, sources, &mut table) {
+        Ok(plan) => Ok(Project::of(alloc, plan, &table)?),
+        Err(PlanError::Refused(fault)) => Err(LoadError::Refused(fault)),
+        Err(PlanError::Memory(error)) => Err(LoadError::Memory(error)),
+    }
+}
+
+/// Loads the project of a folder. At most `most` bytes of each of its files are read.
+pub fn load<F: Folder>(alloc: Global, folder: &mut F, most: usize) -> Result<Project, LoadError>
+    requires { most ≡ most_read }
+    ensures loaded { IfOk result (λ project. IsLoaded project (F.files folder.old)) }
+    ensures error { IfErr result (λ error. IsLoadError error (F.files folder.old) (F.faults folder.old) (F.faults folder.new)) }
+    ensures asked { Asks F.reads (F.files folder.old) folder.old folder.new }
+    ensures later { F.faults folder.old ≤ F.faults folder.new }
+{
+    let sources = gather(alloc, folder, most)?;
+    project_of(alloc, &sources)
 }

@@ -5,9 +5,10 @@ ghost use Rattle.fsm_io.specs.Causes.{Rose};
 ghost use Rattle.fsm_io.specs.Folders.{Files, IsTold, Told};
 ghost use Rattle.fsm_io.specs.Reading.{HasTold};
 ghost use Rattle.regex_ast.specs.declared.fault.Fault.{Fault};
-ghost use Rattle.fsm_meaning.specs.Projects.{Project};
+ghost use Rattle.fsm_meaning.specs.Projects.{Project as Meant};
 ghost use Rattle.fsm_meaning.specs.Replies.{Replies};
-ghost use Rattle.project_model.specs.Plans.{AreNames, project_in};
+ghost use Rattle.project_model.specs.Written.{Planned, project_in};
+ghost use Rattle.fsm_program.specs.Loaded.{AreNames, IsLoadedFrom};
 ghost use Rattle.reply_text.specs.Projects.{accepted_line, refused_line};
 ghost use Rattle.fsm_program.specs.Ends.{Asked, Ends, IsAnswered, IsNotLoaded, IsSaid, IsWhyUnread, Loads, Query, asked_by, asked_of, for_check, for_help, for_look, status_of, usage_text};
 ghost use Rattle.fsm_program.specs.Files.{Asks, Reads};
@@ -17,11 +18,11 @@ ghost use Rattle.fsm_program.specs.Running.{most_taken};
 use crate::load::{LoadError, load};
 use crate::look_up::look_up_all;
 use crate::network::Network;
+use crate::project::Project;
 use crate::words::{Command, WordsError, read_words};
 use fsm_base::Text;
 use fsm_io::{Failed, Folder, Lines, Outbox, Sink, Source, write_all};
 use fsm_meaning::{Direction, Ending};
-use project_model::Plan;
 use reply_text::{accepted, refused};
 use std::alloc::{AllocError, Global};
 
@@ -94,21 +95,21 @@ fn not_loaded<O: Sink>(alloc: Global, error: LoadError, output: &mut O) -> u8
 }
 
 /// The line of a project without fault.
-fn names_line(alloc: Global, plan: &Plan) -> Result<Vec<u8>, AllocError>
-    ensures { IfOk result (λ text. (names : List (List ℕ)) × AreNames (project_in plan.now) names × (text.items ≡ accepted_line 1 names)) }
+fn names_line(alloc: Global, project: &Project) -> Result<Vec<u8>, AllocError>
+    ensures { (planned : Planned) → IsLoadedFrom planned project.now → IfOk result (λ text. (names : List (List ℕ)) × AreNames (project_in planned) names × (text.items ≡ accepted_line 1 names)) }
 {
-    let names = plan.names(alloc)?;
+    let names = project.names(alloc)?;
     accepted(alloc, 1, &names)
 }
 
 /// Writes the names of a project.
-fn say_names<O: Sink>(alloc: Global, plan: &Plan, output: &mut O) -> u8
-    ensures said { ((names : List (List ℕ)) × AreNames (project_in plan.now) names × IsSaid (O.held output.old) (O.held output.new) (accepted_line 1 names) 0 result) ⊎ (result ≡ 5) }
+fn say_names<O: Sink>(alloc: Global, project: &Project, output: &mut O) -> u8
+    ensures said { (planned : Planned) → IsLoadedFrom planned project.now → ((names : List (List ℕ)) × AreNames (project_in planned) names × IsSaid (O.held output.old) (O.held output.new) (accepted_line 1 names) 0 result) ⊎ (result ≡ 5) }
     ensures status { (result ≡ 0) ⊎ (result ≡ 4) ⊎ (result ≡ 5) }
     ensures unwritten { result ≡ 5 → output.new ≡ output.old }
     ensures write { result ≡ 4 → Rose (O.faults output.old) (O.faults output.new) }
 {
-    match names_line(alloc, plan) {
+    match names_line(alloc, project) {
         Ok(text) => said(output, &text, 0),
         Err(_) => 5,
     }
@@ -123,7 +124,7 @@ fn check<F: Folder, O: Sink>(alloc: Global, folder: &mut F, output: &mut O) -> u
     ensures asked { Asks F.reads (F.files folder.old) folder.old folder.new }
 {
     match load(alloc, folder, MOST_READ) {
-        Ok(plan) => say_names(alloc, &plan, output),
+        Ok(project) => say_names(alloc, &project, output),
         Err(error) => not_loaded(alloc, error, output),
     }
 }
@@ -140,7 +141,7 @@ fn answered<I: Source, O: Sink>(
 ) -> u8
     requires start { (left : Option (List ℕ)) → HasTold left left most_taken lines.old [] }
     requires empty { outbox.old ≡ [] }
-    ensures answered { (project : Project) → Shows network.now project
+    ensures answered { (project : Meant) → Shows network.now project
         → IsAnswered (Replies project direction 1 network.now.name) (I.left input.old) (I.left input.new) (O.held output.old) (O.held output.new) result }
     ensures read { result ≡ 3 → Rose (I.faults input.old) (I.faults input.new) }
     ensures write { result ≡ 4 → Rose (O.faults output.old) (O.faults output.new) }
@@ -171,11 +172,11 @@ fn look_up<F: Folder, I: Source, O: Sink>(
     let Ok(mut outbox) = Outbox::open(alloc, OUTBOX_ROOM) else {
         return 5;
     };
-    let plan = match load(alloc, folder, MOST_READ) {
-        Ok(plan) => plan,
+    let project = match load(alloc, folder, MOST_READ) {
+        Ok(project) => project,
         Err(error) => return not_loaded(alloc, error, output),
     };
-    match Network::of(alloc, plan, net) {
+    match Network::of(alloc, project, net) {
         Ok(network) => answered(
             alloc,
             &network,
@@ -267,11 +268,11 @@ pub fn run<F: Folder, I: Source, O: Sink>(
     ensures fault { result ≡ 2 → (fault : Fault) × Told (F.files folder.old) (λ files. Reads files (Err fault)) }
     ensures refused { (what : Asked) (fault : Fault) → asked_of (map string_bytes words.now) ≡ Some what → Loads what → IsTold (F.files folder.old) (λ files. Reads files (Err fault)) → ¬ (Rose (F.faults folder.old) (F.faults folder.new))
         → IsSaid (O.held output.old) (O.held output.new) (refused_line fault) 2 result ⊎ (result ≡ 5) }
-    ensures checked { (project : Project) → asked_of (map string_bytes words.now) ≡ Some for_check → IsTold (F.files folder.old) (λ files. Reads files (Ok project)) → ¬ (Rose (F.faults folder.old) (F.faults folder.new))
+    ensures checked { (project : Meant) → asked_of (map string_bytes words.now) ≡ Some for_check → IsTold (F.files folder.old) (λ files. Reads files (Ok project)) → ¬ (Rose (F.faults folder.old) (F.faults folder.new))
         → ((names : List (List ℕ)) × AreNames project names × IsSaid (O.held output.old) (O.held output.new) (accepted_line 1 names) 0 result) ⊎ (result ≡ 5) }
-    ensures answered { (query : Query) (project : Project) → asked_of (map string_bytes words.now) ≡ Some (for_look query) → IsTold (F.files folder.old) (λ files. Reads files (Ok project)) → ¬ (Rose (F.faults folder.old) (F.faults folder.new))
+    ensures answered { (query : Query) (project : Meant) → asked_of (map string_bytes words.now) ≡ Some (for_look query) → IsTold (F.files folder.old) (λ files. Reads files (Ok project)) → ¬ (Rose (F.faults folder.old) (F.faults folder.new))
         → IsAnswered (Replies project query.direction 1 query.net) (I.left input.old) (I.left input.new) (O.held output.old) (O.held output.new) result ⊎ (result ≡ 5) }
-    ensures complete { (what : Asked) (project : Project) → asked_of (map string_bytes words.now) ≡ Some what → Loads what → IsTold (F.files folder.old) (λ files. Reads files (Ok project)) → ¬ (Rose (F.faults folder.old) (F.faults folder.new))
+    ensures complete { (what : Asked) (project : Meant) → asked_of (map string_bytes words.now) ≡ Some what → Loads what → IsTold (F.files folder.old) (λ files. Reads files (Ok project)) → ¬ (Rose (F.faults folder.old) (F.faults folder.new))
         → ¬ (Rose (I.faults input.old) (I.faults input.new)) → ¬ (Rose (O.faults output.old) (O.faults output.new)) → result ≢ 6 → (result ≡ 0) ⊎ (result ≡ 5) }
     ensures spent { result ≡ 6 → (taken : List ℕ) × Consumes (I.left input.old) (I.left input.new) taken × (length taken ≡ most_taken) }
     ensures unread { (result ≡ 1) ⊎ (result ≡ 2) ⊎ (result ≡ 5) → input.new ≡ input.old }

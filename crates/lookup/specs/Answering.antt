@@ -4,7 +4,7 @@ use Rattle.std.specs.Prelude.{◌≡◌, ◌⊎◌, ℕ, List, Some, Contains}
 use Rattle.fsm_base.specs.Alphabet.{spelled, symbols_of}
 use Rattle.fsm_base.specs.declared.letters.Sym.{Sym}
 use Rattle.fsm_base.specs.declared.letters.Pair.{Pair}
-use Rattle.fsm_meaning.specs.Answers.{Texts, Found, strings, more, loop}
+use Rattle.lookup_answers.specs.Answers.{Texts, Found, strings, more, loop}
 use Rattle.fsa.specs.Automaton.{Automaton, UsesLetter}
 use Rattle.fst_relation.specs.Relation.{IsRelated}
 use Rattle.lookup.specs.Moves.{IsRelatedBy}

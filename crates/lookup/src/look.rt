@@ -1,7 +1,7 @@
 ghost use Rattle.std.specs.Prelude.{◌≡◌, ◌<◌, IfOk};
 ghost use Rattle.fsm_words.specs.Words.{IsOver, joined};
 ghost use Rattle.fsm_base.specs.Alphabet.{spelled, symbols_of};
-ghost use Rattle.fsm_meaning.specs.Answers.{Answers, IsLoop, loop};
+ghost use Rattle.lookup_answers.specs.Answers.{Answers, IsLoop, loop};
 ghost use Rattle.lookup_graph.specs.Graph.{IsWithin};
 ghost use Rattle.lookup_graph.specs.Turns.{IsTurn};
 ghost use Rattle.lookup_texts.specs.GraphTexts.{AreOf, GraphTexts};

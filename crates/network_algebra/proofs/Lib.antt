@@ -4,3 +4,4 @@ pub mod WordAlone
 pub mod Steps
 pub mod Counted
 pub mod Meanings
+pub mod Reduced

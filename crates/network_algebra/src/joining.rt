@@ -7,6 +7,7 @@ ghost use Rattle.network_algebra.specs.Networks.{IsFor, IsNetwork, PairsOf, Word
 
 use crate::network::Network;
 use crate::operands::{Operands, alike};
+use crate::rational;
 use std::alloc::{AllocError, Global};
 
 /// What one network and then another is.
@@ -15,8 +16,8 @@ pub fn concat(alloc: Global, a: Network, b: Network) -> Result<Network, AllocErr
     ensures meaning { IfOk result (IsFor (both (kind_of_network a) (kind_of_network b)) (IsConcatenation (WordsOf a) (WordsOf b)) (IsConcatenationOfPairs (PairsOf a) (PairsOf b))) }
 {
     match alike(alloc, a, b)? {
-        Operands::Words(x, y) => Ok(Network::Words(fsa_rational::concat(alloc, &x, &y)?)),
-        Operands::Pairs(x, y) => Ok(Network::Pairs(fsa_rational::concat(alloc, &x, &y)?)),
+        Operands::Words(x, y) => Ok(Network::Words(rational::concat(alloc, &x, &y)?)),
+        Operands::Pairs(x, y) => Ok(Network::Pairs(rational::concat(alloc, &x, &y)?)),
     }
 }
 
@@ -26,7 +27,7 @@ pub fn union(alloc: Global, a: Network, b: Network) -> Result<Network, AllocErro
     ensures meaning { IfOk result (IsFor (both (kind_of_network a) (kind_of_network b)) (λ w. WordsOf a w ⊎ WordsOf b w) (λ u w. PairsOf a u w ⊎ PairsOf b u w)) }
 {
     match alike(alloc, a, b)? {
-        Operands::Words(x, y) => Ok(Network::Words(fsa_rational::union(alloc, &x, &y)?)),
-        Operands::Pairs(x, y) => Ok(Network::Pairs(fsa_rational::union(alloc, &x, &y)?)),
+        Operands::Words(x, y) => Ok(Network::Words(rational::union(alloc, &x, &y)?)),
+        Operands::Pairs(x, y) => Ok(Network::Pairs(rational::union(alloc, &x, &y)?)),
     }
 }

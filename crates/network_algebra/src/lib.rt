@@ -12,6 +12,8 @@ mod joining;
 mod letters;
 mod network;
 mod operands;
+mod rational;
+mod relations;
 mod renaming;
 mod repeating;
 mod sides;

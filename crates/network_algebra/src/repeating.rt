@@ -7,9 +7,9 @@ ghost use Rattle.expr_meaning.specs.Operators.{IsRepetitionOf, Just};
 ghost use Rattle.network_algebra.specs.Networks.{Counts, IsFor, IsNetwork, PairsOf, WordsOf, kind_of_network};
 
 use crate::network::Network;
+use crate::rational::{concat, star};
 use crate::words::word;
 use fsa::Fsa;
-use fsa_rational::{concat, star};
 use fsm_base::Letter;
 use std::alloc::{AllocError, Global};
 

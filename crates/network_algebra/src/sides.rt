@@ -8,6 +8,7 @@ ghost use Rattle.network_algebra.specs.Networks.{IsFor, IsNetwork, PairsOf, Uses
 
 use crate::letters::{inside, with_edge};
 use crate::network::Network;
+use crate::relations;
 use fsa::Fsa;
 use fsm_base::{Bound, Sym};
 use std::alloc::{AllocError, Global};
@@ -17,7 +18,7 @@ pub fn upper(alloc: Global, network: Network) -> Result<Network, AllocError>
     ensures letters { IfOk result (λ n. (symbols : List Sym) → IsNetwork symbols network → IsNetwork symbols n) }
     ensures meaning { IfOk result (IsFor Kind.Language (WithEdge (IsUpper (PairsOf network))) (λ u w. IsUpper (PairsOf network) u × (u ≡ w))) }
 {
-    let side = fst_algebra::upper(alloc, &network.into_pairs(alloc)?)?;
+    let side = relations::upper(alloc, &network.into_pairs(alloc)?)?;
     Ok(Network::Words(with_edge(alloc, &side)?))
 }
 
@@ -26,7 +27,7 @@ pub fn lower(alloc: Global, network: Network) -> Result<Network, AllocError>
     ensures letters { IfOk result (λ n. (symbols : List Sym) → IsNetwork symbols network → IsNetwork symbols n) }
     ensures meaning { IfOk result (IsFor Kind.Language (WithEdge (IsLower (PairsOf network))) (λ u w. IsLower (PairsOf network) u × (u ≡ w))) }
 {
-    let side = fst_algebra::lower(alloc, &network.into_pairs(alloc)?)?;
+    let side = relations::lower(alloc, &network.into_pairs(alloc)?)?;
     Ok(Network::Words(with_edge(alloc, &side)?))
 }
 
@@ -57,6 +58,6 @@ pub fn cross(alloc: Global, a: &Fsa<Bound<Sym>>, b: &Fsa<Bound<Sym>>) -> Result<
     ensures letters { IfOk result (λ n. (symbols : List Sym) → UsesOnly (all_letters symbols) a.now → UsesOnly (all_letters symbols) b.now → IsNetwork symbols n) }
     ensures meaning { IfOk result (IsFor Kind.Relation (λ w. Accepts a.now w × Accepts b.now w) (λ u w. Accepts a.now (inner u) × Accepts b.now (inner w))) }
 {
-    let pairs = fst_algebra::cross(alloc, &inside(alloc, a)?, &inside(alloc, b)?)?;
+    let pairs = relations::cross(alloc, &inside(alloc, a)?, &inside(alloc, b)?)?;
     Ok(Network::Pairs(pairs))
 }

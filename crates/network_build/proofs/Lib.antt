@@ -1,5 +1,3 @@
-pub mod Weights
-pub mod Alike
-pub mod Rows
-pub mod Meant
-pub mod LeafWords
+mod Built
+mod Sounds
+mod Uses

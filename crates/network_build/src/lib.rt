@@ -1,16 +1,13 @@
-//! The network of an expression: a language's automaton or a relation's transducer, which has just the meaning that
-//! `expr_meaning` defines.
+//! The network of a definition.
 //!
-//! - [`relation_of`]: the transducer of what an expression relates.
-//! - [`language_of`]: the language of an expression that is one.
-//! - [`network_of`]: the network of an expression, of its kind.
+//! - [`build`]: the network of a definition of a plan, over the plan's alphabet: a [`Compiled`].
+//! - [`BuildError`]: why there is none.
 #![tactic(auto)]
 
-mod build;
-mod leaves;
-mod meaning;
-mod prefixes;
-mod suffixes;
+mod compiled;
+mod expression;
+mod network;
+mod symbols;
 
-pub use build::network_of;
-pub use meaning::{language_of, relation_of};
+pub use compiled::{BuildError, Compiled};
+pub use network::build;

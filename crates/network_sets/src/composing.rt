@@ -4,9 +4,9 @@ ghost use Rattle.fst_compose.specs.Composition.{IsComposition};
 ghost use Rattle.expr_forms.specs.Kinds.{both};
 ghost use Rattle.network_algebra.specs.Networks.{IsFor, IsNetwork, PairsOf, WordsOf, kind_of_network};
 
+use crate::relations::compose;
 use crate::sets::both;
 use fsm_base::Sym;
-use fst_compose::compose;
 use network_algebra::{Network, Operands, alike};
 use std::alloc::{AllocError, Global};
 

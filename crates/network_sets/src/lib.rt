@@ -10,6 +10,7 @@
 
 mod composing;
 mod parts;
+mod relations;
 mod restricting;
 mod sets;
 

@@ -1,83 +1,121 @@
--- The alphabet of all symbols of a table.
-use Rattle.std.proofs.Common.{◌≡◌, ℕ, ◌+◌, ◌<◌, ◌≤◌, ◌==◌, Bool, true, false, cond, List, [], ◌∷◌, ◌++◌, ◌⊎◌, length, take, Some, refl, sym, ap, subst, ◌∙◌, inl, inr, slice_get, arith, zero, suc, All, Contains, length-append}
-use Rattle.std.proofs.lemmas.List.{take_more, map-append, take_all}
-use Rattle.std.proofs.lemmas.List.Elements.{All-nil, All-cons, All-append, All-weaker, Contains-append_left, Contains-append_right}
-use Rattle.std.proofs.lemmas.Bool.{cases_lt}
+-- The symbols of an alphabet by their numbers in a table that has them.
+use Rattle.std.proofs.Common.{◌≡◌, ℕ, ◌<◌, ◌==◌, Bool, true, false, cond, ◌||◌, IsTrue, List, [], ◌∷◌, ◌⊎◌, length, Some, None, refl, sym, ap, subst, ◌∙◌, inl, inr, slice_get, arith, All, Contains}
+use Rattle.std.proofs.lemmas.List.Elements.{All-nil, All-cons, All-head, All-tail, All-map, All-weaker, All-contains, Contains-append_left}
 use Rattle.std.proofs.lemmas.Bool.Decides.{nat_tests}
-use Rattle.std.specs.List.{slice_index_or}
+use Rattle.std.proofs.lemmas.Option.{slice_get-map, slice_get_cases, slice_get_within, get_or_from_slice_get, same_Some}
+use Rattle.std.proofs.lemmas.Slice.Eq.{bytes_eq-Decides}
+use Rattle.std.specs.List.{list_any, slice_index_or}
+use Rattle.std.specs.Option.{option_map}
+use Rattle.std.specs.Str.{bytes_eq}
 use Rattle.fsm_words.specs.Words.{IsDistinct}
-use Rattle.fsm_words.proofs.Members.{Contains-nil_cases, Contains-head, Contains-cons_cases}
-use Rattle.fsm_words.proofs.Places.{slice_get-append_cases}
+use Rattle.fsm_words.proofs.Members.{Contains-nil_cases, Contains-cons_cases}
+use Rattle.fsm_words.proofs.Places.{Contains-from_slice_get}
 use Rattle.fsm_base.specs.declared.letters.Sym.{Sym}
 use Rattle.fsm_base.specs.Alphabet.{listed, symbols_of, texts_of, text_of}
-use Rattle.project_model.specs.Plans.{symbols_below}
+use Rattle.fsm_base.specs.Symbols.{number_of, with_text}
+use Rattle.fsm_meaning.specs.Projects.{with_texts}
+use Rattle.project_model.specs.Planned.{numbers_in}
+use Rattle.project_model.proofs.Gathering.{with_texts_behind}
+use Rattle.project_model.proofs.Texts.{any_from_has, number_held, text_with}
 
 pub cases_bool : (b : Bool) → (b ≡ true) ⊎ (b ≡ false)
 cases_bool true = inl refl
 cases_bool false = inr refl
 
-length-below : (n : ℕ) → length (symbols_below n) ≡ n
-length-below zero = refl
-length-below (suc n) = omega (arith, length-append (symbols_below n) (record { 0 = n } ∷ []), length-below n)
+-- what a table has stays in it, and it has what is put into it
+kept : (texts table : List (List ℕ)) (text : List ℕ) → Contains table text → Contains (with_texts table texts) text
+kept texts table text among =
+    let more = with_texts_behind texts table in
+    subst (λ (t : List (List ℕ)). Contains t text) (sym more.1) (Contains-append_left table more.0 text among)
 
--- the symbol of each number stands at its place
-below_at : (n k : ℕ) (x : Sym) → slice_get (symbols_below n) k ≡ Some x → x.0 ≡ k
-below_at zero k x at = cc
-below_at (suc n) k x at =
-    elim (slice_get-append_cases (symbols_below n) (record { 0 = n } ∷ []) k x at) as (λ _. x.0 ≡ k) [
-      | inl front ↦ below_at n k x front
-      | inr last ↦ last_at last.0 last.1 last.2
+pub put : (texts table : List (List ℕ)) → All (Contains (with_texts table texts)) texts
+put [] table = All-nil (Contains table)
+put (text ∷ texts) table = All-cons (Contains (with_texts (with_text text table) texts)) text texts (kept texts (with_text text table) text (text_with text table)) (put texts (with_text text table))
+
+-- a text that a table has stands there under its number
+pub at_number : (table : List (List ℕ)) (text : List ℕ) → Contains table text → slice_get table (number_of text table) ≡ Some text
+at_number table text among = number_held text table (any_from_has text table among)
+
+pub number_within : (table : List (List ℕ)) (text : List ℕ) → Contains table text → number_of text table < length table
+number_within table text among = slice_get_within table (number_of text table) text (at_number table text among)
+
+-- two texts of a table with the same number are the same
+same_text : (table : List (List ℕ)) (text other : List ℕ) → Contains table text → Contains table other → number_of text table ≡ number_of other table
+    → text ≡ other
+same_text table text other among is_among same =
+    same_Some text other (sym (at_number table text among) ∙ ap (slice_get table) same ∙ at_number table other is_among)
+
+abbrev symbol_in : List (List ℕ) → List ℕ → Sym
+symbol_in table text = record { 0 = number_of text table }
+
+-- the numbers of texts of a table are below its length
+pub numbers_held : (table texts : List (List ℕ)) → All (Contains table) texts → All (λ (s : Sym). s.0 < length table) (numbers_in table texts)
+numbers_held table texts held =
+    All-map (λ (s : Sym). s.0 < length table) (symbol_in table) texts (All-weaker (Contains table) (λ text. number_of text table < length table) (number_within table) texts held)
+
+-- different texts have different numbers
+pub numbers_distinct : (table texts : List (List ℕ)) → All (Contains table) texts → IsDistinct texts → IsDistinct (numbers_in table texts)
+numbers_distinct table texts held distinct i j s at_i at_j =
+    elim ((slice_get_cases texts i).1) as (λ _. i ≡ j) [
+      | inl p ↦ elim ((slice_get_cases texts j).1) as (λ _. i ≡ j) [
+        | inl q ↦ both p.0 q.0 p.2 q.2
+        | inr q ↦ let never : None ≡ Some s = sym (shown j ∙ ap (option_map (symbol_in table)) q.1) ∙ at_j in cc
+      ]
+      | inr p ↦ let never : None ≡ Some s = sym (shown i ∙ ap (option_map (symbol_in table)) p.1) ∙ at_i in cc
     ]
   where
-    last_at : (j : ℕ) → k ≡ j + length (symbols_below n) → slice_get (record { 0 = n } ∷ []) j ≡ Some x → x.0 ≡ k
-    last_at zero e is = let same : record { 0 = n } ≡ x = cc in omega (arith, ap (λ (s : Sym). s.0) same, e, length-below n)
-    last_at (suc j) e is = cc
+    shown : (k : ℕ) → slice_get (numbers_in table texts) k ≡ option_map (symbol_in table) (slice_get texts k)
+    shown k = slice_get-map (symbol_in table) texts k
 
-pub below_distinct : (n : ℕ) → IsDistinct (symbols_below n)
-below_distinct n i j x at_i at_j = sym (below_at n i x at_i) ∙ below_at n j x at_j
+    number_is : (k : ℕ) (text : List ℕ) → slice_get texts k ≡ Some text → slice_get (numbers_in table texts) k ≡ Some s → number_of text table ≡ s.0
+    number_is k text at at_k = ap (λ (t : Sym). t.0) (same_Some (symbol_in table text) s (sym (ap (option_map (symbol_in table)) at) ∙ sym (shown k) ∙ at_k))
 
-pub below_held : (n : ℕ) → All (λ (s : Sym). s.0 < n) (symbols_below n)
-below_held zero = All-nil (λ (s : Sym). s.0 < 0)
-below_held (suc n) =
-    All-append (λ (s : Sym). s.0 < suc n) (symbols_below n) (record { 0 = n } ∷ [])
-    (All-weaker (λ (s : Sym). s.0 < n) (λ (s : Sym). s.0 < suc n) (λ s below. omega arith) (symbols_below n) (below_held n))
-    (All-cons (λ (s : Sym). s.0 < suc n) (record { 0 = n }) [] (omega arith) (All-nil (λ (s : Sym). s.0 < suc n)))
+    both : (text other : List ℕ) → slice_get texts i ≡ Some text → slice_get texts j ≡ Some other → i ≡ j
+    both text other text_at other_at =
+        let first = All-contains (Contains table) texts text held (Contains-from_slice_get texts i text text_at) in
+        let second = All-contains (Contains table) texts other held (Contains-from_slice_get texts j other other_at) in
+        let same : text ≡ other = same_text table text other first second (number_is i text text_at at_i ∙ sym (number_is j other other_at at_j)) in
+        distinct i j text text_at (other_at ∙ ap (λ (t : List ℕ). Some t) (sym same))
 
-pub below_has : (n : ℕ) (s : Sym) → s.0 < n → Contains (symbols_below n) s
-below_has zero s below = absurd (omega arith)
-below_has (suc n) s below =
-    elim (cases_lt s.0 n) as (λ _. Contains (symbols_below (suc n)) s) [
-      | inl less ↦ Contains-append_left (symbols_below n) (record { 0 = n } ∷ []) s (below_has n s less)
-      | inr same ↦
-          let is : n ≡ s.0 = omega arith in
-          Contains-append_right (symbols_below n) (record { 0 = n } ∷ []) s
-          (subst (λ (k : ℕ). Contains (record { 0 = k } ∷ []) s) (sym is) (Contains-head s []))
-    ]
+-- the number of a text of an alphabet is one of the alphabet's
+pub number_any : (table texts : List (List ℕ)) (text : List ℕ) → IsTrue (list_any (bytes_eq text) texts)
+    → IsTrue (list_any (λ (t : Sym). t.0 == number_of text table) (numbers_in table texts))
+number_any table [] text any = any
+number_any table (t ∷ texts) text any = by (bytes_eq text t) refl (number_any table texts text)
+  where
+    or_first : (a b : Bool) → IsTrue a → IsTrue (a || b)
+    or_first true b h = refl
+    or_first false b h = let never : false ≡ true = h in cc
+
+    or_second : (a b : Bool) → IsTrue b → IsTrue (a || b)
+    or_second true b h = refl
+    or_second false b h = h
+
+    itself : (n m : ℕ) → n ≡ m → IsTrue (n == m)
+    itself n m e = grind (arith, nat_tests)
+
+    by : (b : Bool) → bytes_eq text t ≡ b
+        → (IsTrue (list_any (bytes_eq text) texts) → IsTrue (list_any (λ (t : Sym). t.0 == number_of text table) (numbers_in table texts)))
+        → IsTrue (list_any (λ (t : Sym). t.0 == number_of text table) (numbers_in table (t ∷ texts)))
+    by true e rest =
+        or_first (number_of t table == number_of text table) _ (itself (number_of t table) (number_of text table) (ap (λ (u : List ℕ). number_of u table) (sym ((bytes_eq-Decides text t).0 e))))
+    by false e rest = or_second (number_of t table == number_of text table) _ (rest (subst (λ (b : Bool). IsTrue (b || list_any (bytes_eq text) texts)) e any))
 
 pub symbols_of-listed : (table : List (List ℕ)) (symbols : List Sym) → symbols_of (listed table symbols) ≡ symbols
 symbols_of-listed table [] = refl
 symbols_of-listed table (s ∷ symbols) = ap (λ (z : List Sym). s ∷ z) (symbols_of-listed table symbols)
 
--- the texts of all symbols of a table are the table
-texts_of-front : (table : List (List ℕ)) (n : ℕ) → n ≤ length table → texts_of (listed table (symbols_below n)) ≡ take n table
-texts_of-front table zero fits = refl
-texts_of-front table (suc n) fits =
-    let front = texts_of-front table n (omega arith) in
-    let one : List Sym = record { 0 = n } ∷ [] in
-    ap (λ (z : List (Sym × List ℕ)). texts_of z) (map-append (λ (s : Sym). (s, slice_index_or table s.0 [])) (symbols_below n) one)
-    ∙ map-append (λ (e : Sym × List ℕ). e.1) (listed table (symbols_below n)) (listed table one)
-    ∙ ap (λ (z : List (List ℕ)). z ++ slice_index_or table n [] ∷ []) front
-    ∙ sym (take_more table n [] (omega arith))
-    ∙ ap (λ (k : ℕ). take k table) (next n)
-  where
-    next : (n : ℕ) → n + 1 ≡ suc n
-    next n = omega arith
-
-pub texts_of-all : (table : List (List ℕ)) → texts_of (listed table (symbols_below (length table))) ≡ table
-texts_of-all table = texts_of-front table (length table) (omega arith) ∙ take_all (length table) table (omega arith)
+-- the texts of an alphabet are listed under their numbers
+pub texts_of-numbers : (table texts : List (List ℕ)) → All (Contains table) texts → texts_of (listed table (numbers_in table texts)) ≡ texts
+texts_of-numbers table [] held = refl
+texts_of-numbers table (text ∷ texts) held =
+    let here = All-head (Contains table) text texts held in
+    ap (λ (t : List ℕ). t ∷ texts_of (listed table (numbers_in table texts))) (get_or_from_slice_get table (number_of text table) text [] (at_number table text here))
+    ∙ ap (λ (z : List (List ℕ)). text ∷ z) (texts_of-numbers table texts (All-tail (Contains table) text texts held))
 
 -- the text of a listed symbol is the table's
-pub text_of-listed : (table : List (List ℕ)) (symbols : List Sym) (s : Sym) → Contains symbols s → text_of (listed table symbols) s ≡ slice_index_or table s.0 []
+pub text_of-listed : (table : List (List ℕ)) (symbols : List Sym) (s : Sym) → Contains symbols s
+    → text_of (listed table symbols) s ≡ slice_index_or table s.0 []
 text_of-listed table [] s among = absurd (Contains-nil_cases s among)
 text_of-listed table (t ∷ symbols) s among =
     elim (cases_bool (s.0 == t.0)) as (λ _. text_of (listed table (t ∷ symbols)) s ≡ slice_index_or table s.0 []) [

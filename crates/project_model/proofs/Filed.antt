@@ -18,7 +18,8 @@ bytes_eq_turned a b = by (bytes_eq a b) (bytes_eq b a) refl refl
     by false true e f = sym e ∙ (bytes_eq-Decides a b).1 (sym ((bytes_eq-Decides b a).0 f))
     by false false e f = refl
 
-pub found_file : (name : List ℕ) (entries : List (String Global × Vec ℕ Global)) → option_map (λ (v : Vec ℕ Global). v.items) (lookup (λ k. bytes_eq name (string_bytes k)) entries) ≡ file_of name (files_in entries)
+pub found_file : (name : List ℕ) (entries : List (String Global × Vec ℕ Global))
+    → option_map (λ (v : Vec ℕ Global). v.items) (lookup (λ k. bytes_eq name (string_bytes k)) entries) ≡ file_of name (files_in entries)
 found_file name [] = refl
 found_file name (e ∷ entries) =
     by (bytes_eq name (string_bytes e.0)) (found_file name entries)
@@ -30,7 +31,8 @@ found_file name (e ∷ entries) =
     by false rest = rest
 
 -- a file that is put is found under its name, and the others as before
-put_first : (file name : List ℕ) (bytes : List ℕ) (k : List ℕ) (old : List ℕ) (rest now : Option (List ℕ)) (b : Bool) → bytes_eq file k ≡ b → now ≡ cond (bytes_eq file name) (Some bytes) rest
+put_first : (file name : List ℕ) (bytes : List ℕ) (k : List ℕ) (old : List ℕ) (rest now : Option (List ℕ)) (b : Bool) → bytes_eq file k ≡ b
+    → now ≡ cond (bytes_eq file name) (Some bytes) rest
     → cond b (cond (bytes_eq k name) (Some bytes) rest) (cond (bytes_eq k name) (Some old) now) ≡ cond (bytes_eq file name) (Some bytes) (cond (bytes_eq k name) (Some old) rest)
 put_first file name bytes k old rest now true e is =
     let same : file ≡ k = (bytes_eq-Decides file k).0 e in
@@ -42,7 +44,8 @@ put_first file name bytes k old rest now true e is =
 put_first file name bytes k old rest now false e is =
     ap (λ z. cond (bytes_eq k name) (Some old) z) is ∙ by (bytes_eq k name) (bytes_eq file name) refl refl
   where
-    by : (x y : Bool) → bytes_eq k name ≡ x → bytes_eq file name ≡ y → cond x (Some old) (cond y (Some bytes) rest) ≡ cond y (Some bytes) (cond x (Some old) rest)
+    by : (x y : Bool) → bytes_eq k name ≡ x → bytes_eq file name ≡ y
+        → cond x (Some old) (cond y (Some bytes) rest) ≡ cond y (Some bytes) (cond x (Some old) rest)
     by true true f g =
         let same : file ≡ k = (bytes_eq-Decides file name).0 g ∙ sym ((bytes_eq-Decides k name).0 f) in
         let both : true ≡ false = sym ((bytes_eq-Decides file k).1 same) ∙ e in
@@ -51,7 +54,8 @@ put_first file name bytes k old rest now false e is =
     by false true f g = refl
     by false false f g = refl
 
-pub put_file : (name : List ℕ) (owned : String Global) (bytes : Vec ℕ Global) (entries : List (String Global × Vec ℕ Global)) → file_of name (files_in (insert_entry string_eq entries owned bytes)) ≡ cond (bytes_eq (string_bytes owned) name) (Some bytes.items) (file_of name (files_in entries))
+pub put_file : (name : List ℕ) (owned : String Global) (bytes : Vec ℕ Global) (entries : List (String Global × Vec ℕ Global))
+    → file_of name (files_in (insert_entry string_eq entries owned bytes)) ≡ cond (bytes_eq (string_bytes owned) name) (Some bytes.items) (file_of name (files_in entries))
 put_file name owned bytes [] = refl
 put_file name owned bytes (e ∷ entries) =
     opened (string_eq owned e.0)

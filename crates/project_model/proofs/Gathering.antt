@@ -8,7 +8,8 @@ use Rattle.std.specs.Str.{bytes_eq}
 use Rattle.regex_ast.specs.declared.expr.Raw.{Raw}
 use Rattle.regex_ast.specs.Terms.{Term, Terms, Links, Contexts, Steps, Mappings, Groups, empty, any, edge, atom, letters, group, maybe, not_one, cross, suffixed, prefixed, ignore, concat, chain, only, rules, steps, no_term, then_term, no_link, or, and, less, no_context, between, no_step, cross_with, then, no_mapping, plain, markup, insert, no_group, then_group}
 use Rattle.fsm_base.specs.Symbols.{with_text}
-use Rattle.fsm_meaning.specs.Projects.{listed, listed_each, listed_links, listed_contexts, listed_steps, listed_mappings, listed_groups, is_symbol, symbol_of, symbol_beside, with_texts}
+use Rattle.expr_parts.specs.Leaves.{listed, listed_each, listed_links, listed_contexts, listed_steps, listed_mappings, listed_groups}
+use Rattle.fsm_meaning.specs.Projects.{is_symbol, symbol_of, symbol_beside, with_texts}
 use Rattle.project_model.specs.Gathered.{gathered}
 use Rattle.project_model.specs.Together.{most_symbols}
 
@@ -55,7 +56,8 @@ pub gathered_none : (table : List (List ℕ)) → length table ≤ most_symbols 
 gathered_none table short = take_all (most_symbols + 1) table short
 
 -- a step of a loop that gathers the symbols of items, and its end
-pub gather_more : (table now first rest left whole : List (List ℕ)) → now ≡ gathered table first → left ≡ first ++ rest → gathered table left ≡ whole → gathered now rest ≡ whole
+pub gather_more : (table now first rest left whole : List (List ℕ)) → now ≡ gathered table first → left ≡ first ++ rest → gathered table left ≡ whole
+    → gathered now rest ≡ whole
 gather_more table now first rest left whole now_is left_is same =
     ap (λ (t : List (List ℕ)). gathered t rest) now_is ∙ sym (gathered-append table first rest) ∙ ap (gathered table) (sym left_is) ∙ same
 
@@ -75,7 +77,8 @@ module _ (names : List (List ℕ)) (leaf : Raw) (table : List (List ℕ)) (short
   leaf_full passes many =
       sym (ap (λ b. gathered table (cond b (symbol_of leaf ∷ []) [])) passes ∙ full (most_symbols + 1) (symbol_of leaf ∷ []) table (omega arith) ∙ take_all (most_symbols + 1) table short)
 
-  pub leaf_added : (now : List (List ℕ)) → is_symbol names leaf ≡ true → length table ≤ most_symbols → now ≡ with_text (symbol_of leaf) table → now ≡ gathered table (symbol_beside names leaf)
+  pub leaf_added : (now : List (List ℕ)) → is_symbol names leaf ≡ true → length table ≤ most_symbols → now ≡ with_text (symbol_of leaf) table
+      → now ≡ gathered table (symbol_beside names leaf)
   leaf_added now passes room now_is =
       now_is ∙ sym (ap (λ b. gathered table (cond b (symbol_of leaf ∷ []) [])) passes ∙ take_all (most_symbols + 1) (with_text (symbol_of leaf) table) (few (list_any (bytes_eq (symbol_of leaf)) table)))
     where

@@ -1,13 +1,10 @@
-mod Behind
 mod Filed
-mod Parts
 mod Rowed
 mod Texts
 mod NameSteps
 mod Gathering
-mod BuiltRows
+mod Built
 pub mod Alphabets
-mod Ordered
-mod Planning
+mod Sound
 mod Projecting
 mod Reading

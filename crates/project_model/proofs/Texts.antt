@@ -1,15 +1,14 @@
 -- Whether a list of texts has a text, and at which place.
-use Rattle.std.proofs.Common.{◌≡◌, ℕ, ◌+◌, ◌≤◌, Bool, true, false, cond, not, suc, ◌||◌, List, [], ◌∷◌, ◌++◌, map, length, Option, Some, None, MatchOption, slice_get, refl, sym, ap, subst, ◌∙◌, inl, inr, true≢false, arith, length-append, String}
+use Rattle.std.proofs.Common.{◌≡◌, ℕ, ◌+◌, ◌≤◌, Bool, true, false, cond, not, suc, ◌||◌, List, [], ◌∷◌, ◌++◌, map, length, Some, slice_get, refl, sym, ap, subst, ◌∙◌, inl, inr, true≢false, arith, length-append, String}
+use Rattle.std.proofs.lemmas.List.{length-map}
 use Rattle.std.proofs.lemmas.List.Elements.{Contains-append_right}
 use Rattle.std.proofs.lemmas.Option.{cond_some}
 use Rattle.std.proofs.lemmas.Slice.Eq.{bytes_eq-Decides}
 use Rattle.std.specs.List.{Contains, list_any, position}
-use Rattle.std.specs.Option.{is_some}
 use Rattle.std.specs.Str.{bytes_eq}
 use Rattle.std.specs.String.{string_bytes}
 use Rattle.fsm_base.specs.Symbols.{number_of, with_text}
-use Rattle.project_model.specs.Together.{number_among}
-use Rattle.fsm_base.proofs.TableLemmas.{list_any-strings, position_or_len-strings}
+use Rattle.fsm_base.proofs.TableLemmas.{list_any-strings, number_of-new, position_or_len-strings}
 use Rattle.fsm_words.proofs.Members.{Contains-nil_cases, Contains-head, Contains-tail, Contains-cons_cases}
 
 or_true : (b : Bool) → (b || true) ≡ true
@@ -47,15 +46,13 @@ one_longer text texts most few = by (list_any (bytes_eq text) texts)
     by false = omega (arith, few, length-append texts (text ∷ []))
 
 -- the number of a text among strings
-pub numbered : {Y : Type 0} (text : List ℕ) (ks : List (String Y)) (i : ℕ) → Some i ≡ position (λ k. bytes_eq text (string_bytes k)) ks → true ≡ list_any (λ k. bytes_eq text (string_bytes k)) ks
-    → Some i ≡ number_among (map string_bytes ks) text
-numbered text ks i index found =
-    let any : true ≡ list_any (bytes_eq text) (map string_bytes ks) = found ∙ list_any-strings text ks in
-    let number : i ≡ number_of text (map string_bytes ks) = sym (cond_some _ _ _ (sym index)).1 ∙ position_or_len-strings text ks in
-    ap (λ (n : ℕ). Some n) number ∙ ap (λ b. cond b (Some (number_of text (map string_bytes ks))) None) any
+pub numbered : {Y : Type 0} (text : List ℕ) (ks : List (String Y)) (i : ℕ) → Some i ≡ position (λ k. bytes_eq text (string_bytes k)) ks
+    → i ≡ number_of text (map string_bytes ks)
+numbered text ks i index = sym (cond_some _ _ _ (sym index)).1 ∙ position_or_len-strings text ks
 
-pub not_numbered : {Y : Type 0} (text : List ℕ) (ks : List (String Y)) → false ≡ list_any (λ k. bytes_eq text (string_bytes k)) ks → None ≡ number_among (map string_bytes ks) text
-not_numbered text ks found = ap (λ b. cond b (Some (number_of text (map string_bytes ks))) None) (found ∙ list_any-strings text ks)
+pub not_numbered : {Y : Type 0} (text : List ℕ) (ks : List (String Y)) → false ≡ list_any (λ k. bytes_eq text (string_bytes k)) ks
+    → length ks ≡ number_of text (map string_bytes ks)
+not_numbered text ks found = sym (length-map ks string_bytes) ∙ sym (number_of-new text (map string_bytes ks) (sym (list_any-strings text ks) ∙ sym found))
 
 -- a text that a list has stands at its number
 pub number_held : (text : List ℕ) (texts : List (List ℕ)) → list_any (bytes_eq text) texts ≡ true → slice_get texts (number_of text texts) ≡ Some text
@@ -65,7 +62,8 @@ number_held text (t ∷ texts) any = by (bytes_eq text t) refl (number_held text
     one_more : (n : ℕ) → 1 + n ≡ suc n
     one_more n = omega arith
 
-    by : (b : Bool) → bytes_eq text t ≡ b → (list_any (bytes_eq text) texts ≡ true → slice_get texts (number_of text texts) ≡ Some text) → slice_get (t ∷ texts) (number_of text (t ∷ texts)) ≡ Some text
+    by : (b : Bool) → bytes_eq text t ≡ b → (list_any (bytes_eq text) texts ≡ true → slice_get texts (number_of text texts) ≡ Some text)
+        → slice_get (t ∷ texts) (number_of text (t ∷ texts)) ≡ Some text
     by true e rest = subst (λ b. slice_get (t ∷ texts) (cond (not b) (1 + number_of text texts) 0) ≡ Some text) (sym e) (ap (λ (x : List ℕ). Some x) (sym ((bytes_eq-Decides text t).0 e)))
     by false e rest =
         let behind = rest (subst (λ (b : Bool). (b || list_any (bytes_eq text) texts) ≡ true) e any) in
@@ -78,11 +76,3 @@ text_with text texts = by (list_any (bytes_eq text) texts) refl
     by : (b : Bool) → list_any (bytes_eq text) texts ≡ b → Contains (with_text text texts) text
     by true e = subst (λ b. Contains (cond b texts (texts ++ text ∷ [])) text) (sym e) (has_from_any text texts e)
     by false e = subst (λ b. Contains (cond b texts (texts ++ text ∷ [])) text) (sym e) (Contains-append_right texts (text ∷ []) text (Contains-head text []))
-
--- the place of a text among strings
-pub placed : {Y : Type 0} (text : List ℕ) (ks : List (String Y)) (place : Option ℕ) → place ≡ position (λ k. bytes_eq text (string_bytes k)) ks → is_some place ≡ list_any (λ k. bytes_eq text (string_bytes k)) ks
-    → MatchOption place (list_any (bytes_eq text) (map string_bytes ks) ≡ false) (λ i. slice_get (map string_bytes ks) i ≡ Some text)
-placed text ks None index found = sym (list_any-strings text ks) ∙ sym found
-placed text ks (Some i) index found =
-    let number = sym (cond_some _ _ _ (sym index)).1 ∙ position_or_len-strings text ks in
-    subst (λ n. slice_get (map string_bytes ks) n ≡ Some text) (sym number) (number_held text (map string_bytes ks) (sym (list_any-strings text ks) ∙ sym found))

@@ -1,8 +1,9 @@
 pub mod Gathered
-pub mod Leaves
 pub mod Planned
 pub mod Plans
 pub mod Reads
 pub mod Resolved
+pub mod Sound
 pub mod Sources
 pub mod Together
+pub mod Written

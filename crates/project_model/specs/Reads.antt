@@ -7,8 +7,10 @@ use Rattle.regex_ast.specs.declared.fault.Fault.{Fault}
 use Rattle.regex_ast.specs.declared.fault.Why.TheVariants as why
 use Rattle.regex_reader.specs.Files.{Statement, FaultAt, ReadsAs}
 use Rattle.project_manifest.specs.Manifests.{ManifestView, IsManifest}
-use Rattle.project_model.specs.Planned.{IsPlanIn, Planned, PlannedView, StatementsSay}
+use Rattle.project_model.specs.Planned.{IsPlanIn, StatementsSay}
+use Rattle.project_model.specs.Plans.{PlanView}
 use Rattle.project_model.specs.Together.{fault, project_name}
+use Rattle.project_model.specs.Written.{Planned}
 use Rattle.project_model.specs.declared.plan_error.PlanError.{PlanError}
 use Rattle.project_model.specs.declared.plan_error.PlanError.TheVariants.{Refused, Memory}
 
@@ -36,23 +38,29 @@ pub record IsManifestFile (bytes : List ℕ) (manifest : ManifestView) : Type 0 
 -- what a text of definitions says beside further symbols, where the table had these symbols before
 pub data TextSays (file text : List ℕ) (further old : List (List ℕ)) : Result Planned Fault → Type 0 where
   unread : (found : FaultAt) → ReadsAs text (Err found) → TextSays file text further old (Err (fault file found.line found.why))
-  read : (statements : List Statement) (answer : Result Planned Fault) → ReadsAs text (Ok statements) → StatementsSay file statements further old answer → TextSays file text further old answer
+  read : (statements : List Statement) (answer : Result Planned Fault) → ReadsAs text (Ok statements) → StatementsSay file statements further old answer
+      → TextSays file text further old answer
 
 -- what the content of a file of definitions says
 pub data ContentSays (file bytes : List ℕ) (further old : List (List ℕ)) : Result Planned Fault → Type 0 where
   no_text : (found : Fault) → HasNoText file bytes found → ContentSays file bytes further old (Err found)
-  has_text : (text : List ℕ) (answer : Result Planned Fault) → HasText bytes text → TextSays file text further old answer → ContentSays file bytes further old answer
+  has_text : (text : List ℕ) (answer : Result Planned Fault) → HasText bytes text → TextSays file text further old answer
+      → ContentSays file bytes further old answer
 
 -- what files say beside this manifest
 pub data ManifestSays (files : Files) (manifest : ManifestView) (old : List (List ℕ)) : Result Planned Fault → Type 0 where
-  no_file : (file : List ℕ) → manifest.files ≡ file ∷ [] → file_of file files ≡ None → ManifestSays files manifest old (Err (fault project_name manifest.line why.NoFile))
-  says : (file content : List ℕ) (answer : Result Planned Fault) → manifest.files ≡ file ∷ [] → file_of file files ≡ Some content → ContentSays file content manifest.symbols old answer → ManifestSays files manifest old answer
+  no_file : (file : List ℕ) → manifest.files ≡ file ∷ [] → file_of file files ≡ None
+      → ManifestSays files manifest old (Err (fault project_name manifest.line why.NoFile))
+  says : (file content : List ℕ) (answer : Result Planned Fault) → manifest.files ≡ file ∷ [] → file_of file files ≡ Some content
+      → ContentSays file content manifest.symbols old answer → ManifestSays files manifest old answer
 
 -- what files say. The faults are tried in this order
 pub data FilesSay (files : Files) (old : List (List ℕ)) : Result Planned Fault → Type 0 where
   no_project : file_of project_name files ≡ None → FilesSay files old (Err (fault project_name 0 why.NoProject))
-  no_manifest : (bytes : List ℕ) → file_of project_name files ≡ Some bytes → ((m : ManifestView) → IsManifestFile bytes m → ⊥) → FilesSay files old (Err (fault project_name 0 why.NotBuilt))
-  manifest_says : (bytes : List ℕ) (manifest : ManifestView) (answer : Result Planned Fault) → file_of project_name files ≡ Some bytes → IsManifestFile bytes manifest → ManifestSays files manifest old answer → FilesSay files old answer
+  no_manifest : (bytes : List ℕ) → file_of project_name files ≡ Some bytes → ((m : ManifestView) → IsManifestFile bytes m → ⊥)
+      → FilesSay files old (Err (fault project_name 0 why.NotBuilt))
+  manifest_says : (bytes : List ℕ) (manifest : ManifestView) (answer : Result Planned Fault) → file_of project_name files ≡ Some bytes
+      → IsManifestFile bytes manifest → ManifestSays files manifest old answer → FilesSay files old answer
 
 -- why there is no text, and no manifest
 abbrev pub IsWhyNoTextOf : List ℕ → List ℕ → PlanError → Type 0
@@ -64,5 +72,5 @@ IsWhyNoManifest bytes (Refused found) = (found ≡ fault project_name 0 why.NotB
 IsWhyNoManifest bytes (Memory refused) = ⊤
 
 -- the plan of files, their first fault, or want of memory
-abbrev pub IsProjectRead : Files → List (List ℕ) → List (List ℕ) → Result PlannedView PlanError → Type 0
+abbrev pub IsProjectRead : Files → List (List ℕ) → List (List ℕ) → Result PlanView PlanError → Type 0
 IsProjectRead files old new answer = IsPlanIn (FilesSay files old) old new answer

@@ -1,5 +1,6 @@
 ghost use Rattle.std.specs.Prelude.{◌↔◌, All, IsTrue, MatchOption, map};
-ghost use Rattle.project_model.specs.Planned.{EntryMeets, FirstFailing, Meets, body_term, entry_of};
+ghost use Rattle.project_model.specs.Planned.{EntryMeets, FirstFailing, Meets, entry_of};
+ghost use Rattle.project_model.specs.Plans.{body_term};
 
 use crate::definition::{Body, Definition};
 use expr_forms::form_of;

@@ -1,11 +1,11 @@
-ghost use Rattle.std.specs.Prelude.{◌≡◌, ◌≤◌, Some, false, not, [], length, map, slice_get, MatchOption, IfOk, IfErr, OnOk};
+ghost use Rattle.std.specs.Prelude.{◌≡◌, ◌≤◌, not, [], length, map, IfOk, IfErr, OnOk};
 ghost use Rattle.std.specs.List.{list_any};
 ghost use Rattle.std.specs.Str.{bytes_eq};
-ghost use Rattle.fsm_base.specs.Symbols.{with_text};
+ghost use Rattle.fsm_base.specs.Symbols.{number_of, with_text};
 ghost use Rattle.fsm_words.specs.Words.{IsDistinct};
 ghost use Rattle.fsm_meaning.specs.Projects.{is_symbol};
 ghost use Rattle.regex_reader.specs.Files.{statement_of};
-ghost use Rattle.project_model.specs.Together.{HaveNames, IsWhyNoNames, IsWhyNoPlan, defined_by, most_names, number_among};
+ghost use Rattle.project_model.specs.Together.{HaveNames, IsWhyNoNames, defined_by, most_names};
 
 use crate::plan_error::{PlanError, refused};
 use indexmap::IndexSet;
@@ -73,21 +73,14 @@ impl Names {
         self.texts.contains(name)
     }
 
-    /// The place of a name, counted from 0, or `None` where it's none of them.
-    pub fn place_of(&self, name: &str) -> Option<usize>
-        ensures { MatchOption result (list_any (bytes_eq name.now) self.now ≡ false) (λ place. slice_get self.now place ≡ Some name.now) }
-    {
-        self.texts.get_index_of(name)
-    }
-
-    /// The same, as a number of 32 bits.
+    /// The place of a name, counted from 0, or the number of names where it's none of them.
     #[tactic(auto, unfolding(crate::specs::Together::most_names))]
-    pub fn number_of(&self, name: &str) -> Option<u32>
-        ensures { result ≡ number_among self.now name.now }
+    pub fn number_of(&self, name: &str) -> u32
+        ensures { result ≡ number_of name.now self.now }
     {
         match self.texts.get_index_of(name) {
-            Some(place) => Some(place as u32),
-            None => None,
+            Some(place) => place as u32,
+            None => self.texts.len() as u32,
         }
     }
 
@@ -107,8 +100,7 @@ impl Names {
 pub fn names_of(alloc: Global, file: &str, defines: &[Define<Raw>]) -> Result<Names, PlanError>
     ensures names { IfOk result (λ names. names ≡ defined_by (map statement_of defines.now)) }
     ensures formed { OnOk result (HaveNames (map statement_of defines.now)) }
-    ensures error { IfErr result (IsWhyNoPlan file.now (map statement_of defines.now)) }
-    ensures named { IfErr result (IsWhyNoNames file.now (map statement_of defines.now)) }
+    ensures error { IfErr result (IsWhyNoNames file.now (map statement_of defines.now)) }
 {
     let mut names = Names::new(alloc);
     'defines: for define in defines {

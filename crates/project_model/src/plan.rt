@@ -1,126 +1,246 @@
-ghost use Rattle.std.specs.Prelude.{◌≡◌, length, map, IfOk, MatchOption};
-ghost use Rattle.fsm_base.specs.Alphabet.{IsAlphabet, texts_of};
-ghost use Rattle.fsm_meaning.specs.Projects.{Defines};
+ghost use Rattle.std.specs.Prelude.{◌≡◌, ◌≤◌, ◌+◌, ◌++◌, ◌∷◌, [], All, Contains, IfOk, IfErr, OnOk, length, map, take};
+ghost use Rattle.fsm_base.specs.Symbols.{IsSymbol};
+ghost use Rattle.fsm_words.specs.Words.{IsDistinct};
 ghost use Rattle.regex_reader.specs.Files.{statement_of};
-ghost use Rattle.project_model.specs.Plans.{AreNames, IsFound, IsPlan, numbered, project_in, symbols_below};
-ghost use Rattle.project_model.specs.Together.{IsPlanned, IsWhyNoPlan};
+ghost use Rattle.fsm_meaning.specs.Projects.{symbols_of_all, with_texts};
+ghost use Rattle.project_model.specs.Gathered.{gathered};
+ghost use Rattle.project_model.specs.Planned.{DefinitionsSay, EntriesSay, IsPlanIn, IsPlanOf, IsUnsound, entry_in, entry_of, numbers_in};
+ghost use Rattle.project_model.specs.Plans.{IsPlan};
+ghost use Rattle.project_model.specs.Together.{defined_by, definitions_of, most_symbols};
 
-use crate::built::first_not_built;
+use crate::definition::{Body, Definition};
+use crate::demands::{Demand, first_failing};
 use crate::names::{Names, names_of};
 use crate::plan_error::{PlanError, refused};
+use crate::resolve::resolve;
 use crate::symbols::{MOST_SYMBOLS, symbols_of};
-use fsm_base::{Alphabet, Sym, SymbolTable, Text};
+use fsm_base::{Sym, SymbolTable, Text};
 use regex_ast::{Define, Raw, Why};
 use std::alloc::{AllocError, Global};
 use std::marker::Model;
 
-/// The definitions of a project without fault, and its alphabet. Contracts see the definitions as trees, and the
-/// alphabet with the numbers of the symbols.
+/// The definitions of a project without fault, and the symbols of its alphabet.
 #[derive(Drop)]
 pub struct Plan {
-    definitions: Vec<Define<Raw>>,
-    names: Names,
-    table: SymbolTable,
-    alphabet: Alphabet,
+    definitions: Vec<Definition>,
+    symbols: Vec<Sym>,
 }
 
 impl Model for Plan {
-    ghost use Rattle.regex_ast.specs.contracts.expr.Define as define;
-    ghost use Rattle.regex_ast.specs.contracts.expr.Raw as raw;
+    ghost use Rattle.regex_ast.specs.contracts.expr.Atom as atom;
+    ghost use Rattle.regex_ast.specs.contracts.expr.Expr as expr;
     ghost use Rattle.std.specs.Coded.{codes};
     ghost use Rattle.project_model.specs.Plans.{PlanView};
 
     ghost Value = { PlanView };
 
-    ghost coded = { Prim.hlevel (codes, (define.the_row raw.the_row).coded) };
+    ghost coded = { Prim.hlevel (codes, (expr.the_row atom.the_row).coded) };
 
-    ghost use Rattle.std.specs.Prelude.{◌≡◌, map};
-    ghost use Rattle.fsm_base.specs.Alphabet.{texts_of};
-    ghost use Rattle.fsm_meaning.specs.Projects.{names_of};
-    ghost use Rattle.project_model.specs.Plans.{IsPlan, defined};
+    ghost use Rattle.project_model.specs.Plans.{IsPlan};
 
-    ghost view = { λ p. record { defines = p.definitions.items; alphabet = p.alphabet } };
+    ghost view = { λ p. record { definitions = p.definitions.items; symbols = p.symbols.items } };
 
-    ghost invariant = { λ p. IsPlan (record { defines = p.definitions.items; alphabet = p.alphabet }) × (p.names ≡ names_of (map defined p.definitions.items)) × (p.table ≡ texts_of p.alphabet) };
+    ghost invariant = { λ p. IsPlan (record { definitions = p.definitions.items; symbols = p.symbols.items }) };
 }
 
 impl Plan {
-    /// The symbols of the project, in the order of their numbers.
-    pub fn alphabet(&self) -> &Alphabet
-        ensures alphabet { result.now ≡ self.now.alphabet }
+    /// The definitions, in the order of their statements.
+    pub fn definitions(&self) -> &[Definition]
+        ensures definitions { result.now ≡ self.now.definitions }
         ensures formed { IsPlan self.now }
     {
-        &self.alphabet
+        &self.definitions
     }
 
-    /// The table of the symbols of the project, each under its number.
-    pub fn table(&self) -> &SymbolTable
-        ensures table { result.now ≡ texts_of self.now.alphabet }
+    /// The symbols of the alphabet, in the order of their first places.
+    pub fn symbols(&self) -> &[Sym]
+        ensures symbols { result.now ≡ self.now.symbols }
         ensures formed { IsPlan self.now }
     {
-        &self.table
-    }
-
-    /// The definition of a name, or `None` where the project doesn't define the name.
-    pub fn find(&self, name: &str) -> Option<&Define<Raw>>
-        ensures { MatchOption result (¬ (Defines (project_in self.now) name.now)) (λ define. IsFound (project_in self.now) name.now define.now) }
-    {
-        let place = self.names.place_of(name)?;
-        Some(&self.definitions[place])
-    }
-
-    /// The names of the project in the order of their bytes.
-    pub fn names(&self, alloc: Global) -> Result<Vec<Text>, AllocError>
-        ensures { IfOk result (λ names. AreNames (project_in self.now) names.items) }
-    {
-        let mut names = Vec::new(alloc);
-        'definitions: for define in &self.definitions {
-            names.push(define.name.clone()?)?;
-        }
-        names.sort()?;
-        Ok(names)
+        &self.symbols
     }
 }
 
-/// All symbols of a table, in the order of their numbers.
-fn all_symbols(alloc: Global, table: &SymbolTable) -> Result<Vec<Sym>, AllocError>
-    ensures { IfOk result (λ symbols. symbols.items ≡ symbols_below (length table.now)) }
+/// Puts texts into a table, each where it's new and the table has room for it.
+fn add_texts(texts: &[Text], table: &mut SymbolTable) -> Result<(), AllocError>
+    requires symbols { All IsSymbol texts.now }
+    requires short { length table.old ≤ most_symbols + 1 }
+    ensures { OnOk result (table.new ≡ gathered table.old texts.now) }
+{
+    'texts: for text in texts {
+        add_text(text, table)?;
+    }
+    Ok(())
+}
+
+/// Puts a text into a table, where it's new and the table has room for it.
+fn add_text(text: &Text, table: &mut SymbolTable) -> Result<(), AllocError>
+    requires symbol { IsSymbol text.now }
+    requires short { length table.old ≤ most_symbols + 1 }
+    ensures { OnOk result (table.new ≡ gathered table.old (text.now ∷ [])) }
+{
+    if table.len() <= MOST_SYMBOLS {
+        table.intern(text.as_str())?;
+    }
+    Ok(())
+}
+
+/// The symbols that stand in definitions where these names are defined, and further ones, in the order of their first
+/// places. Where they are more than a project may have, it's one more than that.
+fn alphabet_of(
+    alloc: Global,
+    names: &Names,
+    defines: &[Define<Raw>],
+    further: &[Text],
+) -> Result<SymbolTable, AllocError>
+    requires { All IsSymbol further.now }
+    ensures { IfOk result (λ table. table ≡ gathered [] (symbols_of_all names.now (definitions_of (map statement_of defines.now)) ++ further.now)) }
+{
+    let mut alphabet = symbols_of(alloc, names, defines)?;
+    add_texts(further, &mut alphabet)?;
+    Ok(alphabet)
+}
+
+/// Puts the symbols of an alphabet into a table, in their order, each where it's new.
+fn intern_all(alphabet: &SymbolTable, table: &mut SymbolTable) -> Result<(), AllocError>
+    requires { length table.old + length alphabet.now ≤ 16777216 }
+    ensures table { OnOk result (table.new ≡ with_texts table.old alphabet.now) }
+    ensures front { take (length table.old) table.new ≡ table.old }
+{
+    'numbers: for number in 0..alphabet.len() {
+        let Some(text) = alphabet.text_of(Sym(number as u32)) else {
+            unreachable!()
+        };
+        table.intern(text)?;
+    }
+    Ok(())
+}
+
+/// The numbers of the symbols of an alphabet in a table.
+fn numbers_of(
+    alloc: Global,
+    alphabet: &SymbolTable,
+    table: &SymbolTable,
+) -> Result<Vec<Sym>, AllocError>
+    ensures { IfOk result (λ symbols. symbols.items ≡ numbers_in table.now alphabet.now) }
 {
     let mut symbols = Vec::new(alloc);
-    'numbers: for number in 0..table.len() {
-        symbols.push(Sym(number as u32))?;
+    'numbers: for number in 0..alphabet.len() {
+        let Some(text) = alphabet.text_of(Sym(number as u32)) else {
+            unreachable!()
+        };
+        symbols.push(table.number_of(text))?;
     }
     Ok(symbols)
 }
 
-/// The alphabet of all symbols of a table.
-fn alphabet_of(alloc: Global, table: &SymbolTable) -> Result<Alphabet, AllocError>
-    ensures alphabet { IfOk result (λ alphabet. alphabet ≡ numbered table.now) }
-    ensures formed { IfOk result IsAlphabet }
+/// The definition of a statement of a file, its leaves resolved.
+fn define(
+    alloc: Global,
+    file: &str,
+    names: &Names,
+    table: &SymbolTable,
+    define: &Define<Raw>,
+) -> Result<Definition, AllocError>
+    ensures { IfOk result (λ definition. entry_of definition ≡ entry_in file.now names.now table.now (statement_of define.now)) }
 {
-    let symbols = all_symbols(alloc, table)?;
-    Alphabet::of(alloc, table, &symbols)
+    let expr = resolve(alloc, names, table, &define.expr)?;
+    Ok(Definition {
+        name: define.name.clone()?,
+        line: define.line,
+        file: Text::of(alloc, file)?,
+        body: Body::Xfst(expr),
+    })
 }
 
-/// The plan of the definitions of a file of this name, in their order. They are refused for their first fault:
-/// a name that stands twice or names that are too many, symbols that are too many, or a definition that can't be
-/// compiled yet.
-pub fn plan_of(alloc: Global, file: &str, defines: Vec<Define<Raw>>) -> Result<Plan, PlanError>
-    ensures { IsPlanned file.now (map statement_of defines.items) result }
+/// The definitions of the statements of a file, their leaves resolved.
+fn define_each(
+    alloc: Global,
+    file: &str,
+    names: &Names,
+    table: &SymbolTable,
+    defines: &[Define<Raw>],
+) -> Result<Vec<Definition>, AllocError>
+    ensures { IfOk result (λ definitions. map entry_of definitions.items ≡ map (entry_in file.now names.now table.now) (map statement_of defines.now)) }
 {
-    let names = names_of(alloc, file, &defines)?;
-    let table = symbols_of(alloc, &names, &defines)?;
-    if table.len() > MOST_SYMBOLS {
-        return Err(refused(alloc, "project", 0, Why::LimitSymbols));
+    let mut definitions = Vec::new(alloc);
+    'defines: for one in defines {
+        definitions.push(define(alloc, file, names, table, one)?)?;
     }
-    if let Some(line) = first_not_built(alloc, &names, &defines)? {
+    Ok(definitions)
+}
+
+/// That the definitions of a file are sound: each fits, none is too heavy, each can be built.
+fn check(alloc: Global, file: &str, definitions: &[Definition]) -> Result<(), PlanError>
+    ensures sound { OnOk result (EntriesSay file.now (map entry_of definitions.now) (Ok (map entry_of definitions.now))) }
+    ensures error { IfErr result (IsUnsound file.now (map entry_of definitions.now)) }
+{
+    if let Some(line) = first_failing(definitions, Demand::Fits) {
+        return Err(refused(alloc, file, line, Why::NotALanguage));
+    }
+    if let Some(line) = first_failing(definitions, Demand::Light) {
+        return Err(refused(alloc, file, line, Why::LimitWeight));
+    }
+    if let Some(line) = first_failing(definitions, Demand::Built) {
         return Err(refused(alloc, file, line, Why::NotBuilt));
     }
-    let alphabet = alphabet_of(alloc, &table)?;
+    Ok(())
+}
+
+/// The plan of definitions over an alphabet, whose symbols are put into the table. They are refused for their first
+/// fault: an operand that must be a language and isn't one, a definition that is too heavy, or one that can't be built
+/// yet. Whatever it answers, the table begins with what it was.
+fn plan_over(
+    alloc: Global,
+    file: &str,
+    names: &Names,
+    alphabet: &SymbolTable,
+    defines: &[Define<Raw>],
+    table: &mut SymbolTable,
+) -> Result<Plan, PlanError>
+    requires names { names.now ≡ defined_by (map statement_of defines.now) }
+    requires apart { IsDistinct names.now }
+    requires symbols { All (Contains alphabet.now) (symbols_of_all names.now (definitions_of (map statement_of defines.now))) }
+    requires distinct { IsDistinct alphabet.now }
+    requires room { length table.old + length alphabet.now ≤ 16777216 }
+    ensures plan { IsPlanIn (DefinitionsSay file.now (map statement_of defines.now) alphabet.now table.old) table.old table.new result }
+    ensures front { take (length table.old) table.new ≡ table.old }
+{
+    intern_all(alphabet, table)?;
+    let definitions = define_each(alloc, file, names, table, defines)?;
+    match check(alloc, file, &definitions) {
+        Ok(()) => {}
+        Err(error) => return Err(error),
+    }
+    let symbols = numbers_of(alloc, alphabet, table)?;
     Ok(Plan {
-        definitions: defines,
-        names,
-        table,
-        alphabet,
+        definitions,
+        symbols,
     })
+}
+
+/// The plan of the statements of a file of this name and of further symbols, whose symbols are put into the table. They
+/// are refused for their first fault: a name that stands twice or names that are too many, symbols that are too many,
+/// or one of their definitions. Whatever it answers, the table begins with what it was.
+pub fn plan_of_statements(
+    alloc: Global,
+    file: &str,
+    defines: &[Define<Raw>],
+    further: &[Text],
+    table: &mut SymbolTable,
+) -> Result<Plan, PlanError>
+    requires symbols { All IsSymbol further.now }
+    requires room { length table.old ≤ 16776192 }
+    ensures plan { IsPlanOf file.now (map statement_of defines.now) further.now table.old table.new result }
+    ensures front { take (length table.old) table.new ≡ table.old }
+{
+    let names = match names_of(alloc, file, defines) {
+        Ok(names) => names,
+        Err(error) => return Err(error),
+    };
+    let alphabet = alphabet_of(alloc, &names, defines, further)?;
+    if alphabet.len() > MOST_SYMBOLS {
+        return Err(refused(alloc, "project", 0, Why::LimitSymbols));
+    }
+    plan_over(alloc, file, &names, &alphabet, defines, table)
 }

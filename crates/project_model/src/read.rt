@@ -1,4 +1,4 @@
-ghost use Rattle.std.specs.Prelude.{◌≡◌, ◌≤◌, List, ℕ, All, Err, IfErr, IfOk, OnErr, length, take};
+ghost use Rattle.std.specs.Prelude.{◌≡◌, ◌<◌, ◌≤◌, List, ℕ, All, Err, IfErr, IfOk, OnErr, length, take};
 ghost use Rattle.fsm_base.specs.Normal.{IsWhyNoText, source_text};
 ghost use Rattle.fsm_base.specs.Symbols.{IsSymbol};
 ghost use Rattle.project_manifest.specs.Manifests.{IsManifestRead, IsSomeManifest};
@@ -6,8 +6,8 @@ ghost use Rattle.project_model.specs.Planned.{IsPlanIn};
 ghost use Rattle.project_model.specs.Reads.{ContentSays, HasText, IsManifestFile, IsProjectRead, IsWhyNoManifest, IsWhyNoTextOf, ManifestSays, TextSays, most_bytes};
 ghost use Rattle.project_model.specs.Together.{project_name};
 
+use crate::plan::{Plan, plan_of_statements};
 use crate::plan_error::{PlanError, refused};
-use crate::project::{ProjectPlan, plan_of_statements};
 use crate::sources::Sources;
 use fsm_base::{SymbolTable, Text, TextError, normal};
 use project_manifest::{Manifest, read_manifest};
@@ -68,8 +68,13 @@ fn unread(alloc: Global, error: ReadError) -> PlanError
     }
 }
 
-/// The manifest, by its content.
-fn manifest_of(alloc: Global, bytes: &[u8]) -> Result<Manifest, PlanError>
+/// The manifest of a project, by the content of its file.
+///
+/// # Errors
+///
+/// `Refused` with `NotBuilt` where the content is no text, or none that [`read_manifest`] reads. `Memory` where there was
+/// no memory.
+pub fn manifest_of(alloc: Global, bytes: &[u8]) -> Result<Manifest, PlanError>
     ensures manifest { IfOk result (λ manifest. IsManifestFile bytes.now manifest) }
     ensures error { IfErr result (IsWhyNoManifest bytes.now) }
 {
@@ -94,7 +99,7 @@ fn plan_of_text(
     text: &str,
     further: &[Text],
     table: &mut SymbolTable,
-) -> Result<ProjectPlan, PlanError>
+) -> Result<Plan, PlanError>
     requires symbols { All IsSymbol further.now }
     requires room { length table.old ≤ 16776192 }
     ensures plan { IsPlanIn (TextSays name.now text.now further.now table.old) table.old table.new result }
@@ -118,7 +123,7 @@ fn plan_of_file(
     bytes: &[u8],
     further: &[Text],
     table: &mut SymbolTable,
-) -> Result<ProjectPlan, PlanError>
+) -> Result<Plan, PlanError>
     requires symbols { All IsSymbol further.now }
     requires room { length table.old ≤ 16776192 }
     ensures plan { IsPlanIn (ContentSays name.now bytes.now further.now table.old) table.old table.new result }
@@ -135,7 +140,7 @@ fn plan_of_sources(
     alloc: Global,
     sources: &Sources,
     table: &mut SymbolTable,
-) -> Result<ProjectPlan, PlanError>
+) -> Result<Plan, PlanError>
     requires { length table.old ≤ 16776192 }
     ensures plan { IsProjectRead sources.now table.old table.new result }
     ensures front { take (length table.old) table.new ≡ table.old }
@@ -155,7 +160,7 @@ fn plan_by(
     sources: &Sources,
     manifest: &Manifest,
     table: &mut SymbolTable,
-) -> Result<ProjectPlan, PlanError>
+) -> Result<Plan, PlanError>
     requires manifest { IsSomeManifest manifest.now }
     requires room { length table.old ≤ 16776192 }
     ensures plan { IsPlanIn (ManifestSays sources.now manifest.now table.old) table.old table.new result }
@@ -189,9 +194,10 @@ pub fn read_project(
     alloc: Global,
     sources: &Sources,
     table: &mut SymbolTable,
-) -> Result<ProjectPlan, PlanError>
+) -> Result<Plan, PlanError>
     requires { length table.old ≤ 16776192 }
     ensures plan { IsProjectRead sources.now table.old table.new result }
+    ensures held { IfOk result (λ plan. All (λ s. s.0 < length table.new) plan.symbols) }
     ensures error { OnErr result (table.new ≡ table.old) }
 {
     let before = table.len();

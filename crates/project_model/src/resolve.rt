@@ -1,23 +1,25 @@
 ghost use Rattle.std.specs.Prelude.{◌≡◌, map, IfOk};
 ghost use Rattle.regex_ast.specs.Terms.{rules, term, terms_of, links_of, contexts_of, steps_by, mappings_of, groups_of};
-ghost use Rattle.project_model.specs.Resolved.{IsContextOf, IsGroupOf, IsLinkOf, IsMappingOf, IsStepOf, atom_of, mapped, mapped_contexts, mapped_each, mapped_groups, mapped_links, mapped_mappings, mapped_steps};
+ghost use Rattle.expr_spelling.specs.Mapped.{mapped, mapped_contexts, mapped_each, mapped_groups, mapped_links, mapped_mappings, mapped_steps};
+ghost use Rattle.project_model.specs.Resolved.{IsContextOf, IsGroupOf, IsLinkOf, IsMappingOf, IsStepOf, atom_of};
 
 use crate::names::Names;
+use crate::symbols::symbol_text;
 use fsm_base::SymbolTable;
 use regex_ast::{Atom, Context, Expr, Group, Link, Mapping, Raw, RuleSet, Step};
 use std::alloc::{AllocError, Global};
 
-/// What a leaf is where these names are defined and this table has the symbols: a definition, by its place, or a
-/// symbol, by its number.
+/// What a leaf is where these names are defined and this table has the symbols: a symbol, by its number, or a
+/// definition, by its place. The reader gives no leaf without a text; such a one counts as a name, so that what it
+/// stands in can't be built.
 fn atom_of(names: &Names, table: &SymbolTable, leaf: &Raw) -> Atom
     ensures { result ≡ atom_of names.now table.now leaf.now }
 {
-    match leaf {
-        Raw::Run(text) => match names.number_of(text.as_str()) {
-            Some(number) => Atom::Name(number),
-            None => Atom::Sym(table.number_of(text.as_str())),
-        },
-        Raw::Quoted(text) => Atom::Sym(table.number_of(text.as_str())),
+    let text = symbol_text(leaf);
+    if names.is_symbol(leaf) {
+        Atom::Sym(table.number_of(text))
+    } else {
+        Atom::Name(names.number_of(text))
     }
 }
 

@@ -1,13 +1,13 @@
 ghost use Rattle.std.specs.Prelude.{◌≡◌, ◌≤◌, ◌+◌, [], length, map, IfOk, OnOk};
 ghost use Rattle.std.specs.List.{flat_map};
 ghost use Rattle.regex_reader.specs.Files.{statement_of};
-ghost use Rattle.fsm_meaning.specs.Projects.{symbol_of, symbol_beside};
-ghost use Rattle.project_model.specs.Gathered.{gathered, symbols_of_all};
-ghost use Rattle.project_model.specs.Leaves.{seen};
+ghost use Rattle.expr_parts.specs.Leaves.{seen};
+ghost use Rattle.fsm_meaning.specs.Projects.{symbol_of, symbol_beside, symbols_of_all};
+ghost use Rattle.project_model.specs.Gathered.{gathered};
 ghost use Rattle.project_model.specs.Together.{definitions_of, most_symbols};
 
-use crate::leaves::leaves;
 use crate::names::Names;
+use expr_parts::leaves;
 use fsm_base::SymbolTable;
 use regex_ast::{Define, Raw};
 use std::alloc::{AllocError, Global};
@@ -16,7 +16,7 @@ use std::alloc::{AllocError, Global};
 pub const MOST_SYMBOLS: usize = 1024;
 
 /// The text of the symbol that a leaf stands for.
-fn symbol_text(leaf: &Raw) -> &str
+pub fn symbol_text(leaf: &Raw) -> &str
     ensures { result.now ≡ symbol_of leaf.now }
 {
     match leaf {

@@ -13,8 +13,6 @@ mod form;
 mod laws;
 mod name;
 mod statement;
-#[cfg(test)]
-mod tests;
 mod xfst;
 
 pub use entry::read_expr;

@@ -1,6 +1,6 @@
 ghost use Rattle.std.specs.Prelude.{◌≡◌, ◌++◌, ◌∷◌, codes, decimal, IfOk};
 ghost use Rattle.std.specs.String.{string_bytes};
-ghost use Rattle.fsm_meaning.specs.Answers.{strings};
+ghost use Rattle.lookup_answers.specs.Answers.{strings};
 ghost use Rattle.fsm_meaning.specs.Replies.{answer_bytes, headed};
 ghost use Rattle.lookup.specs.Answering.{found_of};
 

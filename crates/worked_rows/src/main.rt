@@ -5,11 +5,11 @@
 //! A line is a field and its value. `row NAME` begins a row; `file NAME TEXT`, `words WORD ..`, `input TEXT`,
 //! `fails FOLDER INPUT OUTPUT` (which call of each fails, counted from 1, where 0 is none) and `sizes READ WRITE ROOM`
 //! (how many bytes the input gives and the output takes at once, and how many the output takes at all) describe it;
-//! `run` runs it, and `loop` runs one whose answer is a loop and tells whether that is lawful. A text has `\n`, `\r`, `\t`, `\xHH`, `\\`, and `\(N)c` for N times c.
+//! `run` runs it, and `loop` runs one whose answer is a loop and tells whether that is lawful. A text has the escapes of
+//! `row_texts`.
 #![tactic(auto)]
 
 mod row;
-mod texts;
 
 use crate::row::Row;
 use std::alloc::{AllocError, Global};

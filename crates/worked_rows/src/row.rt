@@ -1,7 +1,7 @@
-use crate::texts::{shown, undone};
 use fsm_base::Text;
 use fsm_io::{MemoryFolder, MemorySink, MemorySource};
 use fsm_program::run;
+use row_texts::{shown, undone};
 use std::alloc::{AllocError, Global};
 
 /// A size that is more than any row needs.

@@ -5,7 +5,7 @@ use Rattle.regex_reader.specs.Files.{statement_of}
 use Rattle.std.proofs.lemmas.List.{length-map}
 use Rattle.fsm_meaning.specs.Projects.{Definition}
 use Rattle.project_model.specs.Together.{definition_of, definitions_of, most_names}
-use Rattle.project_model.proofs.NameSteps.{names_more, names_length, still_formed, why_again, why_too_many, named_again, named_too_many, not_false, not_true}
+use Rattle.project_model.proofs.NameSteps.{names_more, names_length, still_formed, why_again, why_too_many, not_false, not_true}
 use Rattle.project_model.proofs.Texts.{with_text-new}
 use Rattle.project_model.proofs.names.names_of.Goals as goal
 
@@ -22,21 +22,6 @@ returns-then-len-gt-MOST_NAMES-clause-error c =
     let now = rw c.as_str.ensures at c.in_ok-add.ensures.names in
     let now_is = now ∙ with_text-new _ _ none ∙ ap (λ (z : List (List ℕ)). z ++ c.define-item.result.name ∷ []) c.defines.invariant.names ∙ sym (names_more c.args.defines.now c.defines.define-index c.define-item.result (omega arith) c.define-item.is) in
     why_too_many c.args.defines.now c.defines.define-index c.define-item.result (omega arith) c.define-item.is c.args.file.now c.defines.names c.defines.invariant.names c.defines.invariant.formed c.refused-then-len-gt-MOST_NAMES.result none
-    (omega (arith, names_length c.args.defines.now c.defines.define-index c.define-item.result (omega arith) c.define-item.is _ now_is)) c.refused-then-len-gt-MOST_NAMES.ensures
-
-pub returns-then-not-branch-clause-named : goal.returns-then-not-branch-clause-named
-returns-then-not-branch-clause-named c =
-    let new = rw c.as_str.ensures at c.in_ok-add.ensures.new in
-    let any = not_false (list_any (bytes_eq c.define-item.result.name) c.defines.names) (sym c.if-not-branch.true ∙ new) in
-    named_again c.args.defines.now c.defines.define-index c.define-item.result (omega arith) c.define-item.is c.args.file.now c.defines.names c.defines.invariant.names c.defines.invariant.formed c.refused.result any c.refused.ensures
-
-pub returns-then-len-gt-MOST_NAMES-clause-named : goal.returns-then-len-gt-MOST_NAMES-clause-named
-returns-then-len-gt-MOST_NAMES-clause-named c =
-    let new = rw c.as_str.ensures at c.in_ok-add.ensures.new in
-    let none = not_true (list_any (bytes_eq c.define-item.result.name) c.defines.names) (sym c.if-not-branch.false ∙ new) in
-    let now = rw c.as_str.ensures at c.in_ok-add.ensures.names in
-    let now_is = now ∙ with_text-new _ _ none ∙ ap (λ (z : List (List ℕ)). z ++ c.define-item.result.name ∷ []) c.defines.invariant.names ∙ sym (names_more c.args.defines.now c.defines.define-index c.define-item.result (omega arith) c.define-item.is) in
-    named_too_many c.args.defines.now c.defines.define-index c.define-item.result (omega arith) c.define-item.is c.args.file.now c.defines.names c.defines.invariant.names c.defines.invariant.formed c.refused-then-len-gt-MOST_NAMES.result none
     (omega (arith, names_length c.args.defines.now c.defines.define-index c.define-item.result (omega arith) c.define-item.is _ now_is)) c.refused-then-len-gt-MOST_NAMES.ensures
 
 pub defines-preserved : goal.defines-preserved

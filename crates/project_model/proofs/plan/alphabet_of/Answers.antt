@@ -1,12 +1,15 @@
-use Rattle.std.proofs.Common.{◌<◌, All, List, length, sym, subst, ◌∙◌}
-use Rattle.fsm_base.specs.declared.letters.Sym.{Sym}
-use Rattle.fsm_words.specs.Words.{IsDistinct}
-use Rattle.project_model.proofs.Alphabets.{below_distinct, below_held}
+use Rattle.std.proofs.Common.{[], map, sym, ap, ◌∙◌}
+use Rattle.regex_reader.specs.Files.{statement_of}
+use Rattle.fsm_meaning.specs.Projects.{symbols_of_all}
+use Rattle.project_model.specs.Gathered.{gathered}
+use Rattle.project_model.specs.Together.{definitions_of}
+use Rattle.project_model.proofs.Gathering.{gathered-append, still_short}
 use Rattle.project_model.proofs.plan.alphabet_of.Goals as goal
 
-pub of-requires-clause-distinct : goal.of-requires-clause-distinct
-of-requires-clause-distinct c = subst IsDistinct (sym (c.deref.ensures.value ∙ c.in_ok-symbols.ensures)) (below_distinct (length c.args.table.now))
+pub returns : goal.returns
+returns c =
+    let symbols = symbols_of_all c.args.names.now (definitions_of (map statement_of c.args.defines.now)) in
+    c.in_ok-add_texts.ensures ∙ ap (λ table. gathered table c.args.further.now) c.in_ok-alphabet.ensures ∙ sym (gathered-append [] symbols c.args.further.now)
 
-pub of-requires-clause-held : goal.of-requires-clause-held
-of-requires-clause-held c =
-    subst (λ (z : List Sym). All (λ (s : Sym). s.0 < length c.args.table.now) z) (sym (c.deref.ensures.value ∙ c.in_ok-symbols.ensures)) (below_held (length c.args.table.now))
+pub add_texts-requires-clause-short : goal.add_texts-requires-clause-short
+add_texts-requires-clause-short c = still_short c.in_ok-alphabet.alphabet [] (symbols_of_all c.args.names.now (definitions_of (map statement_of c.args.defines.now))) c.in_ok-alphabet.ensures

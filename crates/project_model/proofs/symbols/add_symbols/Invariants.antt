@@ -2,7 +2,7 @@ use Rattle.std.proofs.Common.{◌≡◌, ◌+◌, ◌≤◌, length, drop}
 use Rattle.std.specs.List.{flat_map}
 use Rattle.fsm_meaning.specs.Projects.{symbol_beside}
 use Rattle.project_model.specs.Gathered.{gathered}
-use Rattle.project_model.specs.Leaves.{seen}
+use Rattle.expr_parts.specs.Leaves.{seen}
 use Rattle.project_model.specs.Together.{most_symbols}
 use Rattle.project_model.proofs.symbols.add_symbols.Given as goal
 

@@ -2,11 +2,11 @@ use Rattle.std.proofs.Common.{◌≡◌, ◌+◌, map, drop, sym, ap, ◌∙◌,
 use Rattle.std.specs.List.{flat_map}
 use Rattle.regex_ast.specs.Terms.{term}
 use Rattle.regex_reader.specs.Files.{statement_of}
-use Rattle.fsm_meaning.specs.Projects.{symbol_beside, symbols_beside}
-use Rattle.project_model.specs.Gathered.{gathered, symbols_of_all}
-use Rattle.project_model.specs.Leaves.{seen}
+use Rattle.fsm_meaning.specs.Projects.{symbol_beside, symbols_beside, symbols_of_all}
+use Rattle.project_model.specs.Gathered.{gathered}
+use Rattle.expr_parts.specs.Leaves.{seen}
 use Rattle.project_model.specs.Together.{definitions_of}
-use Rattle.project_model.proofs.Behind.{left_behind}
+use Rattle.expr_parts.proofs.Behind.{left_behind}
 use Rattle.project_model.proofs.Gathering.{gather_more, still_short, listed_is}
 use Rattle.project_model.proofs.symbols.symbols_of.Goals as goal
 

@@ -1,9 +1,0 @@
-mod Rowwise
-mod Weights
-mod Sides
-mod WordAlone
-mod Steps
-mod Related
-mod Repeated
-mod Leaves
-mod Rowing

@@ -1,0 +1,4 @@
+pub mod Numbering
+pub mod Marks
+pub mod Classes
+pub mod Merging

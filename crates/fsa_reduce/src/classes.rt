@@ -1,0 +1,115 @@
+ghost use Rattle.std.specs.Prelude.{◌≡◌, ◌<◌, ◌-◌, ℕ, Some, IfOk, map, reverse, take, length, slice_get, slice_index};
+ghost use Rattle.fsa_walk.specs.Targets.{AreWithin};
+ghost use Rattle.fsa_reduce.specs.Numbering.{Keeps};
+ghost use Rattle.fsa_reduce.specs.Classes.{AreAlike, AreClasses, renumbered};
+
+use crate::marks::{number_of, row_of};
+use fsa::Edge;
+use fsa_walk::{Rows, Table};
+use std::alloc::{AllocError, Global};
+
+/// Classes of states that go on alike.
+#[derive(Drop)]
+pub struct Classes {
+    /// The class of each state.
+    pub of_states: Vec<usize>,
+    /// How many classes there are.
+    pub count: usize,
+}
+
+/// Which states go on alike. The class of the start is 0. With `ends_first` a state that an edge enters counts by
+/// its class where that was found already, the states being looked at from the last one back, and else by itself:
+/// then all common ends of an automaton without loops become one. Without it each state counts by itself, which
+/// finds a state that goes on like another into the same loop.
+pub fn classes_of(
+    alloc: Global,
+    finals: &[bool],
+    edges: &[Edge<usize>],
+    ends_first: bool,
+) -> Result<Classes, AllocError>
+    requires start { 0 < length finals.now }
+    requires within { AreWithin edges.now (length finals.now) }
+    ensures start { IfOk result (λ c. slice_get c.of_states.items 0 ≡ Some 0) }
+    ensures alike { IfOk result (λ c. AreAlike finals.now edges.now c.of_states.items c.count) }
+{
+    let found = classes_back(alloc, finals, &Rows::of(alloc, edges)?, ends_first)?;
+    let of_states = from_start(alloc, &found.of_states, found.count)?;
+    Ok(Classes {
+        of_states,
+        count: found.count,
+    })
+}
+
+/// Which states go on alike, the classes being those of the states from the last one back.
+fn classes_back(
+    alloc: Global,
+    finals: &[bool],
+    rows: &Rows<usize>,
+    ends_first: bool,
+) -> Result<Classes, AllocError>
+    requires { AreWithin rows.now (length finals.now) }
+    ensures { IfOk result (λ c. AreClasses finals.now rows.now c.of_states.items c.count) }
+{
+    let mut marks = Table::new(alloc);
+    let mut lists = Table::new(alloc);
+    let mut classes = Vec::new(alloc);
+    number_nowhere(alloc, &mut marks, &mut lists)?;
+    while classes.len() < finals.len() {
+        let state = finals.len() - 1 - classes.len();
+        let known = known_classes(&classes, ends_first);
+        let row = row_of(
+            alloc,
+            &mut marks,
+            finals[state],
+            rows.out(state),
+            known,
+            finals.len(),
+        )?;
+        classes.push(number_of(alloc, &mut lists, &row)?)?;
+    }
+    Ok(Classes {
+        of_states: classes,
+        count: lists.len(),
+    })
+}
+
+/// Numbers the row of a state that isn't final and that no edge leaves. Its class is the first one found, and the
+/// last one of the new numbers, so that `without_last` finds it.
+fn number_nowhere(alloc: Global, marks: &mut Table, lists: &mut Table) -> Result<(), AllocError> {
+    let row = row_of(alloc, marks, false, &[], &[], 0)?;
+    number_of(alloc, lists, &row)?;
+    Ok(())
+}
+
+/// The classes that count, which are all or none.
+fn known_classes(classes: &[usize], ends_first: bool) -> &[usize]
+    ensures { Keeps result.now classes.now }
+{
+    if ends_first { classes } else { &classes[..0] }
+}
+
+/// The classes from the start on, numbered from the last one back, but the start's being 0.
+fn from_start(alloc: Global, back: &[usize], count: usize) -> Result<Vec<usize>, AllocError>
+    requires { 0 < length back.now }
+    ensures { IfOk result (λ v. v.items ≡ map (renumbered (slice_index back.now (length back.now - 1)) (count - 1)) (reverse back.now)) }
+{
+    let start = back[back.len() - 1];
+    let last = count.saturating_sub(1);
+    back.iter()
+        .rev()
+        .map(|class| renumbered(start, last, *class))
+        .collect(alloc)
+}
+
+/// The number of a class: the order is turned round, and then the start and the first class change places.
+fn renumbered(start: usize, last: usize, class: usize) -> usize
+    ensures { result ≡ renumbered start last class }
+{
+    if class == start {
+        0
+    } else if class == last {
+        last.saturating_sub(start)
+    } else {
+        last.saturating_sub(class)
+    }
+}

@@ -1,0 +1,22 @@
+//! A smaller automaton of the same language: states that go on alike become one (Hopcroft, Motwani and Ullman,
+//! Introduction to Automata Theory, section 4.4; what is merged here is what edges show to be alike at once, and
+//! not all that has the same language).
+//!
+//! - [`reduced`]: merges states, takes silent edges away where that is cheap, and merges again.
+//! - `merging`: an automaton with one state for each class of states. `classes`: which states go on alike.
+//!   `marks`: how a state goes on, as a list of numbers. `numbering`: numbers in place of letters.
+//! - `cutting`: an automaton without a last state that nothing reaches. `silent`: whether silent edges
+//!   are cheap to take away.
+#![tactic(auto)]
+
+mod classes;
+mod cutting;
+mod marks;
+mod merging;
+mod numbering;
+mod reduction;
+mod silent;
+#[cfg(test)]
+mod tests;
+
+pub use reduction::reduced;

@@ -1,0 +1,110 @@
+ghost use Rattle.std.specs.Prelude.{◌≡◌, ◌<◌, ◌↔◌, ℕ, List, Some, true, IfOk, OnOk, All, Contains, slice_get, length};
+ghost use Rattle.fsa.specs.Automaton.{UsesLetter};
+ghost use Rattle.fsa.specs.Language.{Accepts};
+ghost use Rattle.fsa.specs.declared.automaton.Edge.{Edge};
+ghost use Rattle.fsa_rational.specs.Shapes.{Extends, ForEach};
+ghost use Rattle.fsa_reduce.specs.Numbering.{StandsFor};
+ghost use Rattle.fsa_reduce.specs.Merging.{IsMoved, AreWithinBoth};
+
+use crate::classes::classes_of;
+use crate::cutting::without_last;
+use crate::numbering::{lettered, number_letters};
+use fsa::{Edge, Fsa};
+use fsm_base::Letter;
+use std::alloc::{AllocError, Global};
+
+/// An automaton of the same language, with one state for each class of states that go on alike, as `classes_of`
+/// finds them. Takes time in proportion to the edges, which are sorted.
+pub fn merged<L: Letter>(alloc: Global, a: &Fsa<L>, ends_first: bool) -> Result<Fsa<L>, AllocError>
+    ensures letters { IfOk result (λ m. (x : L) → UsesLetter m x → UsesLetter a.now x) }
+    ensures language { IfOk result (λ m. (w : List L) → Accepts m w ↔ Accepts a.now w) }
+{
+    let with_numbers = number_letters(alloc, a.edges())?;
+    let alike = classes_of(alloc, a.finals(), &with_numbers.edges, ends_first)?;
+    let finals = merged_finals(alloc, a.finals(), &alike.of_states, alike.count)?;
+    let edges = merged_edges(alloc, &with_numbers.edges, &alike.of_states)?;
+    let mut m = Fsa::of_states(alloc, finals);
+    add_numbered(&mut m, &edges, &with_numbers.letters)?;
+    without_last(alloc, m)
+}
+
+/// Which classes have a final state.
+fn merged_finals(
+    alloc: Global,
+    finals: &[bool],
+    classes: &[usize],
+    count: usize,
+) -> Result<Vec<bool>, AllocError>
+    requires number { length classes.now ≡ length finals.now }
+    requires within { All (λ k. k < count) classes.now }
+    ensures count { IfOk result (λ v. length v.items ≡ count) }
+    ensures finals { IfOk result (λ v. (k : ℕ) → slice_get v.items k ≡ Some true ↔ ((s : ℕ) × (slice_get classes.now s ≡ Some k) × (slice_get finals.now s ≡ Some true))) }
+{
+    let mut merged = vec![in alloc; false; count]?;
+    for (state, is_final) in finals.iter().enumerate() {
+        if *is_final {
+            merged[classes[state]] = true;
+        }
+    }
+    Ok(merged)
+}
+
+/// The edges between the classes, sorted, each once.
+fn merged_edges(
+    alloc: Global,
+    edges: &[Edge<usize>],
+    classes: &[usize],
+) -> Result<Vec<Edge<usize>>, AllocError>
+    requires { AreWithinBoth edges.now (length classes.now) }
+    ensures { IfOk result (λ v. (f : Edge ℕ) → Contains v.items f ↔ ((e : Edge ℕ) × Contains edges.now e × IsMoved classes.now e f)) }
+{
+    let mut merged = moved_edges(alloc, edges, classes)?;
+    merged.sort_unstable();
+    merged.dedup();
+    Ok(merged)
+}
+
+/// An edge between classes for each edge.
+fn moved_edges(
+    alloc: Global,
+    edges: &[Edge<usize>],
+    classes: &[usize],
+) -> Result<Vec<Edge<usize>>, AllocError>
+    requires { AreWithinBoth edges.now (length classes.now) }
+    ensures { IfOk result (λ v. (f : Edge ℕ) → Contains v.items f ↔ ((e : Edge ℕ) × Contains edges.now e × IsMoved classes.now e f)) }
+{
+    let mut moved = Vec::new(alloc);
+    for edge in edges {
+        moved.push(Edge {
+            from: class_at(classes, edge.from),
+            letter: edge.letter,
+            to: class_at(classes, edge.to),
+        })?;
+    }
+    Ok(moved)
+}
+
+/// The class of a state.
+fn class_at(classes: &[usize], state: usize) -> usize
+    requires { state < length classes.now }
+    ensures { slice_get classes.now state ≡ Some result }
+{
+    classes[state]
+}
+
+/// Adds edges with letters in place of their numbers.
+fn add_numbered<L: Copy>(
+    m: &mut Fsa<L>,
+    edges: &[Edge<usize>],
+    letters: &[Option<L>],
+) -> Result<(), AllocError>
+    requires { AreWithinBoth edges.now (length m.old.finals) }
+    ensures { OnOk result (Extends m.old m.new (ForEach (λ f e. StandsFor letters.now e f) edges.now)) }
+{
+    for edge in edges {
+        if let Some(with_letter) = lettered(letters, *edge) {
+            m.add_edge(with_letter)?;
+        }
+    }
+    Ok(())
+}

@@ -1,0 +1,54 @@
+ghost use Rattle.std.specs.Prelude.{◌≡◌, ◌↔◌, IfOk, List};
+ghost use Rattle.fsa.specs.Automaton.{UsesLetter};
+ghost use Rattle.fsa.specs.Language.{Accepts};
+
+use crate::merging::merged;
+use crate::silent::is_cheap;
+use fsa::Fsa;
+use fsa_rational::without_empty;
+use fsm_base::Letter;
+use std::alloc::{AllocError, Global};
+
+/// How often states are merged at most. A pass that takes away no more than a sixteenth of the states is the last
+/// one in any case.
+const PASSES: usize = 500;
+
+/// A smaller automaton of the same language: states that go on alike become one, and silent edges go away where
+/// that is cheap. Takes time in proportion to the edges, which are sorted.
+pub fn reduced<L: Letter>(alloc: Global, a: &Fsa<L>) -> Result<Fsa<L>, AllocError>
+    ensures letters { IfOk result (λ m. (x : L) → UsesLetter m x → UsesLetter a.now x) }
+    ensures language { IfOk result (λ m. (w : List L) → Accepts m w ↔ Accepts a.now w) }
+{
+    let m = merged_often(alloc, a)?;
+    if is_cheap(alloc, &m)? {
+        merged_often(alloc, &without_empty(alloc, &m)?)
+    } else {
+        Ok(m)
+    }
+}
+
+/// Merges states as long as that takes away more than a sixteenth of them.
+fn merged_often<L: Letter>(alloc: Global, a: &Fsa<L>) -> Result<Fsa<L>, AllocError>
+    ensures letters { IfOk result (λ m. (x : L) → UsesLetter m x → UsesLetter a.now x) }
+    ensures language { IfOk result (λ m. (w : List L) → Accepts m w ↔ Accepts a.now w) }
+{
+    let mut m = merged(alloc, a, true)?;
+    for _pass in 0..PASSES {
+        let next = merged_again(alloc, &m)?;
+        let is_last = next.states() >= m.states() - m.states() / 16;
+        m = next;
+        if is_last {
+            return Ok(m);
+        }
+    }
+    Ok(m)
+}
+
+/// Merges the states that go on into the same states, and then from the ends again.
+fn merged_again<L: Letter>(alloc: Global, a: &Fsa<L>) -> Result<Fsa<L>, AllocError>
+    ensures letters { IfOk result (λ m. (x : L) → UsesLetter m x → UsesLetter a.now x) }
+    ensures language { IfOk result (λ m. (w : List L) → Accepts m w ↔ Accepts a.now w) }
+{
+    let m = merged(alloc, a, false)?;
+    merged(alloc, &m, true)
+}

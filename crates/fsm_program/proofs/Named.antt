@@ -1,0 +1,72 @@
+-- The names of a project that is loaded, and why it is the planned one.
+use Rattle.std.proofs.Common.{◌≡◌, ◌+◌, ◌<◌, ◌≤◌, ◌++◌, ℕ, List, [], ◌∷◌, length, take, get_or, map, All, Result, sym, ap, subst, ◌∙◌, Contains}
+use Rattle.std.proofs.lemmas.List.{take_all, take_more}
+use Rattle.std.proofs.lemmas.List.Elements.{All-append, All-cons, All-contains, All-nil}
+use Rattle.std.proofs.lemmas.List.Sorted.{Contains-permutation, IsPermutation-sym}
+use Rattle.std.specs.Cmp.Lexicographic.{slice_cmp}
+use Rattle.std.specs.List.Sorted.{IsPermutation, IsSorted}
+use Rattle.std.specs.Ordering.{nat_cmp}
+use Rattle.fsm_base.specs.Alphabet.{IsAlphabet, listed, symbols_of, texts_of}
+use Rattle.fsm_base.specs.declared.letters.Sym.{Sym}
+use Rattle.fsm_words.specs.Words.{IsDistinct}
+use Rattle.fsm_words.proofs.Members.{Contains-map, Contains-map_cases}
+use Rattle.regex_ast.specs.declared.fault.Fault.{Fault}
+use Rattle.fsm_meaning.specs.Projects.{Definition as Meant}
+use Rattle.project_model.specs.Planned.{IsPlanWith, entry_of, numbers_in, resolved}
+use Rattle.project_model.specs.Plans.{IsPlan, IsSoundOver, PlanView}
+use Rattle.project_model.specs.Written.{Planned, names_in, project_in}
+use Rattle.project_model.specs.declared.definition.Definition.{Definition}
+use Rattle.fsm_program.specs.Loaded.{AreNames, IsLoadedFrom, IsPlannedAs, LoadedView}
+use Rattle.fsm_program.proofs.Ordered.{in_order_from_sorted}
+use Rattle.fsm_program.proofs.Shown.{names_differ}
+use Rattle.fsm_program.proofs.Spelled.{symbols_back, whole, whole_texts, with_different}
+
+-- names, sorted
+pub names_are : (planned : Planned) (loaded : LoadedView) → IsLoadedFrom planned loaded → (found sorted : List (List ℕ)) → found ≡ names_in planned → IsPermutation found sorted → IsSorted (slice_cmp nat_cmp) sorted → AreNames (project_in planned) sorted
+names_are planned loaded from found sorted found_is moved up = record {
+  all = λ name. (
+    λ (d, among, is). Contains-permutation found sorted name moved (subst (λ (ns : List (List ℕ)). Contains ns name) (sym found_is) (subst (Contains (names_in planned)) is (Contains-map (λ (d : Meant). d.name) (project_in planned).definitions d among))),
+    λ among. Contains-map_cases (λ (d : Meant). d.name) (project_in planned).definitions name (subst (λ (ns : List (List ℕ)). Contains ns name) found_is (Contains-permutation sorted found name (IsPermutation-sym found sorted moved) among)),
+  );
+  in_order = in_order_from_sorted found sorted (subst IsDistinct (sym found_is) (names_differ planned loaded from)) moved up;
+}
+
+-- a plan that was read with an empty table is of just its symbols
+pub planned_as : (Says : Result Planned Fault → Type 0) (table : List (List ℕ)) (plan : PlanView) (is : IsPlanWith Says [] table plan) → IsPlannedAs is.planned table plan
+planned_as Says table plan is = record { definitions = is.definitions; symbols = is.symbols; table_is = is.table ∙ with_different [] is.planned.alphabet is.distinct; written = is.written }
+
+-- a plan and its alphabet are the planned project
+module _ (planned : Planned) (plan : PlanView) (table : List (List ℕ)) (alphabet : List (Sym × List ℕ)) (is : IsPlannedAs planned table plan) (formed : IsPlan plan) (alphabet_is : alphabet ≡ listed table plan.symbols) (is_alphabet : IsAlphabet alphabet) where
+  alphabet_whole : alphabet ≡ whole planned.alphabet
+  alphabet_whole =
+      alphabet_is ∙ ap (λ (t : List (List ℕ)). listed t plan.symbols) is.table_is
+      ∙ ap (listed planned.alphabet) (is.symbols ∙ ap (λ (t : List (List ℕ)). numbers_in t planned.alphabet) is.table_is)
+
+  pub same_symbols : symbols_of alphabet ≡ plan.symbols
+  same_symbols = ap symbols_of alphabet_is ∙ symbols_back table plan.symbols
+
+  pub loaded_is : IsLoadedFrom planned (record { definitions = plan.definitions; alphabet = alphabet })
+  loaded_is = record {
+    formed = is_alphabet;
+    alphabet = alphabet_whole;
+    texts = ap texts_of alphabet_whole ∙ whole_texts planned.alphabet;
+    definitions = subst (λ (t : List (List ℕ)). map entry_of plan.definitions ≡ map (resolved (names_in planned) t) planned.definitions) is.table_is is.definitions;
+    written = is.written;
+    plan = subst (λ (s : List Sym). IsPlan (record { definitions = plan.definitions; symbols = s })) (sym same_symbols) formed;
+  }
+
+-- what stands at a place of a list, and what no item of it is
+pub stands_at : (items ds : List Definition) (i : ℕ) (x : Definition) → items ≡ ds → i < length items → x ≡ get_or items i x → Contains ds x
+stands_at items ds i x same below is = subst (λ (z : List Definition). Contains z x) same (i, below, sym is)
+
+pub none_more : (P : Definition → Type 0) (items : List Definition) (i : ℕ) (x : Definition) → i < length items → x ≡ get_or items i x → All P (take i items) → P x → All P (take (i + 1) items)
+none_more P items i x below is so_far here =
+    subst (All P) (sym (take_more items i x below ∙ ap (λ (e : Definition). take i items ++ e ∷ []) (sym is))) (All-append P (take i items) (x ∷ []) so_far (All-cons P x [] here (All-nil P)))
+
+pub none_of_all : (name : List ℕ) (items ds : List Definition) (i : ℕ) → items ≡ ds → length items ≤ i → All (λ (d : Definition). d.name ≡ name → ⊥) (take i items) → (d : Definition) → Contains ds d → d.name ≡ name → ⊥
+none_of_all name items ds i same past none d among named =
+    All-contains (λ (d : Definition). d.name ≡ name → ⊥) ds d (subst (All (λ (d : Definition). d.name ≡ name → ⊥)) (take_all i items past ∙ same) none) among named
+
+-- a definition of a plan is sound over the symbols of its alphabet
+pub sound_over : (plan : PlanView) (symbols : List Sym) (x : Definition) → IsPlan plan → symbols ≡ plan.symbols → Contains plan.definitions x → IsSoundOver symbols x
+sound_over plan symbols x formed same among = subst (λ (s : List Sym). IsSoundOver s x) (sym same) (All-contains (IsSoundOver plan.symbols) plan.definitions x formed.sound among)

@@ -1,0 +1,15 @@
+use Rattle.fsm_program.proofs.Named.{loaded_is}
+use Rattle.std.proofs.Common.{◌∙◌, ap}
+use Rattle.fsm_base.specs.Alphabet.{symbols_of}
+use Rattle.fsm_program.proofs.Spelled.{symbols_back}
+use Rattle.fsm_program.proofs.project.Project.of.Goals as goal
+
+pub invariant_of-result : goal.invariant_of-result
+invariant_of-result c =
+    let is = rw c.symbols.ensures.symbols at c.in_ok-alphabet.ensures.alphabet in
+    (c.symbols.ensures.formed, c.in_ok-alphabet.ensures.formed, ap symbols_of is ∙ symbols_back c.args.table.now c.args.plan.symbols)
+
+pub returns : goal.returns
+returns c planned is =
+    let alphabet = rw c.symbols.ensures.symbols at c.in_ok-alphabet.ensures.alphabet in
+    loaded_is planned c.args.plan c.args.table.now c.in_ok-alphabet.alphabet is c.symbols.ensures.formed alphabet c.in_ok-alphabet.ensures.formed

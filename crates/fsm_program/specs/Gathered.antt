@@ -1,0 +1,39 @@
+-- The files of a folder that are read for its project.
+use Rattle.std.specs.Prelude.{◌≡◌, ℕ, List, [], Some, Ok, Err, cond, take}
+use Rattle.std.specs.Option.{option_map}
+use Rattle.std.specs.Str.{bytes_eq}
+use Rattle.fsm_io.specs.Folders.{Files, file_of}
+use Rattle.project_model.specs.Reads.{FilesSay}
+use Rattle.project_model.specs.Together.{project_name}
+use Rattle.project_model.specs.Written.{Planned}
+use Rattle.fsm_program.specs.Files.{Names, most_read}
+use Rattle.fsm_program.specs.Loaded.{LoadedView, IsLoadedFrom}
+use Rattle.fsm_program.specs.declared.load.LoadError.{LoadError}
+use Rattle.fsm_program.specs.declared.load.LoadError.TheVariants.{Failed, Memory, Refused}
+
+-- the first bytes of the folder's file of this name were put beside the sources, or it has none and they stay
+abbrev pub HasAdded : List ℕ → ℕ → Files → Files → Files → Type 0
+HasAdded name most old new files = (other : List ℕ) → file_of other new ≡ cond (bytes_eq name other) (option_map (take most) (file_of name files)) (file_of other old)
+
+-- of this file the sources have the first bytes, where the folder has it
+abbrev pub IsSeen : Files → Files → List ℕ → Type 0
+IsSeen sources files name = file_of name sources ≡ option_map (take most_read) (file_of name files)
+
+-- the sources have the manifest of the files, and the file that it names
+pub record IsGathered (sources files : Files) : Type 0 where
+  pub manifest : IsSeen sources files project_name
+  pub file : (content name : List ℕ) → file_of project_name sources ≡ Some content → Names content name → IsSeen sources files name
+
+-- the sources' manifest names this file, or is none
+abbrev pub SourcesName : Files → List ℕ → Type 0
+SourcesName sources name = (content : List ℕ) × (file_of project_name sources ≡ Some content) × Names content name
+
+-- the project that sources are
+abbrev pub IsOfSources : Files → LoadedView → Type 0
+IsOfSources sources loaded = (planned : Planned) × IsLoadedFrom planned loaded × FilesSay sources [] (Ok planned)
+
+-- the first fault of sources, or want of memory
+abbrev pub IsWhyNot : Files → LoadError → Type 0
+IsWhyNot sources Failed = ⊥
+IsWhyNot sources (Memory refused) = Unit {0}
+IsWhyNot sources (Refused fault) = FilesSay sources [] (Err fault)

@@ -1,0 +1,78 @@
+ghost use Rattle.std.specs.Prelude.{◌≡◌, ◌<◌, All, Contains, IfOk, MatchOption, length};
+ghost use Rattle.fsm_base.specs.Alphabet.{symbols_of};
+ghost use Rattle.project_model.specs.Plans.{IsSoundOver};
+ghost use Rattle.project_model.specs.declared.definition.Definition.{Definition};
+ghost use Rattle.project_model.specs.Written.{Planned, project_in};
+ghost use Rattle.fsm_program.specs.Loaded.{AreNames, IsLoadedFrom, IsPlannedAs};
+
+use fsm_base::{Alphabet, SymbolTable, Text};
+use project_model::{Definition, Plan};
+use std::alloc::{AllocError, Global};
+use std::marker::Model;
+
+/// A project that is loaded: its plan, and the alphabet of its symbols.
+#[derive(Drop)]
+pub struct Project {
+    plan: Plan,
+    alphabet: Alphabet,
+}
+
+impl Model for Project {
+    ghost use Rattle.regex_ast.specs.contracts.expr.Atom as atom;
+    ghost use Rattle.regex_ast.specs.contracts.expr.Expr as expr;
+    ghost use Rattle.std.specs.Prelude.{◌≡◌};
+    ghost use Rattle.std.specs.Coded.{codes};
+    ghost use Rattle.fsm_base.specs.Alphabet.{IsAlphabet, symbols_of};
+    ghost use Rattle.project_model.specs.Plans.{IsPlan};
+    ghost use Rattle.fsm_program.specs.Loaded.{LoadedView};
+
+    ghost Value = { LoadedView };
+
+    ghost coded = { Prim.hlevel (codes, (expr.the_row atom.the_row).coded) };
+
+    ghost view = { λ p. record { definitions = p.plan.definitions; alphabet = p.alphabet } };
+
+    ghost invariant = { λ p. IsPlan p.plan × IsAlphabet p.alphabet × (symbols_of p.alphabet ≡ p.plan.symbols) };
+}
+
+impl Project {
+    /// The project of a plan whose symbols stand in the table.
+    pub fn of(alloc: Global, plan: Plan, table: &SymbolTable) -> Result<Project, AllocError>
+        requires { All (λ sym. sym.0 < length table.now) plan.symbols }
+        ensures { (planned : Planned) → IsPlannedAs planned table.now plan → IfOk result (IsLoadedFrom planned) }
+    {
+        let alphabet = Alphabet::of(alloc, table, plan.symbols())?;
+        Ok(Project { plan, alphabet })
+    }
+
+    /// The alphabet of its symbols.
+    pub fn alphabet(&self) -> &Alphabet
+        ensures { result.now ≡ self.now.alphabet }
+    {
+        &self.alphabet
+    }
+
+    /// The definition of a name, or `None` where the project doesn't define the name.
+    pub fn find(&self, name: &str) -> Option<&Definition>
+        ensures { MatchOption result ((d : Definition) → Contains self.now.definitions d → d.name ≡ name.now → ⊥) (λ d. Contains self.now.definitions d.now × (d.now.name ≡ name.now) × IsSoundOver (symbols_of self.now.alphabet) d.now) }
+    {
+        'definitions: for definition in self.plan.definitions() {
+            if definition.name.as_str() == name {
+                return Some(definition);
+            }
+        }
+        None
+    }
+
+    /// The names of the project in the order of their bytes.
+    pub fn names(&self, alloc: Global) -> Result<Vec<Text>, AllocError>
+        ensures { (planned : Planned) → IsLoadedFrom planned self.now → IfOk result (λ names. AreNames (project_in planned) names.items) }
+    {
+        let mut names = Vec::new(alloc);
+        'definitions: for definition in self.plan.definitions() {
+            names.push(definition.name.clone()?)?;
+        }
+        names.sort()?;
+        Ok(names)
+    }
+}

@@ -1,0 +1,37 @@
+ghost use Rattle.std.specs.Prelude.{◌↔◌, IfOk, List};
+ghost use Rattle.fsm_base.specs.declared.letters.Sym.{Sym};
+ghost use Rattle.fsm_words.specs.Relations.{AreSame};
+ghost use Rattle.fsa.specs.Automaton.{UsesLetter};
+ghost use Rattle.fsa.specs.Language.{Accepts};
+ghost use Rattle.fst_relation.specs.Relation.{IsRelated};
+ghost use Rattle.fst_algebra.specs.Relations.{IsCross, IsLower, IsUpper, UsesLower, UsesUpper};
+
+use fsa::Fsa;
+use fsa_reduce::reduced;
+use fsm_base::{Pair, Sym};
+use std::alloc::{AllocError, Global};
+
+/// The reduced automaton of the words that `r` relates to some lower word.
+pub fn upper(alloc: Global, r: &Fsa<Pair>) -> Result<Fsa<Sym>, AllocError>
+    ensures letters { IfOk result (λ m. (x : Sym) → UsesLetter m x → UsesUpper r.now x) }
+    ensures language { IfOk result (λ m. (w : List Sym) → Accepts m w ↔ IsUpper (IsRelated r.now) w) }
+{
+    reduced(alloc, &fst_algebra::upper(alloc, r)?)
+}
+
+/// The reduced automaton of the words to which `r` relates some upper word.
+pub fn lower(alloc: Global, r: &Fsa<Pair>) -> Result<Fsa<Sym>, AllocError>
+    ensures letters { IfOk result (λ m. (x : Sym) → UsesLetter m x → UsesLower r.now x) }
+    ensures language { IfOk result (λ m. (w : List Sym) → Accepts m w ↔ IsLower (IsRelated r.now) w) }
+{
+    reduced(alloc, &fst_algebra::lower(alloc, r)?)
+}
+
+/// The reduced transducer that relates each word of the first to each of the second.
+pub fn cross(alloc: Global, a: &Fsa<Sym>, b: &Fsa<Sym>) -> Result<Fsa<Pair>, AllocError>
+    ensures upper { IfOk result (λ m. (x : Sym) → UsesUpper m x → UsesLetter a.now x) }
+    ensures lower { IfOk result (λ m. (x : Sym) → UsesLower m x → UsesLetter b.now x) }
+    ensures relation { IfOk result (λ m. AreSame (IsRelated m) (IsCross (Accepts a.now) (Accepts b.now))) }
+{
+    reduced(alloc, &fst_algebra::cross(alloc, a, b)?)
+}

@@ -1,7 +1,0 @@
-use Rattle.std.proofs.lemmas.Result.{IfOk-weaker}
-use Rattle.regex_ast.specs.Terms.{term}
-use Rattle.network_build.proofs.Meant.{language_meant}
-use Rattle.network_build.proofs.meaning.language_of.Goals as goal
-
-pub returns : goal.returns
-returns c = IfOk-weaker _ _ _ (λ lang. language_meant c.args.alphabet.now (term c.args.expr.now) c.in_ok-words_of.field-0 lang c.in_ok-words_of.ensures.words) c.language-2.ensures

@@ -1,0 +1,21 @@
+use Rattle.std.proofs.Common.{◌≡◌, ◌↔◌, Contains, arith, take_all}
+use Rattle.std.proofs.lemmas.Result.{IfOk-weaker}
+use Rattle.fsm_base.specs.declared.letters.Sym.{Sym as Symbol}
+use Rattle.fsm_words.specs.Words.{IsDistinct}
+use Rattle.regex_ast.specs.declared.expr.Atom.TheVariants.{Sym}
+use Rattle.expr_parts.specs.Leaves.{seen}
+use Rattle.network_build.proofs.Uses.{apart_distinct, more_among}
+use Rattle.network_build.proofs.symbols.symbols_among.Goals as goal
+
+pub leaves-preserved : goal.leaves-preserved
+leaves-preserved c = more_among c.leaves.symbols.keys c.add_symbol.new.symbols.keys c.args.leaves.now c.leaves.leaf-index _ (omega arith) c.in_ok-add_symbol.ensures c.leaves.invariant
+
+pub returns-clause-distinct : goal.returns-clause-distinct
+returns-clause-distinct c =
+    IfOk-weaker c.from_slice.result (λ v. v.items ≡ c.as_slice.result.now) (λ v. IsDistinct v.items)
+    (λ v is. rw (is, c.as_slice.ensures.keys) (apart_distinct c.leaves.symbols.keys c.as_slice.ensures.unique)) c.from_slice.ensures.items
+
+pub returns-clause-same : goal.returns-clause-same
+returns-clause-same c =
+    IfOk-weaker c.from_slice.result (λ v. v.items ≡ c.as_slice.result.now) (λ v. (s : Symbol) → Contains v.items s ↔ Contains (seen c.args.leaves.now) (Sym s))
+    (λ v is s. rw (is, c.as_slice.ensures.keys) (rw (← take_all c.leaves.leaf-index c.args.leaves.now (omega arith)) (c.leaves.invariant s))) c.from_slice.ensures.items

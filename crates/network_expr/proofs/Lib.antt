@@ -1,0 +1,5 @@
+pub mod Weights
+pub mod Alike
+pub mod Rows
+pub mod Meant
+pub mod LeafWords

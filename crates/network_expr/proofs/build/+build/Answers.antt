@@ -1,0 +1,486 @@
+use Rattle.std.proofs.Common.{◌↔◌, ◌∷◌, [], ◌/◌, List, IfOk, All, length, map, refl, sym, ap, subst, ◌∙◌, arith}
+use Rattle.std.proofs.lemmas.Result.{IfOk-weaker}
+use Rattle.fsm_base.specs.declared.letters.Bound.{Bound}
+use Rattle.fsm_base.specs.declared.letters.Sym.{Sym}
+use Rattle.fsa.specs.Language.{Accepts}
+use Rattle.regex_ast.specs.declared.expr.Atom.{Atom}
+use Rattle.regex_ast.specs.declared.expr.Expr.{Expr}
+use Rattle.regex_ast.specs.declared.expr.Link.{Link}
+use Rattle.regex_ast.specs.declared.expr.Step.{Step}
+use Rattle.regex_ast.specs.declared.expr.Context.{Context}
+use Rattle.regex_ast.specs.Terms.{term, terms_of, links_of, contexts_of, steps_by, concat, ignore, no_term}
+use Rattle.regex_ast.proofs.Rows.{term-Concat, term-Ignore, term-Chain, term-Only, term-Steps}
+use Rattle.expr_forms.specs.Atoms.{symbols as leaves}
+use Rattle.expr_forms.specs.Kinds.{ChainFits, ContextsFit, EachFits, EachFitsAsLanguage, Fits, StepsFit, kind_of, kind_of_chain}
+use Rattle.expr_forms.specs.declared.form.Kind.TheVariants.{Language}
+use Rattle.expr_meaning.specs.Leaves.{stands_for}
+use Rattle.expr_meaning.specs.Meaning.{In, InIgnoring, Relates}
+use Rattle.network_algebra.specs.Networks.{all_letters, kind_of_network}
+use Rattle.network_algebra.specs.declared.network.Network.TheVariants.{Words}
+use Rattle.network_sets.specs.Split.{split_letters}
+use Rattle.network_sets.proofs.Inside.{over_left, over_right, inside_all}
+use Rattle.network_sets.proofs.Splits.{both_only}
+use Rattle.network_sets.proofs.Restrictions.{edge_only}
+use Rattle.network_expr.specs.Built.{AreBuilt, ContextsAreBuilt, IsBuilt, IsChoice, IsMeant, LinksAreBuilt, StepsAreBuilt}
+use Rattle.network_expr.proofs.Weights.{weight, each_halves, links_halves, contexts_halves, steps_halves as steps_lighter}
+use Rattle.network_expr.proofs.Rows.{each_built, each_fits, each_language, chain_built, chain_fits, choice_fits, contexts_built, contexts_fit, steps_built, steps_fit, no_item, one_item, halves_joined, terms_joined, some_terms}
+use Rattle.network_expr.proofs.Meant.{IsChosen, IsStepped, AreIn, NoWord, NoPair, chain_for, chain_halves, chain_choice, choice_halves, none_chosen, none_accepted, steps_for, steps_halves, then_stepped, context_one, context_halves, no_contexts, only_meant, words_meant, meant_words, atom_meant, maybe_meant, same_meant, turn_alone, turns_meant, suffixed_for, prefixed_meant, not_one_meant, ignore_row, ignore_one, ignore_halves, each_kind_language, empty_only, given_two}
+use Rattle.network_expr.proofs.build.+build.Goals as goal
+
+pub by_any-by_any-requires : goal.by_any-by_any-requires
+by_any-by_any-requires t c =
+    let A = c.args.alphabet.now in
+    let front = c.split_at.result.0.now in
+    let back = c.split_at.result.1.now in
+    let whole = c.args.links.now in
+    let is = halves_joined front back whole (length whole / 2) c.split_at.ensures.front c.split_at.ensures.back in
+    let light = links_halves front back whole is (omega arith) (omega arith) in
+    let built = chain_built A front back (subst (λ (z : List (Link Atom)). LinksAreBuilt A (links_of z)) (sym is) c.requires.built) in
+    let fits = chain_fits front back Language (subst (λ (z : List (Link Atom)). ChainFits leaves Language (links_of z)) (sym is) c.requires.fits) in
+    (omega (arith, c.decreases, light.0), (c.requires.distinct, (over_left IsChoice front back (subst (All IsChoice) (sym is) c.requires.choices), (built.0, fits.0))))
+
+pub by_any-by_any-requires-in_default : goal.by_any-by_any-requires-in_default
+by_any-by_any-requires-in_default t c =
+    let A = c.args.alphabet.now in
+    let front = c.split_at.result.0.now in
+    let back = c.split_at.result.1.now in
+    let whole = c.args.links.now in
+    let is = halves_joined front back whole (length whole / 2) c.split_at.ensures.front c.split_at.ensures.back in
+    let light = links_halves front back whole is (omega arith) (omega arith) in
+    let built = chain_built A front back (subst (λ (z : List (Link Atom)). LinksAreBuilt A (links_of z)) (sym is) c.requires.built) in
+    let fits = chain_fits front back Language (subst (λ (z : List (Link Atom)). ChainFits leaves Language (links_of z)) (sym is) c.requires.fits) in
+    let all = over_right IsChoice front back (subst (All IsChoice) (sym is) c.requires.choices) in
+    (omega (arith, c.decreases, light.1), (c.requires.distinct, (all, (built.1, choice_fits back all (kind_of_chain leaves Language (links_of front)) Language fits.1))))
+
+pub by_any-returns-in_ok-new-in-len1-clause-meaning : goal.by_any-returns-in_ok-new-in-len1-clause-meaning
+by_any-returns-in_ok-new-in-len1-clause-meaning t c =
+    let A = c.args.alphabet.now in
+    let item = c.link-item.result in
+    let one = one_item c.args.links.now item (omega arith) (omega arith) c.link-item.is in
+    let empty = c.in_ok-new-in-len1.field-0 in
+    let fits = subst (λ (z : List (Link Atom)). ChainFits leaves Language (links_of z)) one c.requires.fits in
+    subst (λ (z : List (Link Atom)). IfOk c.in_link.result (IsChosen A z)) (sym one)
+    (IfOk-weaker _ _ _ (λ r. chain_for A Language (NoWord A) (NoPair A) (Words empty) r (links_of (item ∷ [])) fits (none_chosen A empty (none_accepted empty c.in_ok-new-in-len1.ensures))) c.in_link.ensures.meaning)
+
+pub by_any-returns-in_ok-second-in_default-clause-meaning : goal.by_any-returns-in_ok-second-in_default-clause-meaning
+by_any-returns-in_ok-second-in_default-clause-meaning t c =
+    let A = c.args.alphabet.now in
+    let front = c.split_at.result.0.now in
+    let back = c.split_at.result.1.now in
+    let whole = c.args.links.now in
+    let is = halves_joined front back whole (length whole / 2) c.split_at.ensures.front c.split_at.ensures.back in
+    let all = over_right IsChoice front back (subst (All IsChoice) (sym is) c.requires.choices) in
+    IfOk-weaker _ _ _ (λ r. choice_halves A c.in_ok-first-in_default.first c.in_ok-second-in_default.second r front back whole is all c.in_ok-first-in_default.ensures.meaning c.in_ok-second-in_default.ensures.meaning) c.union.ensures.meaning
+
+pub crossed-returns-in-Language-clause-meaning : goal.crossed-returns-in-Language-clause-meaning
+crossed-returns-in-Language-clause-meaning t c =
+    same_meant c.args.alphabet.now (term c.args.upper.now) (term c.args.lower.now) c.in_ok-above.above c.in_ok-below.below c.in_ok-both-in-Language.field-0 (sym c.requires.kind ∙ c.in-Language.is)
+    c.in_ok-above.ensures.words c.in_ok-below.ensures.words c.in_ok-both-in-Language.ensures.words
+
+pub ignored-returns-in-empty-clause-letters : goal.ignored-returns-in-empty-clause-letters
+ignored-returns-in-empty-clause-letters t c = IfOk-weaker _ _ _ (λ m. empty_only (all_letters c.args.alphabet.now) m) c.word.ensures.letters
+
+pub ignored-ignored-requires : goal.ignored-ignored-requires
+ignored-ignored-requires t c =
+    let A = c.args.alphabet.now in
+    let front = c.split_at.result.0.now in
+    let back = c.split_at.result.1.now in
+    let whole = c.args.operands.now in
+    let is = halves_joined front back whole (length whole / 2) c.split_at.ensures.front c.split_at.ensures.back in
+    let light = each_halves front back whole is (omega arith) (omega arith) in
+    let terms = terms_joined front back whole is in
+    let built = each_built A (map term front) (map term back) (subst (λ z. AreBuilt A (terms_of z)) (sym terms) c.requires.built) in
+    let fits = each_language (map term front) (map term back) (subst (λ z. EachFitsAsLanguage leaves (terms_of z)) (sym terms) c.requires.fits) in
+    (omega (arith, c.decreases, light.0), (c.requires.distinct, (built.0, fits.0)))
+
+pub ignored-in_ignoring-requires : goal.ignored-in_ignoring-requires
+ignored-in_ignoring-requires t c =
+    let A = c.args.alphabet.now in
+    let front = c.split_at.result.0.now in
+    let back = c.split_at.result.1.now in
+    let whole = c.args.operands.now in
+    let is = halves_joined front back whole (length whole / 2) c.split_at.ensures.front c.split_at.ensures.back in
+    let light = each_halves front back whole is (omega arith) (omega arith) in
+    let terms = terms_joined front back whole is in
+    let built = each_built A (map term front) (map term back) (subst (λ z. AreBuilt A (terms_of z)) (sym terms) c.requires.built) in
+    let fits = each_language (map term front) (map term back) (subst (λ z. EachFitsAsLanguage leaves (terms_of z)) (sym terms) c.requires.fits) in
+    (omega (arith, c.decreases, light.1), (c.requires.distinct, (c.in_ok-first-in_default.ensures.letters, (built.1, fits.1))))
+
+pub ignored-returns-in-len1-clause-words : goal.ignored-returns-in-len1-clause-words
+ignored-returns-in-len1-clause-words t c =
+    let A = c.args.alphabet.now in
+    let item = c.operand-item.result in
+    subst (λ (z : List (Expr Atom)). IfOk c.words_of.result (λ m. (w : List (Bound Sym)) → Accepts m w ↔ In stands_for A (ignore (terms_of (map term z))) w)) (sym (one_item c.args.operands.now item (omega arith) (omega arith) c.operand-item.is)) c.words_of.ensures.words
+
+pub ignored-returns-in_ok-first-in_default-clause-words : goal.ignored-returns-in_ok-first-in_default-clause-words
+ignored-returns-in_ok-first-in_default-clause-words t c =
+    let front = c.split_at.result.0.now in
+    let back = c.split_at.result.1.now in
+    let whole = c.args.operands.now in
+    let is = halves_joined front back whole (length whole / 2) c.split_at.ensures.front c.split_at.ensures.back in
+    IfOk-weaker _ _ _ (λ m. ignore_row c.args.alphabet.now (map term front) (map term back) (map term whole) c.in_ok-first-in_default.first m (terms_joined front back whole is) (some_terms front (omega arith)) c.in_ok-first-in_default.ensures.words)
+    c.in_ignoring.ensures.words
+
+pub in_chain-by_any-requires : goal.in_chain-by_any-requires
+in_chain-by_any-requires t c =
+    let all = c.are_choices.ensures.0 c.if-are_choices.true in
+    (omega (arith, c.decreases), (c.requires.distinct, (all, (c.requires.built, choice_fits c.args.links.now all (kind_of_network c.args.before) Language c.requires.fits))))
+
+pub in_chain-in_chain-requires : goal.in_chain-in_chain-requires
+in_chain-in_chain-requires t c =
+    let A = c.args.alphabet.now in
+    let K = kind_of_network c.args.before in
+    let front = c.split_at.result.0.now in
+    let back = c.split_at.result.1.now in
+    let whole = c.args.links.now in
+    let is = halves_joined front back whole (length whole / 2) c.split_at.ensures.front c.split_at.ensures.back in
+    let light = links_halves front back whole is (omega arith) (omega arith) in
+    let built = chain_built A front back (subst (λ (z : List (Link Atom)). LinksAreBuilt A (links_of z)) (sym is) c.requires.built) in
+    let fits = chain_fits front back K (subst (λ (z : List (Link Atom)). ChainFits leaves K (links_of z)) (sym is) c.requires.fits) in
+    (omega (arith, c.decreases, light.0), (c.requires.distinct, (c.requires.before, (built.0, fits.0))))
+
+pub in_chain-in_chain-requires-in_default-2 : goal.in_chain-in_chain-requires-in_default-2
+in_chain-in_chain-requires-in_default-2 t c =
+    let A = c.args.alphabet.now in
+    let K = kind_of_network c.args.before in
+    let front = c.split_at.result.0.now in
+    let back = c.split_at.result.1.now in
+    let whole = c.args.links.now in
+    let is = halves_joined front back whole (length whole / 2) c.split_at.ensures.front c.split_at.ensures.back in
+    let light = links_halves front back whole is (omega arith) (omega arith) in
+    let built = chain_built A front back (subst (λ (z : List (Link Atom)). LinksAreBuilt A (links_of z)) (sym is) c.requires.built) in
+    let fits = chain_fits front back K (subst (λ (z : List (Link Atom)). ChainFits leaves K (links_of z)) (sym is) c.requires.fits) in
+    let kind = c.in_ok-first-in_default-2.ensures.meaning.kind_is in
+    (omega (arith, c.decreases, light.1), (c.requires.distinct, (c.in_ok-first-in_default-2.ensures.letters, (built.1, subst (λ k. ChainFits leaves k (links_of back)) (sym kind) fits.1))))
+
+pub in_chain-returns-in_ok-by_any-in_default-clause-meaning : goal.in_chain-returns-in_ok-by_any-in_default-clause-meaning
+in_chain-returns-in_ok-by_any-in_default-clause-meaning t c =
+    let all = c.are_choices.ensures.0 c.if-are_choices.true in
+    IfOk-weaker _ _ _ (λ r. chain_choice c.args.alphabet.now c.args.before c.in_ok-by_any-in_default.field-0 r c.args.links.now all c.in_ok-by_any-in_default.ensures.meaning) c.union.ensures.meaning
+
+pub in_chain-returns-in_ok-first-in_default-2-clause-meaning : goal.in_chain-returns-in_ok-first-in_default-2-clause-meaning
+in_chain-returns-in_ok-first-in_default-2-clause-meaning t c =
+    let K = kind_of_network c.args.before in
+    let front = c.split_at.result.0.now in
+    let back = c.split_at.result.1.now in
+    let whole = c.args.links.now in
+    let is = halves_joined front back whole (length whole / 2) c.split_at.ensures.front c.split_at.ensures.back in
+    let fits = chain_fits front back K (subst (λ (z : List (Link Atom)). ChainFits leaves K (links_of z)) (sym is) c.requires.fits) in
+    IfOk-weaker _ _ _ (λ r. chain_halves c.args.alphabet.now c.args.before c.in_ok-first-in_default-2.first r front back whole is fits.1 c.in_ok-first-in_default-2.ensures.meaning) c.in_chain-in_default-2.ensures.meaning
+
+pub in_contexts-in_contexts-requires : goal.in_contexts-in_contexts-requires
+in_contexts-in_contexts-requires t c =
+    let A = c.args.alphabet.now in
+    let front = c.split_at.result.0.now in
+    let back = c.split_at.result.1.now in
+    let whole = c.args.contexts.now in
+    let is = halves_joined front back whole (length whole / 2) c.split_at.ensures.front c.split_at.ensures.back in
+    let light = contexts_halves front back whole is (omega arith) (omega arith) in
+    let built = contexts_built A front back (subst (λ (z : List (Context Atom)). ContextsAreBuilt A (contexts_of z)) (sym is) c.requires.built) in
+    let fits = contexts_fit front back (subst (λ (z : List (Context Atom)). ContextsFit leaves (contexts_of z)) (sym is) c.requires.fits) in
+    (omega (arith, c.decreases, light.0), (c.requires.distinct, (built.0, fits.0)))
+
+pub in_contexts-in_contexts-requires-in_default : goal.in_contexts-in_contexts-requires-in_default
+in_contexts-in_contexts-requires-in_default t c =
+    let A = c.args.alphabet.now in
+    let front = c.split_at.result.0.now in
+    let back = c.split_at.result.1.now in
+    let whole = c.args.contexts.now in
+    let is = halves_joined front back whole (length whole / 2) c.split_at.ensures.front c.split_at.ensures.back in
+    let light = contexts_halves front back whole is (omega arith) (omega arith) in
+    let built = contexts_built A front back (subst (λ (z : List (Context Atom)). ContextsAreBuilt A (contexts_of z)) (sym is) c.requires.built) in
+    let fits = contexts_fit front back (subst (λ (z : List (Context Atom)). ContextsFit leaves (contexts_of z)) (sym is) c.requires.fits) in
+    (omega (arith, c.decreases, light.1), (c.requires.distinct, (built.1, fits.1)))
+
+pub in_contexts-returns-in-empty-clause-words : goal.in_contexts-returns-in-empty-clause-words
+in_contexts-returns-in-empty-clause-words t c =
+    let A = c.args.alphabet.now in
+    subst (λ (z : List (Context Atom)). IfOk c.new.result (AreIn A (contexts_of z))) (sym (no_item c.args.contexts.now (omega arith)))
+    (IfOk-weaker _ _ _ (λ m is. no_contexts A m (none_accepted m is)) c.new.ensures)
+
+pub in_contexts-returns-in_ok-right-in-len1-clause-words : goal.in_contexts-returns-in_ok-right-in-len1-clause-words
+in_contexts-returns-in_ok-right-in-len1-clause-words t c =
+    let A = c.args.alphabet.now in
+    let item = c.context-item.result in
+    subst (λ (z : List (Context Atom)). IfOk c.in_context.result (AreIn A (contexts_of z))) (sym (one_item c.args.contexts.now item (omega arith) (omega arith) c.context-item.is))
+    (IfOk-weaker _ _ _ (λ m. context_one A (term item.left) (term item.right) c.in_ok-left-in-len1.left c.in_ok-right-in-len1.right m c.in_ok-left-in-len1.ensures.words c.in_ok-right-in-len1.ensures.words) c.in_context.ensures.words)
+
+pub in_contexts-returns-in_ok-second-in_default-clause-letters : goal.in_contexts-returns-in_ok-second-in_default-clause-letters
+in_contexts-returns-in_ok-second-in_default-clause-letters t c =
+    IfOk-weaker _ _ _ (λ m used. both_only (split_letters c.args.alphabet.now) c.in_ok-first-in_default.first c.in_ok-second-in_default.second m used c.in_ok-first-in_default.ensures.letters c.in_ok-second-in_default.ensures.letters) c.union.ensures.letters
+
+pub in_contexts-returns-in_ok-second-in_default-clause-words : goal.in_contexts-returns-in_ok-second-in_default-clause-words
+in_contexts-returns-in_ok-second-in_default-clause-words t c =
+    let front = c.split_at.result.0.now in
+    let back = c.split_at.result.1.now in
+    let whole = c.args.contexts.now in
+    let is = halves_joined front back whole (length whole / 2) c.split_at.ensures.front c.split_at.ensures.back in
+    IfOk-weaker _ _ _ (λ m. context_halves c.args.alphabet.now front back whole c.in_ok-first-in_default.first c.in_ok-second-in_default.second m is c.in_ok-first-in_default.ensures.words c.in_ok-second-in_default.ensures.words) c.union.ensures.language
+
+pub in_ignoring-in_ignoring-requires : goal.in_ignoring-in_ignoring-requires
+in_ignoring-in_ignoring-requires t c =
+    let A = c.args.alphabet.now in
+    let front = c.split_at.result.0.now in
+    let back = c.split_at.result.1.now in
+    let whole = c.args.operands.now in
+    let is = halves_joined front back whole (length whole / 2) c.split_at.ensures.front c.split_at.ensures.back in
+    let light = each_halves front back whole is (omega arith) (omega arith) in
+    let terms = terms_joined front back whole is in
+    let built = each_built A (map term front) (map term back) (subst (λ z. AreBuilt A (terms_of z)) (sym terms) c.requires.built) in
+    let fits = each_language (map term front) (map term back) (subst (λ z. EachFitsAsLanguage leaves (terms_of z)) (sym terms) c.requires.fits) in
+    (omega (arith, c.decreases, light.0), (c.requires.distinct, (c.requires.before, (built.0, fits.0))))
+
+pub in_ignoring-in_ignoring-requires-in_default : goal.in_ignoring-in_ignoring-requires-in_default
+in_ignoring-in_ignoring-requires-in_default t c =
+    let A = c.args.alphabet.now in
+    let front = c.split_at.result.0.now in
+    let back = c.split_at.result.1.now in
+    let whole = c.args.operands.now in
+    let is = halves_joined front back whole (length whole / 2) c.split_at.ensures.front c.split_at.ensures.back in
+    let light = each_halves front back whole is (omega arith) (omega arith) in
+    let terms = terms_joined front back whole is in
+    let built = each_built A (map term front) (map term back) (subst (λ z. AreBuilt A (terms_of z)) (sym terms) c.requires.built) in
+    let fits = each_language (map term front) (map term back) (subst (λ z. EachFitsAsLanguage leaves (terms_of z)) (sym terms) c.requires.fits) in
+    (omega (arith, c.decreases, light.1), (c.requires.distinct, (c.in_ok-first-in_default.ensures.letters, (built.1, fits.1))))
+
+pub in_ignoring-returns-in_ok-words-in-len1-clause-words : goal.in_ignoring-returns-in_ok-words-in-len1-clause-words
+in_ignoring-returns-in_ok-words-in-len1-clause-words t c =
+    let A = c.args.alphabet.now in
+    let item = c.operand-item.result in
+    subst (λ (z : List (Expr Atom)). IfOk c.ignoring.result (λ m. (w : List (Bound Sym)) → Accepts m w ↔ InIgnoring stands_for A (Accepts c.args.before) (terms_of (map term z)) w)) (sym (one_item c.args.operands.now item (omega arith) (omega arith) c.operand-item.is))
+    (IfOk-weaker _ _ _ (λ m. ignore_one A (term item) c.args.before c.in_ok-words-in-len1.words m c.in_ok-words-in-len1.ensures.words) c.ignoring.ensures.words)
+
+pub in_ignoring-returns-in_ok-first-in_default-clause-words : goal.in_ignoring-returns-in_ok-first-in_default-clause-words
+in_ignoring-returns-in_ok-first-in_default-clause-words t c =
+    let front = c.split_at.result.0.now in
+    let back = c.split_at.result.1.now in
+    let whole = c.args.operands.now in
+    let is = halves_joined front back whole (length whole / 2) c.split_at.ensures.front c.split_at.ensures.back in
+    IfOk-weaker _ _ _ (λ m. ignore_halves c.args.alphabet.now (map term front) (map term back) (map term whole) c.args.before c.in_ok-first-in_default.first m (terms_joined front back whole is) c.in_ok-first-in_default.ensures.words) c.in_ignoring-in_default.ensures.words
+
+pub in_step-returns-in_ok-network-in-Then-clause-meaning : goal.in_step-returns-in_ok-network-in-Then-clause-meaning
+in_step-returns-in_ok-network-in-Then-clause-meaning t c =
+    let A = c.args.alphabet.now in
+    subst (λ (z : Step Atom). IfOk c.composed.result (IsStepped A c.args.before (z ∷ []))) (sym c.in-Then.is)
+    (IfOk-weaker _ _ _ (λ r. then_stepped A c.args.before c.in_ok-network-in-Then.network r (term c.in-Then.operand) c.in_ok-network-in-Then.ensures.meaning) c.composed.ensures.meaning)
+
+pub in_steps-in_steps-requires : goal.in_steps-in_steps-requires
+in_steps-in_steps-requires t c =
+    let A = c.args.alphabet.now in
+    let K = kind_of_network c.args.before in
+    let front = c.split_at.result.0.now in
+    let back = c.split_at.result.1.now in
+    let whole = c.args.steps.now in
+    let is = halves_joined front back whole (length whole / 2) c.split_at.ensures.front c.split_at.ensures.back in
+    let light = steps_lighter front back whole is (omega arith) (omega arith) in
+    let built = steps_built A front back (subst (λ (z : List (Step Atom)). StepsAreBuilt A (steps_by z)) (sym is) c.requires.built) in
+    let fits = steps_fit front back K (subst (λ (z : List (Step Atom)). StepsFit leaves K (steps_by z)) (sym is) c.requires.fits) in
+    (omega (arith, c.decreases, light.0), (c.requires.distinct, (c.requires.before, (built.0, fits.0))))
+
+pub in_steps-in_steps-requires-in_default : goal.in_steps-in_steps-requires-in_default
+in_steps-in_steps-requires-in_default t c =
+    let A = c.args.alphabet.now in
+    let K = kind_of_network c.args.before in
+    let front = c.split_at.result.0.now in
+    let back = c.split_at.result.1.now in
+    let whole = c.args.steps.now in
+    let is = halves_joined front back whole (length whole / 2) c.split_at.ensures.front c.split_at.ensures.back in
+    let light = steps_lighter front back whole is (omega arith) (omega arith) in
+    let built = steps_built A front back (subst (λ (z : List (Step Atom)). StepsAreBuilt A (steps_by z)) (sym is) c.requires.built) in
+    let fits = steps_fit front back K (subst (λ (z : List (Step Atom)). StepsFit leaves K (steps_by z)) (sym is) c.requires.fits) in
+    let kind = c.in_ok-first-in_default.ensures.meaning.kind_is in
+    (omega (arith, c.decreases, light.1), (c.requires.distinct, (c.in_ok-first-in_default.ensures.letters, (built.1, subst (λ k. StepsFit leaves k (steps_by back)) (sym kind) fits.1))))
+
+pub in_steps-returns-in_ok-first-in_default-clause-meaning : goal.in_steps-returns-in_ok-first-in_default-clause-meaning
+in_steps-returns-in_ok-first-in_default-clause-meaning t c =
+    let K = kind_of_network c.args.before in
+    let front = c.split_at.result.0.now in
+    let back = c.split_at.result.1.now in
+    let whole = c.args.steps.now in
+    let is = halves_joined front back whole (length whole / 2) c.split_at.ensures.front c.split_at.ensures.back in
+    let fits = steps_fit front back K (subst (λ (z : List (Step Atom)). StepsFit leaves K (steps_by z)) (sym is) c.requires.fits) in
+    IfOk-weaker _ _ _ (λ r. steps_halves c.args.alphabet.now c.args.before c.in_ok-first-in_default.first r front back whole is fits.1 c.in_ok-first-in_default.ensures.meaning) c.in_steps-in_default.ensures.meaning
+
+pub in_turn-in_turn-requires : goal.in_turn-in_turn-requires
+in_turn-in_turn-requires t c =
+    let A = c.args.alphabet.now in
+    let front = c.split_at.result.0.now in
+    let back = c.split_at.result.1.now in
+    let whole = c.args.operands.now in
+    let is = halves_joined front back whole (length whole / 2) c.split_at.ensures.front c.split_at.ensures.back in
+    let light = each_halves front back whole is (omega arith) (omega arith) in
+    let terms = terms_joined front back whole is in
+    let built = each_built A (map term front) (map term back) (subst (λ z. AreBuilt A (terms_of z)) (sym terms) c.requires.built) in
+    let fits = each_fits (map term front) (map term back) (subst (λ z. EachFits leaves (terms_of z)) (sym terms) c.requires.fits) in
+    (omega (arith, c.decreases, light.0), (c.requires.distinct, (built.0, fits.0)))
+
+pub in_turn-in_turn-requires-in_default : goal.in_turn-in_turn-requires-in_default
+in_turn-in_turn-requires-in_default t c =
+    let A = c.args.alphabet.now in
+    let front = c.split_at.result.0.now in
+    let back = c.split_at.result.1.now in
+    let whole = c.args.operands.now in
+    let is = halves_joined front back whole (length whole / 2) c.split_at.ensures.front c.split_at.ensures.back in
+    let light = each_halves front back whole is (omega arith) (omega arith) in
+    let terms = terms_joined front back whole is in
+    let built = each_built A (map term front) (map term back) (subst (λ z. AreBuilt A (terms_of z)) (sym terms) c.requires.built) in
+    let fits = each_fits (map term front) (map term back) (subst (λ z. EachFits leaves (terms_of z)) (sym terms) c.requires.fits) in
+    (omega (arith, c.decreases, light.1), (c.requires.distinct, (built.1, fits.1)))
+
+pub in_turn-returns-in_ok-word-in-empty-clause-letters : goal.in_turn-returns-in_ok-word-in-empty-clause-letters
+in_turn-returns-in_ok-word-in-empty-clause-letters t c = empty_only (all_letters c.args.alphabet.now) c.in_ok-word-in-empty.field-0 c.in_ok-word-in-empty.ensures.letters
+
+pub in_turn-returns-in_ok-word-in-empty-clause-meaning : goal.in_turn-returns-in_ok-word-in-empty-clause-meaning
+in_turn-returns-in_ok-word-in-empty-clause-meaning t c =
+    let A = c.args.alphabet.now in
+    let m = c.in_ok-word-in-empty.field-0 in
+    subst (λ (z : List (Expr Atom)). IsMeant A (concat (terms_of (map term z))) (Words m)) (sym (no_item c.args.operands.now (omega arith))) (words_meant A (concat no_term) m refl c.in_ok-word-in-empty.ensures.language)
+
+pub in_turn-returns-in-len1-clause-meaning : goal.in_turn-returns-in-len1-clause-meaning
+in_turn-returns-in-len1-clause-meaning t c =
+    let A = c.args.alphabet.now in
+    let item = c.operand-item.result in
+    subst (λ (z : List (Expr Atom)). IfOk c.network_of.result (IsMeant A (concat (terms_of (map term z))))) (sym (one_item c.args.operands.now item (omega arith) (omega arith) c.operand-item.is))
+    (IfOk-weaker _ _ _ (turn_alone A (term item)) c.network_of.ensures.meaning)
+
+pub in_turn-returns-in_ok-second-in_default-clause-meaning : goal.in_turn-returns-in_ok-second-in_default-clause-meaning
+in_turn-returns-in_ok-second-in_default-clause-meaning t c =
+    let front = c.split_at.result.0.now in
+    let back = c.split_at.result.1.now in
+    let whole = c.args.operands.now in
+    let is = halves_joined front back whole (length whole / 2) c.split_at.ensures.front c.split_at.ensures.back in
+    IfOk-weaker _ _ _ (λ r. turns_meant c.args.alphabet.now (map term front) (map term back) (map term whole) c.in_ok-first-in_default.first c.in_ok-second-in_default.second r (terms_joined front back whole is) c.in_ok-first-in_default.ensures.meaning c.in_ok-second-in_default.ensures.meaning) c.concat.ensures.meaning
+
+pub network_of-ignored-requires : goal.network_of-ignored-requires
+network_of-ignored-requires t c =
+    let is = ap term c.in-Ignore.is ∙ term-Ignore c.in-Ignore.operands in
+    let slice = c.deref-in-Ignore.ensures.value in
+    (rw slice (omega (arith, c.decreases, ap weight is)), (c.requires.distinct, (rw slice (subst (λ e. IsBuilt c.args.alphabet.now e) is c.requires.built), rw slice (subst (λ e. Fits leaves e) is c.requires.fits))))
+
+pub network_of-in_turn-requires : goal.network_of-in_turn-requires
+network_of-in_turn-requires t c =
+    let is = ap term c.in-Concat.is ∙ term-Concat c.in-Concat.operands in
+    let slice = c.deref-in-Concat.ensures.value in
+    (rw slice (omega (arith, c.decreases, ap weight is)), (c.requires.distinct, (rw slice (subst (λ e. IsBuilt c.args.alphabet.now e) is c.requires.built), rw slice (subst (λ e. Fits leaves e) is c.requires.fits))))
+
+pub network_of-in_chain-requires : goal.network_of-in_chain-requires
+network_of-in_chain-requires t c =
+    let is = ap term c.in-Chain.is ∙ term-Chain c.in-Chain.first c.in-Chain.links in
+    let slice = c.deref-in-Chain-2.ensures.value in
+    let built = subst (λ e. IsBuilt c.args.alphabet.now e) is c.requires.built in
+    let fits = subst (λ e. Fits leaves e) is c.requires.fits in
+    let kind = rw c.deref-in-Chain.ensures at c.in_ok-network_of-in-Chain.ensures.meaning.kind_is in
+    (rw slice (omega (arith, c.decreases, ap weight is)), (c.requires.distinct, (c.in_ok-network_of-in-Chain.ensures.letters, (rw slice built.1, rw slice (subst (λ k. ChainFits leaves k (links_of c.in-Chain.links.items)) (sym kind) fits.1)))))
+
+pub network_of-only_in-requires : goal.network_of-only_in-requires
+network_of-only_in-requires t c =
+    let is = ap term c.in-Only.is ∙ term-Only c.in-Only.centre c.in-Only.contexts in
+    let centre = c.deref-in-Only.ensures in
+    let slice = c.deref-in-Only-2.ensures.value in
+    (rw (centre, slice) (omega (arith, c.decreases, ap weight is)), (c.requires.distinct, (rw (centre, slice) (subst (λ e. IsBuilt c.args.alphabet.now e) is c.requires.built), rw (centre, slice) (subst (λ e. Fits leaves e) is c.requires.fits))))
+
+pub network_of-in_steps-requires : goal.network_of-in_steps-requires
+network_of-in_steps-requires t c =
+    let is = ap term c.in-Steps.is ∙ term-Steps c.in-Steps.first c.in-Steps.steps in
+    let slice = c.deref-in-Steps-2.ensures.value in
+    let built = subst (λ e. IsBuilt c.args.alphabet.now e) is c.requires.built in
+    let fits = subst (λ e. Fits leaves e) is c.requires.fits in
+    let kind = rw c.deref-in-Steps.ensures at c.in_ok-network_of-in-Steps.ensures.meaning.kind_is in
+    (rw slice (omega (arith, c.decreases, ap weight is)), (c.requires.distinct, (c.in_ok-network_of-in-Steps.ensures.letters, (rw slice built.1, rw slice (subst (λ k. StepsFit leaves k (steps_by c.in-Steps.steps.items)) (sym kind) fits.1)))))
+
+pub network_of-returns-in_ok-word-in-Empty-clause-letters : goal.network_of-returns-in_ok-word-in-Empty-clause-letters
+network_of-returns-in_ok-word-in-Empty-clause-letters t c = empty_only (all_letters c.args.alphabet.now) c.in_ok-word-in-Empty.field-0 c.in_ok-word-in-Empty.ensures.letters
+
+pub network_of-returns-in_ok-one_of-in-Any-clause-letters : goal.network_of-returns-in_ok-one_of-in-Any-clause-letters
+network_of-returns-in_ok-one_of-in-Any-clause-letters t c x used = inside_all c.args.alphabet.now x (rw (c.deref.ensures.value ∙ c.in_ok-inner_letters-in-Any.ensures) at (c.in_ok-one_of-in-Any.ensures.letters x used))
+
+pub network_of-returns-in_ok-word-in-Edge-clause-letters : goal.network_of-returns-in_ok-word-in-Edge-clause-letters
+network_of-returns-in_ok-word-in-Edge-clause-letters t c = edge_only c.args.alphabet.now c.in_ok-word-in-Edge.field-0 c.in_ok-word-in-Edge.ensures.letters
+
+pub network_of-returns-in_ok-leaves-in-Atom-clause-meaning : goal.network_of-returns-in_ok-leaves-in-Atom-clause-meaning
+network_of-returns-in_ok-leaves-in-Atom-clause-meaning t c =
+    let A = c.args.alphabet.now in
+    let m = c.in_ok-leaves-in-Atom.field-0 in
+    subst (λ e. IsMeant A (term e) (Words m)) (sym c.in-Atom.is) (atom_meant A m c.in-Atom.atom c.in_ok-leaves-in-Atom.ensures.words)
+
+pub network_of-returns-in_ok-network_of-in-Suffixed-clause-meaning : goal.network_of-returns-in_ok-network_of-in-Suffixed-clause-meaning
+network_of-returns-in_ok-network_of-in-Suffixed-clause-meaning t c =
+    let A = c.args.alphabet.now in
+    let e = term c.in-Suffixed.inner.value in
+    let meant = rw c.deref-in-Suffixed.ensures at c.in_ok-network_of-in-Suffixed.ensures.meaning in
+    let result = rw c.deref-in-Suffixed-2.ensures.value at c.with_suffixes.ensures.meaning in
+    subst (λ x. IfOk c.with_suffixes.result (IsMeant A (term x))) (sym c.in-Suffixed.is)
+    (IfOk-weaker _ _ _ (λ r. suffixed_for (kind_of leaves e) (In stands_for A e) (Relates stands_for A e) c.in_ok-network_of-in-Suffixed.field-0 r c.in-Suffixed.suffixes.items meant) result)
+
+pub network_of-returns-in_ok-with_prefixes-in-Prefixed-clause-meaning : goal.network_of-returns-in_ok-with_prefixes-in-Prefixed-clause-meaning
+network_of-returns-in_ok-with_prefixes-in-Prefixed-clause-meaning t c =
+    let A = c.args.alphabet.now in
+    let m = c.in_ok-with_prefixes-in-Prefixed.field-0 in
+    let fits = subst (λ x. Fits leaves (term x)) c.in-Prefixed.is c.requires.fits in
+    let words = rw c.deref-in-Prefixed.ensures at c.in_ok-words-in-Prefixed.ensures.words in
+    let result = rw c.deref-in-Prefixed-2.ensures.value at c.in_ok-with_prefixes-in-Prefixed.ensures.words in
+    subst (λ x. IsMeant A (term x) (Words m)) (sym c.in-Prefixed.is)
+    (prefixed_meant A c.in-Prefixed.prefixes.items (term c.in-Prefixed.inner.value) c.in_ok-words-in-Prefixed.words m fits.0 words result)
+
+pub network_of-returns-in_ok-ignored-in-Ignore-clause-meaning : goal.network_of-returns-in_ok-ignored-in-Ignore-clause-meaning
+network_of-returns-in_ok-ignored-in-Ignore-clause-meaning t c =
+    let A = c.args.alphabet.now in
+    let m = c.in_ok-ignored-in-Ignore.field-0 in
+    let is = ap term c.in-Ignore.is ∙ term-Ignore c.in-Ignore.operands in
+    let fits = subst (λ e. Fits leaves e) is c.requires.fits in
+    let terms = terms_of (map term c.in-Ignore.operands.items) in
+    subst (λ e. IsMeant A e (Words m)) (sym is) (words_meant A (ignore terms) m (each_kind_language A terms fits) (rw c.deref-in-Ignore.ensures.value at c.in_ok-ignored-in-Ignore.ensures.words))
+
+pub network_of-returns-in-Concat-clause-meaning : goal.network_of-returns-in-Concat-clause-meaning
+network_of-returns-in-Concat-clause-meaning t c =
+    let is = ap term c.in-Concat.is ∙ term-Concat c.in-Concat.operands in
+    subst (λ e. IfOk c.in_turn.result (IsMeant c.args.alphabet.now e)) (sym is) (rw c.deref-in-Concat.ensures.value at c.in_turn.ensures.meaning)
+
+pub network_of-returns-in_ok-network_of-in-Chain-clause-meaning : goal.network_of-returns-in_ok-network_of-in-Chain-clause-meaning
+network_of-returns-in_ok-network_of-in-Chain-clause-meaning t c =
+    let A = c.args.alphabet.now in
+    let is = ap term c.in-Chain.is ∙ term-Chain c.in-Chain.first c.in-Chain.links in
+    let e = term c.in-Chain.first.value in
+    let fits = subst (λ x. Fits leaves x) is c.requires.fits in
+    let meant = rw c.deref-in-Chain.ensures at c.in_ok-network_of-in-Chain.ensures.meaning in
+    let result = rw c.deref-in-Chain-2.ensures.value at c.in_chain.ensures.meaning in
+    subst (λ x. IfOk c.in_chain.result (IsMeant A x)) (sym is)
+    (IfOk-weaker _ _ _ (λ r. chain_for A (kind_of leaves e) (In stands_for A e) (Relates stands_for A e) c.in_ok-network_of-in-Chain.field-0 r (links_of c.in-Chain.links.items) fits.1 meant) result)
+
+pub network_of-returns-in-Only-clause-meaning : goal.network_of-returns-in-Only-clause-meaning
+network_of-returns-in-Only-clause-meaning t c =
+    let is = ap term c.in-Only.is ∙ term-Only c.in-Only.centre c.in-Only.contexts in
+    subst (λ x. IfOk c.only_in.result (IsMeant c.args.alphabet.now x)) (sym is) (rw (c.deref-in-Only.ensures, c.deref-in-Only-2.ensures.value) at c.only_in.ensures.meaning)
+
+pub network_of-returns-in_ok-network_of-in-Steps-clause-meaning : goal.network_of-returns-in_ok-network_of-in-Steps-clause-meaning
+network_of-returns-in_ok-network_of-in-Steps-clause-meaning t c =
+    let A = c.args.alphabet.now in
+    let is = ap term c.in-Steps.is ∙ term-Steps c.in-Steps.first c.in-Steps.steps in
+    let e = term c.in-Steps.first.value in
+    let fits = subst (λ x. Fits leaves x) is c.requires.fits in
+    let meant = rw c.deref-in-Steps.ensures at c.in_ok-network_of-in-Steps.ensures.meaning in
+    let result = rw c.deref-in-Steps-2.ensures.value at c.in_steps.ensures.meaning in
+    subst (λ x. IfOk c.in_steps.result (IsMeant A x)) (sym is)
+    (IfOk-weaker _ _ _ (λ r. steps_for A (kind_of leaves e) (In stands_for A e) (Relates stands_for A e) c.in_ok-network_of-in-Steps.field-0 r (steps_by c.in-Steps.steps.items) fits.1 meant) result)
+
+pub no_such_letter-returns-clause-meaning : goal.no_such_letter-returns-clause-meaning
+no_such_letter-returns-clause-meaning t c =
+    not_one_meant c.args.alphabet.now c.args.count (term c.args.inner.now) c.in_ok-words.words c.in_ok-not_one_times.field-0 c.requires.fits.0 c.in_ok-words.ensures.words c.in_ok-not_one_times.ensures.words
+
+pub only_in-returns-clause-meaning : goal.only_in-returns-clause-meaning
+only_in-returns-clause-meaning t c =
+    let fits = c.requires.fits in
+    only_meant c.args.alphabet.now (term c.args.centre.now) (contexts_of c.args.contexts.now) c.in_ok-words.words c.in_ok-allowed.allowed c.in_ok-restricted.field-0 fits.0 fits.2 c.in_ok-words.ensures.words c.in_ok-allowed.ensures.words c.in_ok-restricted.ensures.words
+
+pub perhaps-returns-clause-letters : goal.perhaps-returns-clause-letters
+perhaps-returns-clause-letters t c =
+    let A = c.args.alphabet.now in
+    let empty = c.in_ok-word.field-0 in
+    IfOk-weaker _ _ _ (λ r. given_two A (Words empty) c.in_ok-network_of.field-0 r (empty_only (all_letters A) empty c.in_ok-word.ensures.letters) c.in_ok-network_of.ensures.letters) c.union.ensures.letters
+
+pub perhaps-returns-clause-meaning : goal.perhaps-returns-clause-meaning
+perhaps-returns-clause-meaning t c =
+    IfOk-weaker _ _ _ (λ r. maybe_meant c.args.alphabet.now (term c.args.inner.now) c.in_ok-word.field-0 c.in_ok-network_of.field-0 r c.in_ok-word.ensures.language c.in_ok-network_of.ensures.meaning) c.union.ensures.meaning
+
+pub words_of-returns-clause-words : goal.words_of-returns-clause-words
+words_of-returns-clause-words t c = meant_words c.args.alphabet.now (term c.args.expr.now) c.in_ok-network_of.field-0 c.into_words.result c.requires.language c.into_words.ensures c.in_ok-network_of.ensures.meaning

@@ -1,0 +1,410 @@
+ghost use Rattle.std.specs.Prelude.{◌≡◌, ◌↔◌, IfOk, IsTrue, List, [], ◌∷◌, ◌++◌, All, map};
+ghost use Rattle.fsm_base.specs.declared.letters.Bound.{Bound};
+ghost use Rattle.fsm_base.specs.declared.letters.Bound.TheVariants.{Edge};
+ghost use Rattle.fsm_base.specs.declared.letters.Sym.{Sym};
+ghost use Rattle.fsm_words.specs.Words.{IsDistinct, IsOver};
+ghost use Rattle.fsa.specs.Language.{Accepts};
+ghost use Rattle.regex_ast.specs.Terms.{chain, concat, contexts_of, cross, ignore, links_of, maybe, not_one, only, prefixed, steps, steps_by, suffixed, term, terms_of};
+ghost use Rattle.expr_forms.specs.Atoms.{symbols as leaves};
+ghost use Rattle.expr_forms.specs.Kinds.{ChainFits, ContextsFit, EachFits, EachFitsAsLanguage, Fits, IsLanguage, StepsFit, kind_of, kind_of_chain, kind_of_steps};
+ghost use Rattle.expr_forms.specs.declared.form.Kind.{Kind};
+ghost use Rattle.expr_meaning.specs.Leaves.{stands_for};
+ghost use Rattle.expr_meaning.specs.Meaning.{In, InChain, InContext, InIgnoring, InSteps, RelatesChain, RelatesSteps};
+ghost use Rattle.expr_meaning.specs.Operators.{inner};
+ghost use Rattle.network_algebra.specs.Networks.{IsFor, IsNetwork, PairsOf, UsesOnly, WordsOf, all_letters, kind_of_network};
+ghost use Rattle.network_sets.specs.Split.{split, split_letters};
+ghost use Rattle.network_expr.specs.Built.{AreBuilt, ContextsAreBuilt, IsBuilt, IsChoice, IsMeant, LinksAreBuilt, StepsAreBuilt};
+
+use crate::leaves::leaves;
+use crate::prefixes::{not_one_times, with_prefixes};
+use crate::suffixes::with_suffixes;
+use expr_forms::{Kind, form_of};
+use fsa::Fsa;
+use fsm_base::{Bound, Sym};
+use network_algebra::{Network, cross, inner_letters, one_of, union, word};
+use network_sets::{Split, both, composed, ignoring, in_context, minus, restricted};
+use regex_ast::{Atom, Context, Expr, Link, Step};
+use std::alloc::{AllocError, Global};
+
+/// The network of an expression over an alphabet: of its kind, with its words where it is a language, and with the
+/// pairs that it relates. Names and replacement can't be built yet.
+#[cycle(build)]
+pub fn network_of(alloc: Global, alphabet: &[Sym], expr: &Expr<Atom>) -> Result<Network, AllocError>
+    requires distinct { IsDistinct alphabet.now }
+    requires built { IsBuilt alphabet.now (term expr.now) }
+    requires fits { Fits leaves (term expr.now) }
+    ensures letters { IfOk result (IsNetwork alphabet.now) }
+    ensures meaning { IfOk result (IsMeant alphabet.now (term expr.now)) }
+{
+    match expr {
+        Expr::Empty => Ok(Network::Words(word(alloc, &[])?)),
+        Expr::Any => Ok(Network::Words(one_of(alloc, &inner_letters(alloc, alphabet)?)?)),
+        Expr::Edge => Ok(Network::Words(word(alloc, &[Bound::Edge])?)),
+        Expr::Atom(atom) => Ok(Network::Words(leaves(alloc, alphabet, &[*atom])?)),
+        Expr::Letters(letters) => Ok(Network::Words(leaves(alloc, alphabet, letters)?)),
+        Expr::Group(inner) => network_of(alloc, alphabet, inner),
+        Expr::Maybe(inner) => perhaps(alloc, alphabet, inner),
+        Expr::NotOne(count, inner) => no_such_letter(alloc, alphabet, *count, inner),
+        Expr::Cross(upper, lower) => {
+            let kind = form_of(expr).kind;
+            crossed(alloc, alphabet, kind, upper, lower)
+        }
+        Expr::Suffixed(inner, suffixes) => {
+            with_suffixes(alloc, network_of(alloc, alphabet, inner)?, suffixes)
+        }
+        Expr::Prefixed(prefixes, inner) => {
+            let words = words_of(alloc, alphabet, inner)?;
+            Ok(Network::Words(with_prefixes(alloc, alphabet, prefixes, words)?))
+        }
+        Expr::Ignore(operands) => Ok(Network::Words(ignored(alloc, alphabet, operands)?)),
+        Expr::Concat(operands) => in_turn(alloc, alphabet, operands),
+        Expr::Chain(first, links) => {
+            in_chain(alloc, alphabet, network_of(alloc, alphabet, first)?, links)
+        }
+        Expr::Only(centre, contexts) => only_in(alloc, alphabet, centre, contexts),
+        Expr::Steps(first, steps) => {
+            in_steps(alloc, alphabet, network_of(alloc, alphabet, first)?, steps)
+        }
+        Expr::Rules(_) => unreachable!(),
+    }
+}
+
+/// The automaton of an expression that is a language.
+#[cycle(build)]
+pub fn words_of(
+    alloc: Global,
+    alphabet: &[Sym],
+    expr: &Expr<Atom>,
+) -> Result<Fsa<Bound<Sym>>, AllocError>
+    requires distinct { IsDistinct alphabet.now }
+    requires built { IsBuilt alphabet.now (term expr.now) }
+    requires fits { Fits leaves (term expr.now) }
+    requires language { IsLanguage leaves (term expr.now) }
+    ensures letters { IfOk result (UsesOnly (all_letters alphabet.now)) }
+    ensures words { IfOk result (λ m. (w : List (Bound Sym)) → Accepts m w ↔ In stands_for alphabet.now (term expr.now) w) }
+{
+    Ok(network_of(alloc, alphabet, expr)?.into_words())
+}
+
+/// The network of an expression or the empty string.
+#[cycle(build)]
+fn perhaps(alloc: Global, alphabet: &[Sym], inner: &Expr<Atom>) -> Result<Network, AllocError>
+    requires distinct { IsDistinct alphabet.now }
+    requires built { IsBuilt alphabet.now (term inner.now) }
+    requires fits { Fits leaves (term inner.now) }
+    ensures letters { IfOk result (IsNetwork alphabet.now) }
+    ensures meaning { IfOk result (IsMeant alphabet.now (maybe (term inner.now))) }
+{
+    let empty = Network::Words(word(alloc, &[])?);
+    union(alloc, empty, network_of(alloc, alphabet, inner)?)
+}
+
+/// The network of an expression with backslashes.
+#[cycle(build)]
+fn no_such_letter(
+    alloc: Global,
+    alphabet: &[Sym],
+    count: u32,
+    inner: &Expr<Atom>,
+) -> Result<Network, AllocError>
+    requires distinct { IsDistinct alphabet.now }
+    requires built { IsBuilt alphabet.now (term inner.now) }
+    requires fits { Fits leaves (not_one count (term inner.now)) }
+    ensures letters { IfOk result (IsNetwork alphabet.now) }
+    ensures meaning { IfOk result (IsMeant alphabet.now (not_one count (term inner.now))) }
+{
+    let words = words_of(alloc, alphabet, inner)?;
+    Ok(Network::Words(not_one_times(alloc, alphabet, count, words)?))
+}
+
+/// The network of two sides of a colon, by whether that is a language.
+#[cycle(build)]
+fn crossed(
+    alloc: Global,
+    alphabet: &[Sym],
+    kind: Kind,
+    upper: &Expr<Atom>,
+    lower: &Expr<Atom>,
+) -> Result<Network, AllocError>
+    requires distinct { IsDistinct alphabet.now }
+    requires built { IsBuilt alphabet.now (cross (term upper.now) (term lower.now)) }
+    requires fits { Fits leaves (cross (term upper.now) (term lower.now)) }
+    requires kind { kind ≡ kind_of leaves (cross (term upper.now) (term lower.now)) }
+    ensures letters { IfOk result (IsNetwork alphabet.now) }
+    ensures meaning { IfOk result (IsMeant alphabet.now (cross (term upper.now) (term lower.now))) }
+{
+    let above = words_of(alloc, alphabet, upper)?;
+    let below = words_of(alloc, alphabet, lower)?;
+    match kind {
+        Kind::Language => Ok(Network::Words(both(alloc, alphabet, &above, &below)?)),
+        Kind::Relation => cross(alloc, &above, &below),
+    }
+}
+
+/// The automaton of a row of `/`, from left to right. It is taken by halves, so that a long row is no deep recursion.
+#[cycle(build)]
+fn ignored(
+    alloc: Global,
+    alphabet: &[Sym],
+    operands: &[Expr<Atom>],
+) -> Result<Fsa<Bound<Sym>>, AllocError>
+    requires distinct { IsDistinct alphabet.now }
+    requires built { AreBuilt alphabet.now (terms_of (map term operands.now)) }
+    requires fits { EachFitsAsLanguage leaves (terms_of (map term operands.now)) }
+    ensures letters { IfOk result (UsesOnly (all_letters alphabet.now)) }
+    ensures words { IfOk result (λ m. (w : List (Bound Sym)) → Accepts m w ↔ In stands_for alphabet.now (ignore (terms_of (map term operands.now))) w) }
+{
+    match operands {
+        [] => word(alloc, &[]),
+        [operand] => words_of(alloc, alphabet, operand),
+        _ => {
+            let (front, back) = operands.split_at(operands.len() / 2);
+            let first = ignored(alloc, alphabet, front)?;
+            in_ignoring(alloc, alphabet, first, back)
+        }
+    }
+}
+
+/// A language with words of further ones put in, one after another.
+#[cycle(build)]
+fn in_ignoring(
+    alloc: Global,
+    alphabet: &[Sym],
+    before: Fsa<Bound<Sym>>,
+    operands: &[Expr<Atom>],
+) -> Result<Fsa<Bound<Sym>>, AllocError>
+    requires distinct { IsDistinct alphabet.now }
+    requires before { UsesOnly (all_letters alphabet.now) before }
+    requires built { AreBuilt alphabet.now (terms_of (map term operands.now)) }
+    requires fits { EachFitsAsLanguage leaves (terms_of (map term operands.now)) }
+    ensures letters { IfOk result (UsesOnly (all_letters alphabet.now)) }
+    ensures words { IfOk result (λ m. (w : List (Bound Sym)) → Accepts m w ↔ InIgnoring stands_for alphabet.now (Accepts before) (terms_of (map term operands.now)) w) }
+{
+    match operands {
+        [] => Ok(before),
+        [operand] => {
+            let words = words_of(alloc, alphabet, operand)?;
+            ignoring(alloc, alphabet, &before, &words)
+        }
+        _ => {
+            let (front, back) = operands.split_at(operands.len() / 2);
+            let first = in_ignoring(alloc, alphabet, before, front)?;
+            in_ignoring(alloc, alphabet, first, back)
+        }
+    }
+}
+
+/// The network of expressions side by side. They are joined by halves, so that each is copied a few times only.
+#[cycle(build)]
+fn in_turn(alloc: Global, alphabet: &[Sym], operands: &[Expr<Atom>]) -> Result<Network, AllocError>
+    requires distinct { IsDistinct alphabet.now }
+    requires built { AreBuilt alphabet.now (terms_of (map term operands.now)) }
+    requires fits { EachFits leaves (terms_of (map term operands.now)) }
+    ensures letters { IfOk result (IsNetwork alphabet.now) }
+    ensures meaning { IfOk result (IsMeant alphabet.now (concat (terms_of (map term operands.now)))) }
+{
+    match operands {
+        [] => Ok(Network::Words(word(alloc, &[])?)),
+        [operand] => network_of(alloc, alphabet, operand),
+        _ => {
+            let (front, back) = operands.split_at(operands.len() / 2);
+            let first = in_turn(alloc, alphabet, front)?;
+            let second = in_turn(alloc, alphabet, back)?;
+            network_algebra::concat(alloc, first, second)
+        }
+    }
+}
+
+/// The network of what stands before and a row of `|`, `&` and `-`, from left to right. A row of `|` alone is joined by
+/// halves.
+#[cycle(build)]
+fn in_chain(
+    alloc: Global,
+    alphabet: &[Sym],
+    before: Network,
+    links: &[Link<Atom>],
+) -> Result<Network, AllocError>
+    requires distinct { IsDistinct alphabet.now }
+    requires before { IsNetwork alphabet.now before }
+    requires built { LinksAreBuilt alphabet.now (links_of links.now) }
+    requires fits { ChainFits leaves (kind_of_network before) (links_of links.now) }
+    ensures letters { IfOk result (IsNetwork alphabet.now) }
+    ensures meaning { IfOk result (IsFor (kind_of_chain leaves (kind_of_network before) (links_of links.now)) (InChain stands_for alphabet.now (WordsOf before) (links_of links.now)) (RelatesChain stands_for alphabet.now (WordsOf before) (PairsOf before) (links_of links.now))) }
+{
+    match links {
+        [] => Ok(before),
+        [link] => in_link(alloc, alphabet, before, link),
+        _ if are_choices(links) => union(alloc, before, by_any(alloc, alphabet, links)?),
+        _ => {
+            let (front, back) = links.split_at(links.len() / 2);
+            let first = in_chain(alloc, alphabet, before, front)?;
+            in_chain(alloc, alphabet, first, back)
+        }
+    }
+}
+
+/// Whether the operator is `|`.
+fn is_choice(link: &Link<Atom>) -> bool
+    ensures { IsTrue result ↔ IsChoice link.now }
+{
+    matches!(link, Link::Or(_))
+}
+
+/// Whether each operator is `|`.
+fn are_choices(links: &[Link<Atom>]) -> bool
+    ensures { IsTrue result ↔ All IsChoice links.now }
+{
+    links.iter().all(is_choice)
+}
+
+/// The network of any of the operands of a row of `|`, joined by halves.
+#[cycle(build)]
+fn by_any(alloc: Global, alphabet: &[Sym], links: &[Link<Atom>]) -> Result<Network, AllocError>
+    requires distinct { IsDistinct alphabet.now }
+    requires choices { All IsChoice links.now }
+    requires built { LinksAreBuilt alphabet.now (links_of links.now) }
+    requires fits { ChainFits leaves Kind.Language (links_of links.now) }
+    ensures letters { IfOk result (IsNetwork alphabet.now) }
+    ensures meaning { IfOk result (IsFor (kind_of_chain leaves Kind.Language (links_of links.now)) (InChain stands_for alphabet.now (λ w. ⊥) (links_of links.now)) (RelatesChain stands_for alphabet.now (λ w. ⊥) (λ u w. ⊥) (links_of links.now))) }
+{
+    match links {
+        [] => Ok(Network::Words(Fsa::new(alloc)?)),
+        [link] => in_link(alloc, alphabet, Network::Words(Fsa::new(alloc)?), link),
+        _ => {
+            let (front, back) = links.split_at(links.len() / 2);
+            let first = by_any(alloc, alphabet, front)?;
+            let second = by_any(alloc, alphabet, back)?;
+            union(alloc, first, second)
+        }
+    }
+}
+
+/// The network of what stands before and one more operand of `|`, `&` or `-`.
+#[cycle(build)]
+fn in_link(
+    alloc: Global,
+    alphabet: &[Sym],
+    before: Network,
+    link: &Link<Atom>,
+) -> Result<Network, AllocError>
+    requires distinct { IsDistinct alphabet.now }
+    requires before { IsNetwork alphabet.now before }
+    requires built { LinksAreBuilt alphabet.now (links_of (link.now ∷ [])) }
+    requires fits { ChainFits leaves (kind_of_network before) (links_of (link.now ∷ [])) }
+    ensures letters { IfOk result (IsNetwork alphabet.now) }
+    ensures meaning { IfOk result (IsFor (kind_of_chain leaves (kind_of_network before) (links_of (link.now ∷ []))) (InChain stands_for alphabet.now (WordsOf before) (links_of (link.now ∷ []))) (RelatesChain stands_for alphabet.now (WordsOf before) (PairsOf before) (links_of (link.now ∷ [])))) }
+{
+    match link {
+        Link::Or(operand) => union(alloc, before, network_of(alloc, alphabet, operand)?),
+        Link::And(operand) => {
+            let words = words_of(alloc, alphabet, operand)?;
+            Ok(Network::Words(both(alloc, alphabet, &before.into_words(), &words)?))
+        }
+        Link::Less(operand) => {
+            let words = words_of(alloc, alphabet, operand)?;
+            Ok(Network::Words(minus(alloc, alphabet, &before.into_words(), &words)?))
+        }
+    }
+}
+
+/// The network of what stands before and a row of `.x.` and `.o.`, from left to right.
+#[cycle(build)]
+fn in_steps(
+    alloc: Global,
+    alphabet: &[Sym],
+    before: Network,
+    steps: &[Step<Atom>],
+) -> Result<Network, AllocError>
+    requires distinct { IsDistinct alphabet.now }
+    requires before { IsNetwork alphabet.now before }
+    requires built { StepsAreBuilt alphabet.now (steps_by steps.now) }
+    requires fits { StepsFit leaves (kind_of_network before) (steps_by steps.now) }
+    ensures letters { IfOk result (IsNetwork alphabet.now) }
+    ensures meaning { IfOk result (IsFor (kind_of_steps leaves (kind_of_network before) (steps_by steps.now)) (InSteps stands_for alphabet.now (WordsOf before) (steps_by steps.now)) (RelatesSteps stands_for alphabet.now (WordsOf before) (PairsOf before) (steps_by steps.now))) }
+{
+    match steps {
+        [] => Ok(before),
+        [step] => in_step(alloc, alphabet, before, step),
+        _ => {
+            let (front, back) = steps.split_at(steps.len() / 2);
+            let first = in_steps(alloc, alphabet, before, front)?;
+            in_steps(alloc, alphabet, first, back)
+        }
+    }
+}
+
+/// The network of what stands before and one more operand of `.x.` or `.o.`.
+#[cycle(build)]
+fn in_step(
+    alloc: Global,
+    alphabet: &[Sym],
+    before: Network,
+    step: &Step<Atom>,
+) -> Result<Network, AllocError>
+    requires distinct { IsDistinct alphabet.now }
+    requires before { IsNetwork alphabet.now before }
+    requires built { StepsAreBuilt alphabet.now (steps_by (step.now ∷ [])) }
+    requires fits { StepsFit leaves (kind_of_network before) (steps_by (step.now ∷ [])) }
+    ensures letters { IfOk result (IsNetwork alphabet.now) }
+    ensures meaning { IfOk result (IsFor (kind_of_steps leaves (kind_of_network before) (steps_by (step.now ∷ []))) (InSteps stands_for alphabet.now (WordsOf before) (steps_by (step.now ∷ []))) (RelatesSteps stands_for alphabet.now (WordsOf before) (PairsOf before) (steps_by (step.now ∷ [])))) }
+{
+    match step {
+        Step::CrossWith(operand) => {
+            let words = words_of(alloc, alphabet, operand)?;
+            cross(alloc, &before.into_words(), &words)
+        }
+        Step::Then(operand) => {
+            let network = network_of(alloc, alphabet, operand)?;
+            composed(alloc, alphabet, before, network)
+        }
+    }
+}
+
+/// The network of a restriction to contexts.
+#[cycle(build)]
+fn only_in(
+    alloc: Global,
+    alphabet: &[Sym],
+    centre: &Expr<Atom>,
+    contexts: &[Context<Atom>],
+) -> Result<Network, AllocError>
+    requires distinct { IsDistinct alphabet.now }
+    requires built { IsBuilt alphabet.now (only (term centre.now) (contexts_of contexts.now)) }
+    requires fits { Fits leaves (only (term centre.now) (contexts_of contexts.now)) }
+    ensures letters { IfOk result (IsNetwork alphabet.now) }
+    ensures meaning { IfOk result (IsMeant alphabet.now (only (term centre.now) (contexts_of contexts.now))) }
+{
+    let words = words_of(alloc, alphabet, centre)?;
+    let allowed = in_contexts(alloc, alphabet, contexts)?;
+    Ok(Network::Words(restricted(alloc, alphabet, &words, &allowed)?))
+}
+
+/// The split words in one of the contexts, joined by halves.
+#[cycle(build)]
+fn in_contexts(
+    alloc: Global,
+    alphabet: &[Sym],
+    contexts: &[Context<Atom>],
+) -> Result<Fsa<Split>, AllocError>
+    requires distinct { IsDistinct alphabet.now }
+    requires built { ContextsAreBuilt alphabet.now (contexts_of contexts.now) }
+    requires fits { ContextsFit leaves (contexts_of contexts.now) }
+    ensures letters { IfOk result (UsesOnly (split_letters alphabet.now)) }
+    ensures words { IfOk result (λ m. (x y z : List (Bound Sym)) → IsOver (inner alphabet.now) x → IsOver (inner alphabet.now) y → IsOver (inner alphabet.now) z
+        → Accepts m (split (Edge ∷ x) y (z ++ Edge ∷ [])) ↔ InContext stands_for alphabet.now (contexts_of contexts.now) x z) }
+{
+    match contexts {
+        [] => Fsa::new(alloc),
+        [context] => {
+            let left = words_of(alloc, alphabet, &context.left)?;
+            let right = words_of(alloc, alphabet, &context.right)?;
+            in_context(alloc, alphabet, &left, &right)
+        }
+        _ => {
+            let (front, back) = contexts.split_at(contexts.len() / 2);
+            let first = in_contexts(alloc, alphabet, front)?;
+            let second = in_contexts(alloc, alphabet, back)?;
+            fsa_rational::union(alloc, &first, &second)
+        }
+    }
+}

@@ -1,0 +1,42 @@
+ghost use Rattle.std.specs.Prelude.{◌≡◌, ◌↔◌, IfOk, List, All, map};
+ghost use Rattle.fsm_base.specs.declared.letters.Bound.{Bound};
+ghost use Rattle.fsm_base.specs.declared.letters.Bound.TheVariants.{Inner};
+ghost use Rattle.fsa.specs.Language.{Accepts};
+ghost use Rattle.expr_meaning.specs.Leaves.{stands_for};
+ghost use Rattle.expr_meaning.specs.Meaning.{InLeaves};
+ghost use Rattle.network_algebra.specs.Networks.{UsesOnly, all_letters};
+ghost use Rattle.network_expr.specs.Built.{IsSymbolOf};
+
+use fsa::Fsa;
+use fsm_base::{Bound, Sym};
+use network_algebra::word;
+use regex_ast::Atom;
+use std::alloc::{AllocError, Global};
+
+/// The symbol of a leaf.
+fn symbol_of(leaf: Atom, alphabet: &[Sym]) -> Sym
+    requires { IsSymbolOf alphabet.now leaf }
+    ensures { leaf ≡ Atom.Sym result }
+{
+    match leaf {
+        Atom::Sym(symbol) => symbol,
+        Atom::Name(_) => unreachable!(),
+    }
+}
+
+/// The automaton of leaves side by side.
+pub fn leaves(
+    alloc: Global,
+    alphabet: &[Sym],
+    leaves: &[Atom],
+) -> Result<Fsa<Bound<Sym>>, AllocError>
+    requires { All (IsSymbolOf alphabet.now) leaves.now }
+    ensures letters { IfOk result (UsesOnly (all_letters alphabet.now)) }
+    ensures words { IfOk result (λ m. (w : List (Bound Sym)) → Accepts m w ↔ InLeaves stands_for alphabet.now leaves.now w) }
+{
+    let mut letters = Vec::new(alloc);
+    'leaves: for leaf in leaves {
+        letters.push(Bound::Inner(symbol_of(*leaf, alphabet)))?;
+    }
+    word(alloc, &letters)
+}

@@ -1,0 +1,16 @@
+//! The network of an expression: a language's automaton or a relation's transducer, which has just the meaning that
+//! `expr_meaning` defines.
+//!
+//! - [`relation_of`]: the transducer of what an expression relates.
+//! - [`language_of`]: the language of an expression that is one.
+//! - [`network_of`]: the network of an expression, of its kind.
+#![tactic(auto)]
+
+mod build;
+mod leaves;
+mod meaning;
+mod prefixes;
+mod suffixes;
+
+pub use build::network_of;
+pub use meaning::{language_of, relation_of};

@@ -1,0 +1,51 @@
+ghost use Rattle.std.specs.Prelude.{IfOk};
+ghost use Rattle.fsm_words.specs.Relations.{AreSame};
+ghost use Rattle.fsm_words.specs.Words.{IsDistinct};
+ghost use Rattle.fst_relation.specs.Relation.{IsRelated};
+ghost use Rattle.lang_algebra.specs.Languages.{IsLang};
+ghost use Rattle.regex_ast.specs.Terms.{term};
+ghost use Rattle.expr_forms.specs.Atoms.{symbols as leaves};
+ghost use Rattle.expr_forms.specs.Kinds.{Fits, IsLanguage};
+ghost use Rattle.expr_meaning.specs.Leaves.{stands_for};
+ghost use Rattle.expr_meaning.specs.Meaning.{In, Relates};
+ghost use Rattle.network_algebra.specs.Networks.{UsesSymbols, all_letters};
+ghost use Rattle.network_expr.specs.Built.{IsBuilt};
+
+use crate::build::{network_of, words_of};
+use fsa::Fsa;
+use fsm_base::{Bound, Pair, Sym};
+use lang_algebra::Lang;
+use network_sets::language;
+use regex_ast::{Atom, Expr};
+use std::alloc::{AllocError, Global};
+
+/// The language of an expression that is one by its form, over the edge and the symbols of an alphabet.
+pub fn language_of(
+    alloc: Global,
+    alphabet: &[Sym],
+    expr: &Expr<Atom>,
+) -> Result<Lang<Bound<Sym>>, AllocError>
+    requires distinct { IsDistinct alphabet.now }
+    requires built { IsBuilt alphabet.now (term expr.now) }
+    requires fits { Fits leaves (term expr.now) }
+    requires language { IsLanguage leaves (term expr.now) }
+    ensures { IfOk result (IsLang (all_letters alphabet.now) (In stands_for alphabet.now (term expr.now))) }
+{
+    language(alloc, alphabet, &words_of(alloc, alphabet, expr)?)
+}
+
+/// The transducer of what an expression relates, over the symbols of an alphabet. A language relates each of its
+/// words to itself.
+pub fn relation_of(
+    alloc: Global,
+    alphabet: &[Sym],
+    expr: &Expr<Atom>,
+) -> Result<Fsa<Pair>, AllocError>
+    requires distinct { IsDistinct alphabet.now }
+    requires built { IsBuilt alphabet.now (term expr.now) }
+    requires fits { Fits leaves (term expr.now) }
+    ensures symbols { IfOk result (UsesSymbols alphabet.now) }
+    ensures relation { IfOk result (λ m. AreSame (IsRelated m) (Relates stands_for alphabet.now (term expr.now))) }
+{
+    network_of(alloc, alphabet, expr)?.into_pairs(alloc)
+}

@@ -1,0 +1,141 @@
+-- Whether an expression is built, before and after its leaves are replaced by others.
+use Rattle.std.proofs.Common.{Bool, true, false, ◌&&◌, IsTrue, List, [], ◌∷◌, ◌++◌, map, All, refl}
+use Rattle.std.proofs.lemmas.List.Elements.{All-nil, All-cons, All-head, All-tail}
+use Rattle.std.specs.List.{flat_map, list_all}
+use Rattle.regex_ast.specs.Terms.{Term, Terms, Links, Contexts, Steps, empty, any, edge, atom, letters, group, maybe, not_one, cross, suffixed, prefixed, ignore, concat, chain, only, rules, steps, no_term, then_term, no_link, or, and, less, no_context, between, no_step, cross_with, then}
+use Rattle.expr_forms.specs.Built.{IsBuilt, AreBuilt, LinksAreBuilt, ContextsAreBuilt, StepsAreBuilt}
+use Rattle.expr_parts.specs.Leaves.{listed, listed_each, listed_links, listed_contexts, listed_steps}
+use Rattle.expr_spelling.specs.Mapped.{mapped, mapped_each, mapped_links, mapped_contexts, mapped_steps}
+
+pub All-front : {X : Type 0} (P : X → Type 0) (xs ys : List X) → All P (xs ++ ys) → All P xs
+All-front P [] ys h = All-nil P
+All-front P (x ∷ xs) ys h = All-cons P x xs (All-head P x (xs ++ ys) h) (All-front P xs ys (All-tail P x (xs ++ ys) h))
+
+pub All-back : {X : Type 0} (P : X → Type 0) (xs ys : List X) → All P (xs ++ ys) → All P ys
+All-back P [] ys h = h
+All-back P (x ∷ xs) ys h = All-back P xs ys (All-tail P x (xs ++ ys) h)
+
+pub both_hold : (a b : Bool) → IsTrue a → IsTrue b → IsTrue (a && b)
+both_hold true b first second = second
+both_hold false b first second = first
+
+pub first_holds : (a b : Bool) → IsTrue (a && b) → IsTrue a
+first_holds true b h = refl
+first_holds false b h = h
+
+pub second_holds : (a b : Bool) → IsTrue (a && b) → IsTrue b
+second_holds true b h = h
+second_holds false b h = absurd (never h)
+  where
+    never : IsTrue false → ⊥
+    never e = cc
+
+-- where each leaf that passes one test passes the other once it is replaced, the whole is built once it is
+module _ {A B : Type 0} (f : A → B) (here : A → Bool) (there : B → Bool) (leaf : (a : A) → IsTrue (here a) → IsTrue (there (f a))) where
+  letters_there : (all : List A) → IsTrue (list_all here all) → IsTrue (list_all there (map f all))
+  letters_there [] h = refl
+  letters_there (a ∷ all) h =
+      both_hold (there (f a)) (list_all there (map f all)) (leaf a (first_holds (here a) (list_all here all) h)) (letters_there all (second_holds (here a) (list_all here all) h))
+
+  mutual
+    pub built_there : (e : Term A) → IsBuilt here e → IsBuilt there (mapped f e)
+    built_there empty h = tt
+    built_there any h = tt
+    built_there edge h = tt
+    built_there (atom a) h = leaf a h
+    built_there (letters all) h = letters_there all h
+    built_there (group e) h = built_there e h
+    built_there (maybe e) h = built_there e h
+    built_there (not_one n e) h = built_there e h
+    built_there (cross e g) h = (built_there e h.0, built_there g h.1)
+    built_there (suffixed e suffixes) h = built_there e h
+    built_there (prefixed prefixes e) h = built_there e h
+    built_there (ignore es) h = each_there es h
+    built_there (concat es) h = each_there es h
+    built_there (chain e links) h = (built_there e h.0, links_there links h.1)
+    built_there (only e contexts) h = (built_there e h.0, contexts_there contexts h.1)
+    built_there (rules optional groups) h = absurd h
+    built_there (steps e more) h = (built_there e h.0, steps_there more h.1)
+
+    each_there : (es : Terms A) → AreBuilt here es → AreBuilt there (mapped_each f es)
+    each_there no_term h = tt
+    each_there (then_term e es) h = (built_there e h.0, each_there es h.1)
+
+    links_there : (links : Links A) → LinksAreBuilt here links → LinksAreBuilt there (mapped_links f links)
+    links_there no_link h = tt
+    links_there (or e links) h = (built_there e h.0, links_there links h.1)
+    links_there (and e links) h = (built_there e h.0, links_there links h.1)
+    links_there (less e links) h = (built_there e h.0, links_there links h.1)
+
+    contexts_there : (contexts : Contexts A) → ContextsAreBuilt here contexts → ContextsAreBuilt there (mapped_contexts f contexts)
+    contexts_there no_context h = tt
+    contexts_there (between l r contexts) h = (built_there l h.0, built_there r h.1, contexts_there contexts h.2)
+
+    steps_there : (more : Steps A) → StepsAreBuilt here more → StepsAreBuilt there (mapped_steps f more)
+    steps_there no_step h = tt
+    steps_there (cross_with e more) h = (built_there e h.0, steps_there more h.1)
+    steps_there (then e more) h = (built_there e h.0, steps_there more h.1)
+
+-- Where each leaf passes one test, if what is listed of it has a property and what it is replaced by passes another
+-- test, the whole is built before if it is built then.
+module _ {A B C : Type 0} (f : A → B) (here : A → Bool) (there : B → Bool) (of : A → List C) (P : C → Type 0) (leaf : (a : A) → All P (of a) → IsTrue (there (f a)) → IsTrue (here a)) where
+  letters_here : (all : List A) → All P (flat_map of all) → IsTrue (list_all there (map f all)) → IsTrue (list_all here all)
+  letters_here [] held h = refl
+  letters_here (a ∷ all) held h =
+      both_hold (here a) (list_all here all)
+      (leaf a (All-front P (of a) (flat_map of all) held) (first_holds (there (f a)) (list_all there (map f all)) h))
+      (letters_here all (All-back P (of a) (flat_map of all) held) (second_holds (there (f a)) (list_all there (map f all)) h))
+
+  mutual
+    pub built_here : (e : Term A) → All P (listed of e) → IsBuilt there (mapped f e) → IsBuilt here e
+    built_here empty held h = tt
+    built_here any held h = tt
+    built_here edge held h = tt
+    built_here (atom a) held h = leaf a held h
+    built_here (letters all) held h = letters_here all held h
+    built_here (group e) held h = built_here e held h
+    built_here (maybe e) held h = built_here e held h
+    built_here (not_one n e) held h = built_here e held h
+    built_here (cross e g) held h = (built_here e (All-front P (listed of e) (listed of g) held) h.0, built_here g (All-back P (listed of e) (listed of g) held) h.1)
+    built_here (suffixed e suffixes) held h = built_here e held h
+    built_here (prefixed prefixes e) held h = built_here e held h
+    built_here (ignore es) held h = each_here es held h
+    built_here (concat es) held h = each_here es held h
+    built_here (chain e links) held h =
+        (built_here e (All-front P (listed of e) (listed_links of links) held) h.0, links_here links (All-back P (listed of e) (listed_links of links) held) h.1)
+    built_here (only e contexts) held h =
+        (built_here e (All-front P (listed of e) (listed_contexts of contexts) held) h.0, contexts_here contexts (All-back P (listed of e) (listed_contexts of contexts) held) h.1)
+    built_here (rules optional groups) held h = absurd h
+    built_here (steps e more) held h =
+        (built_here e (All-front P (listed of e) (listed_steps of more) held) h.0, steps_here more (All-back P (listed of e) (listed_steps of more) held) h.1)
+
+    each_here : (es : Terms A) → All P (listed_each of es) → AreBuilt there (mapped_each f es) → AreBuilt here es
+    each_here no_term held h = tt
+    each_here (then_term e es) held h =
+        (built_here e (All-front P (listed of e) (listed_each of es) held) h.0, each_here es (All-back P (listed of e) (listed_each of es) held) h.1)
+
+    links_here : (links : Links A) → All P (listed_links of links) → LinksAreBuilt there (mapped_links f links) → LinksAreBuilt here links
+    links_here no_link held h = tt
+    links_here (or e links) held h =
+        (built_here e (All-front P (listed of e) (listed_links of links) held) h.0, links_here links (All-back P (listed of e) (listed_links of links) held) h.1)
+    links_here (and e links) held h =
+        (built_here e (All-front P (listed of e) (listed_links of links) held) h.0, links_here links (All-back P (listed of e) (listed_links of links) held) h.1)
+    links_here (less e links) held h =
+        (built_here e (All-front P (listed of e) (listed_links of links) held) h.0, links_here links (All-back P (listed of e) (listed_links of links) held) h.1)
+
+    contexts_here : (contexts : Contexts A) → All P (listed_contexts of contexts) → ContextsAreBuilt there (mapped_contexts f contexts)
+        → ContextsAreBuilt here contexts
+    contexts_here no_context held h = tt
+    contexts_here (between l r contexts) held h =
+        let sides = All-front P (listed of l ++ listed of r) (listed_contexts of contexts) held in (
+          built_here l (All-front P (listed of l) (listed of r) sides) h.0,
+          built_here r (All-back P (listed of l) (listed of r) sides) h.1,
+          contexts_here contexts (All-back P (listed of l ++ listed of r) (listed_contexts of contexts) held) h.2,
+        )
+
+    steps_here : (more : Steps A) → All P (listed_steps of more) → StepsAreBuilt there (mapped_steps f more) → StepsAreBuilt here more
+    steps_here no_step held h = tt
+    steps_here (cross_with e more) held h =
+        (built_here e (All-front P (listed of e) (listed_steps of more) held) h.0, steps_here more (All-back P (listed of e) (listed_steps of more) held) h.1)
+    steps_here (then e more) held h =
+        (built_here e (All-front P (listed of e) (listed_steps of more) held) h.0, steps_here more (All-back P (listed of e) (listed_steps of more) held) h.1)

@@ -1,6 +1,0 @@
-use Rattle.std.proofs.Common.{◌≡◌, map, take}
-use Rattle.project_model.proofs.plan.Plan.names.Given as goal
-
--- the names of the definitions so far
-abbrev pub invariant-definitions : goal.invariant-definitions
-invariant-definitions l = l.names.items ≡ map (λ d. d.name) (take l.define-index l.define-items)
