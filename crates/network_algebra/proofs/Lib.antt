@@ -5,3 +5,4 @@ pub mod Steps
 pub mod Counted
 pub mod Meanings
 pub mod Reduced
+pub mod CrossedLetters

@@ -1,3 +1,4 @@
 pub mod Networks
 pub mod Renamed
 pub mod Words
+pub mod Crossing

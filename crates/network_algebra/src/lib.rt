@@ -8,6 +8,7 @@
 //! - [`upper`], [`lower`], [`inverse`], [`reversed`], [`cross`]: what turns one kind into the other, or the sides.
 #![tactic(auto)]
 
+mod crossing;
 mod joining;
 mod letters;
 mod network;
