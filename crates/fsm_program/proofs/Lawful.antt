@@ -18,7 +18,7 @@ use Rattle.fst_relation.specs.Relation.{IsRelated}
 use Rattle.fst_relation.proofs.Used.{upper_used, lower_used}
 use Rattle.lookup.specs.Answering.{UpperTexts, LowerTexts}
 use Rattle.fsm_program.specs.Networks.{Shows, TextsTo}
-use Rattle.fsm_program.proofs.Spelled.{cases_bool}
+use Rattle.project_model.proofs.Alphabets.{cases_bool}
 
 -- a symbol of the alphabet and its text stand at one place
 text_placed : (alphabet : List (Sym × List ℕ)) (s : Sym) → Contains (symbols_of alphabet) s → (k : ℕ) × (slice_get (symbols_of alphabet) k ≡ Some s) × (slice_get (texts_of alphabet) k ≡ Some (text_of alphabet s))

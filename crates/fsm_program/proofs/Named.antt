@@ -19,7 +19,8 @@ use Rattle.project_model.specs.declared.definition.Definition.{Definition}
 use Rattle.fsm_program.specs.Loaded.{AreNames, IsLoadedFrom, IsPlannedAs, LoadedView}
 use Rattle.fsm_program.proofs.Ordered.{in_order_from_sorted}
 use Rattle.fsm_program.proofs.Shown.{names_differ}
-use Rattle.fsm_program.proofs.Spelled.{symbols_back, whole, whole_texts, with_different}
+use Rattle.project_model.proofs.Alphabets.{symbols_of-listed}
+use Rattle.fsm_program.proofs.Spelled.{whole, whole_texts, with_different}
 
 -- names, sorted
 pub names_are : (planned : Planned) (loaded : LoadedView) → IsLoadedFrom planned loaded → (found sorted : List (List ℕ)) → found ≡ names_in planned → IsPermutation found sorted → IsSorted (slice_cmp nat_cmp) sorted → AreNames (project_in planned) sorted
@@ -43,7 +44,7 @@ module _ (planned : Planned) (plan : PlanView) (table : List (List ℕ)) (alphab
       ∙ ap (listed planned.alphabet) (is.symbols ∙ ap (λ (t : List (List ℕ)). numbers_in t planned.alphabet) is.table_is)
 
   pub same_symbols : symbols_of alphabet ≡ plan.symbols
-  same_symbols = ap symbols_of alphabet_is ∙ symbols_back table plan.symbols
+  same_symbols = ap symbols_of alphabet_is ∙ symbols_of-listed table plan.symbols
 
   pub loaded_is : IsLoadedFrom planned (record { definitions = plan.definitions; alphabet = alphabet })
   loaded_is = record {

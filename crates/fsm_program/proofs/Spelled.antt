@@ -1,36 +1,21 @@
 -- Texts, their numbers in a table, and the alphabet that has just these.
-use Rattle.std.proofs.Common.{◌≡◌, ℕ, ◌+◌, ◌⊎◌, Bool, true, false, cond, not, ◌||◌, List, [], ◌∷◌, ◌++◌, All, Some, refl, sym, ap, subst, ◌∙◌, inl, inr, slice_get, arith, suc, append_assoc, append-nil}
-use Rattle.std.proofs.lemmas.List.Elements.{All-head, All-tail, All-contains_itself}
+use Rattle.std.proofs.Common.{◌≡◌, ℕ, Bool, true, false, cond, ◌||◌, List, [], ◌∷◌, ◌++◌, sym, ap, subst, ◌∙◌, inl, inr, append_assoc, append-nil}
+use Rattle.std.proofs.lemmas.List.Elements.{All-contains_itself}
 use Rattle.std.proofs.lemmas.Option.{get_or_from_slice_get}
 use Rattle.std.proofs.lemmas.Slice.Eq.{bytes_eq-Decides}
 use Rattle.std.specs.List.{Contains, list_any, slice_index_or}
 use Rattle.std.specs.Str.{bytes_eq}
-use Rattle.fsm_base.specs.Alphabet.{listed, symbols_of, texts_of}
+use Rattle.fsm_base.specs.Alphabet.{listed, texts_of}
 use Rattle.fsm_base.specs.Symbols.{number_of, with_text}
 use Rattle.fsm_base.specs.declared.letters.Sym.{Sym}
 use Rattle.fsm_words.specs.Words.{IsDistinct}
-use Rattle.fsm_words.proofs.Members.{Contains-nil_cases, Contains-cons_cases, Contains-head, Contains-tail, Contains-map}
+use Rattle.fsm_words.proofs.Members.{Contains-head, Contains-tail, Contains-map}
 use Rattle.fsm_meaning.specs.Projects.{with_texts}
 use Rattle.project_model.specs.Planned.{numbers_in}
+use Rattle.project_model.proofs.Alphabets.{at_number, cases_bool, texts_of-numbers}
 use Rattle.fsm_program.proofs.Together.{twice}
 
-pub cases_bool : (b : Bool) → (b ≡ true) ⊎ (b ≡ false)
-cases_bool true = inl refl
-cases_bool false = inr refl
-
-or_true : (b : Bool) → (b || true) ≡ true
-or_true true = refl
-or_true false = refl
-
--- a text that a list has is found in it, and one that is found is had
-pub any_held : (text : List ℕ) (table : List (List ℕ)) → Contains table text → list_any (bytes_eq text) table ≡ true
-any_held text [] among = absurd (Contains-nil_cases text among)
-any_held text (t ∷ table) among =
-    elim (Contains-cons_cases t table text among) as (λ _. list_any (bytes_eq text) (t ∷ table) ≡ true) [
-      | inl is ↦ ap (λ (b : Bool). b || list_any (bytes_eq text) table) ((bytes_eq-Decides text t).1 (sym is))
-      | inr behind ↦ ap (λ (b : Bool). bytes_eq text t || b) (any_held text table behind) ∙ or_true (bytes_eq text t)
-    ]
-
+-- a text that is found in a list is had by it
 any_behind : (text t : List ℕ) (table : List (List ℕ)) (r : Bool) → bytes_eq text t ≡ false → list_any (bytes_eq text) (t ∷ table) ≡ r → list_any (bytes_eq text) table ≡ r
 any_behind text t table r e any = subst (λ b. (b || list_any (bytes_eq text) table) ≡ r) e any
 
@@ -40,20 +25,6 @@ held_any text (t ∷ table) any =
     elim (cases_bool (bytes_eq text t)) as (λ _. Contains (t ∷ table) text) [
       | inl e ↦ subst (λ (z : List ℕ). Contains (t ∷ table) z) (sym ((bytes_eq-Decides text t).0 e)) (Contains-head t table)
       | inr e ↦ Contains-tail t table text (held_any text table (any_behind text t table true e any))
-    ]
-
-one_more : (n : ℕ) → 1 + n ≡ suc n
-one_more n = omega arith
-
--- a text that the table has stands at its number
-pub number_held : (text : List ℕ) (table : List (List ℕ)) → list_any (bytes_eq text) table ≡ true → slice_get table (number_of text table) ≡ Some text
-number_held text [] held = cc
-number_held text (t ∷ table) held =
-    elim (cases_bool (bytes_eq text t)) as (λ _. slice_get (t ∷ table) (number_of text (t ∷ table)) ≡ Some text) [
-      | inl e ↦ subst (λ b. slice_get (t ∷ table) (cond (not b) (1 + number_of text table) 0) ≡ Some text) (sym e) (ap (λ x. Some x) (sym ((bytes_eq-Decides text t).0 e)))
-      | inr e ↦
-          subst (λ b. slice_get (t ∷ table) (cond (not b) (1 + number_of text table) 0) ≡ Some text) (sym e)
-          (subst (λ n. slice_get (t ∷ table) n ≡ Some text) (sym (one_more (number_of text table))) (number_held text table (any_behind text t table true e held)))
     ]
 
 -- texts that differ, put into a table, stand behind it
@@ -72,18 +43,7 @@ abbrev pub numbered_as : List (List ℕ) → List ℕ → Sym
 numbered_as table text = record { 0 = number_of text table }
 
 text_back : (table : List (List ℕ)) (text : List ℕ) → Contains table text → slice_index_or table (number_of text table) [] ≡ text
-text_back table text among = get_or_from_slice_get table (number_of text table) text [] (number_held text table (any_held text table among))
-
--- the texts of their numbers are these texts
-pub texts_back : (table texts : List (List ℕ)) → All (Contains table) texts → texts_of (listed table (numbers_in table texts)) ≡ texts
-texts_back table [] all = refl
-texts_back table (text ∷ texts) all =
-    ap (λ (z : List ℕ). z ∷ texts_of (listed table (numbers_in table texts))) (text_back table text (All-head (Contains table) text texts all))
-    ∙ ap (λ (z : List (List ℕ)). text ∷ z) (texts_back table texts (All-tail (Contains table) text texts all))
-
-pub symbols_back : (table : List (List ℕ)) (symbols : List Sym) → symbols_of (listed table symbols) ≡ symbols
-symbols_back table [] = refl
-symbols_back table (s ∷ symbols) = ap (λ (z : List Sym). s ∷ z) (symbols_back table symbols)
+text_back table text among = get_or_from_slice_get table (number_of text table) text [] (at_number table text among)
 
 -- the alphabet of a table's texts, each by its number
 module _ (table : List (List ℕ)) where
@@ -96,4 +56,4 @@ module _ (table : List (List ℕ)) where
       (Contains-map (λ (s : Sym). (s, slice_index_or table s.0 [])) (numbers_in table table) (numbered_as table text) (Contains-map (numbered_as table) table text among))
 
   pub whole_texts : texts_of whole ≡ table
-  whole_texts = texts_back table table (All-contains_itself table)
+  whole_texts = texts_of-numbers table table (All-contains_itself table)

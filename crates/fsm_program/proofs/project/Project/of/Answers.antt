@@ -1,13 +1,13 @@
 use Rattle.fsm_program.proofs.Named.{loaded_is}
 use Rattle.std.proofs.Common.{◌∙◌, ap}
 use Rattle.fsm_base.specs.Alphabet.{symbols_of}
-use Rattle.fsm_program.proofs.Spelled.{symbols_back}
+use Rattle.project_model.proofs.Alphabets.{symbols_of-listed}
 use Rattle.fsm_program.proofs.project.Project.of.Goals as goal
 
 pub invariant_of-result : goal.invariant_of-result
 invariant_of-result c =
     let is = rw c.symbols.ensures.symbols at c.in_ok-alphabet.ensures.alphabet in
-    (c.symbols.ensures.formed, c.in_ok-alphabet.ensures.formed, ap symbols_of is ∙ symbols_back c.args.table.now c.args.plan.symbols)
+    (c.symbols.ensures.formed, c.in_ok-alphabet.ensures.formed, ap symbols_of is ∙ symbols_of-listed c.args.table.now c.args.plan.symbols)
 
 pub returns : goal.returns
 returns c planned is =
