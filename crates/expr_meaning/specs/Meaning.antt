@@ -10,9 +10,8 @@
 use Rattle.std.specs.Prelude.{◌≡◌, ◌⊎◌, List, [], ◌∷◌}
 use Rattle.fsm_base.specs.declared.letters.Bound.{Bound}
 use Rattle.fsm_words.specs.Words.{IsConcatenation}
-use Rattle.fsm_words.specs.Relations.{IsConcatenationOfPairs}
-use Rattle.lang_algebra.specs.Operations.{IsOneLetter, IsIgnoring}
-use Rattle.fst_compose.specs.Composition.{IsComposition}
+use Rattle.fsm_words.specs.Relations.{IsConcatenationOfPairs, IsComposition}
+use Rattle.fsm_words.specs.Operations.{IsOneLetter, IsIgnoring}
 use Rattle.regex_ast.specs.Terms.{Term, Terms, Links, Contexts, Steps, empty, any, edge, atom, letters, group, maybe, not_one, cross, suffixed, prefixed, ignore, concat, chain, only, rules, steps, no_term, then_term, no_link, or, and, less, no_context, between, no_step, cross_with, then}
 use Rattle.expr_meaning.specs.Operators.{inner, IsEmpty, IsEdge, WithEdge, IsItself, HoldsLeft, HoldsRight, AreSuffixed, RelateSuffixed, ArePrefixed, IsNotOne, IsRestricted}
 

@@ -7,7 +7,7 @@ use Rattle.fsm_words.proofs.Members.{Contains-nil_cases, Contains-cons_cases}
 use Rattle.fsm_base.specs.declared.letters.Sym.{Sym}
 use Rattle.fsm_base.specs.Alphabet.{IsAlphabet, symbols_of, texts_of, text_of, spelled}
 use Rattle.fsm_base.specs.Cut.{cut}
-use Rattle.lookup_answers.specs.Answers.{Answers, Found, strings, more, loop, times}
+use Rattle.fsm_words.specs.Answers.{Answers, Found, strings, more, loop, times}
 use Rattle.fsm_meaning.specs.declared.direction.Direction.{Direction}
 use Rattle.fsm_meaning.specs.declared.direction.Direction.TheVariants.{Up, Down}
 use Rattle.fsa.specs.Automaton.{Automaton}

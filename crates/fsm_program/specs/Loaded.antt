@@ -2,7 +2,7 @@
 use Rattle.std.specs.Prelude.{◌≡◌, ◌↔◌, ℕ, List, All, Contains, map}
 use Rattle.fsm_base.specs.Alphabet.{IsAlphabet, listed, symbols_of, texts_of}
 use Rattle.fsm_base.specs.declared.letters.Sym.{Sym}
-use Rattle.lookup_answers.specs.Answers.{IsInOrder}
+use Rattle.fsm_words.specs.Answers.{IsInOrder}
 use Rattle.fsm_meaning.specs.Projects.{Project, Defines}
 use Rattle.project_model.specs.Planned.{entry_of, numbers_in, resolved}
 use Rattle.project_model.specs.Plans.{IsPlan, PlanView}

@@ -1,2 +1,4 @@
 pub mod Words
+pub mod Operations
 pub mod Relations
+pub mod Answers

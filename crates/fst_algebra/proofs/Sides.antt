@@ -4,13 +4,13 @@ use Rattle.std.specs.Option.{option_to_list}
 use Rattle.std.proofs.lemmas.Option.{same_Some}
 use Rattle.fsm_base.specs.declared.letters.Sym.{Sym}
 use Rattle.fsm_base.specs.declared.letters.Pair.{Pair}
-use Rattle.fsm_words.specs.Relations.{AreSame}
+use Rattle.fsm_words.specs.Relations.{AreSame, IsIdentity, IsCross, IsInverse, IsUpper, IsLower}
 use Rattle.fsm_words.specs.Words.{IsConcatenation}
 use Rattle.fsa.specs.Automaton.{Automaton, UsesLetter}
 use Rattle.fsa.specs.Language.{Accepts}
 use Rattle.fst_relation.specs.Relation.{uppers, lowers, IsRelated}
 use Rattle.fst_relation.proofs.Languages.{uppers-append, lowers-append}
-use Rattle.fst_algebra.specs.Relations.{IsIdentity, IsCross, IsInverse, IsUpper, IsLower, UsesUpper, UsesLower}
+use Rattle.fst_algebra.specs.Relations.{UsesUpper, UsesLower}
 use Rattle.fst_algebra.specs.Relabelled.{relabelled, IsRelabelled}
 
 -- the replacements

@@ -1,10 +1,10 @@
 ghost use Rattle.std.specs.Prelude.{◌↔◌, Some, None, IfOk, List};
-ghost use Rattle.fsm_words.specs.Relations.{AreSame};
+ghost use Rattle.fsm_words.specs.Relations.{AreSame, IsIdentity, IsCross, IsInverse, IsUpper, IsLower};
 ghost use Rattle.fsm_base.specs.declared.letters.Sym.{Sym};
 ghost use Rattle.fsa.specs.Automaton.{UsesLetter};
 ghost use Rattle.fsa.specs.Language.{Accepts};
 ghost use Rattle.fst_relation.specs.Relation.{IsRelated};
-ghost use Rattle.fst_algebra.specs.Relations.{IsIdentity, IsCross, IsInverse, IsUpper, IsLower, UsesUpper, UsesLower};
+ghost use Rattle.fst_algebra.specs.Relations.{UsesUpper, UsesLower};
 
 use crate::relabel::{Relabelling, relabel};
 use fsa::Fsa;

@@ -5,15 +5,14 @@ use Rattle.std.specs.List.Sorted.{IsPermutation}
 use Rattle.std.proofs.lemmas.Option.{slice_get_within}
 use Rattle.fsm_base.specs.declared.letters.Sym.{Sym}
 use Rattle.fsm_base.specs.declared.letters.Pair.{Pair}
-use Rattle.fsm_words.specs.Relations.{AreSame}
+use Rattle.fsm_words.specs.Relations.{AreSame, IsInverse, IsComposition, ShareLower}
 use Rattle.fsa.specs.Automaton.{Automaton, UsesLetter}
 use Rattle.fsa.specs.Language.{Accepts}
 use Rattle.fsa.specs.declared.automaton.Edge.{Edge}
 use Rattle.fsa_rational.proofs.Walks.{same_elements}
 use Rattle.fst_relation.specs.Relation.{IsRelated}
-use Rattle.fst_algebra.specs.Relations.{IsInverse, UsesUpper, UsesLower}
+use Rattle.fst_algebra.specs.Relations.{UsesUpper, UsesLower}
 use Rattle.fst_compose.specs.declared.moves.Move.{Move}
-use Rattle.fst_compose.specs.Composition.{IsComposition, ShareLower}
 use Rattle.fst_compose.specs.Meeting.{Passes, IsMove}
 use Rattle.fst_compose.specs.Product.{IsProduct}
 

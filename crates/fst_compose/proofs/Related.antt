@@ -6,7 +6,7 @@ use Rattle.std.specs.Option.{option_to_list}
 use Rattle.std.proofs.lemmas.Option.{same_Some}
 use Rattle.fsm_base.specs.declared.letters.Sym.{Sym}
 use Rattle.fsm_base.specs.declared.letters.Pair.{Pair}
-use Rattle.fsm_words.specs.Relations.{AreSame}
+use Rattle.fsm_words.specs.Relations.{AreSame, ShareLower}
 use Rattle.fsa.specs.Automaton.{Automaton, IsFinal}
 use Rattle.fsa.specs.Language.{AcceptsFrom}
 use Rattle.fsa.specs.Language as language
@@ -15,7 +15,6 @@ use Rattle.fsa_rational.proofs.Walks.{AcceptsFrom-least, AcceptsFrom-step}
 use Rattle.fst_relation.specs.Relation.{uppers, lowers, IsRelated}
 use Rattle.fst_algebra.specs.Relations.{UsesUpper, UsesLower}
 use Rattle.fst_compose.specs.declared.moves.Move.{Move}
-use Rattle.fst_compose.specs.Composition.{ShareLower}
 use Rattle.fst_compose.specs.Meeting.{upper_of, lower_of, letter_of, Passes, IsMove}
 use Rattle.fst_compose.specs.Product.{IsProduct}
 

@@ -1,4 +1,3 @@
-pub mod Composition
 pub mod Meeting
 pub mod Gains
 pub mod Index

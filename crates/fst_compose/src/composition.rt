@@ -1,9 +1,8 @@
 ghost use Rattle.std.specs.Prelude.{IfOk};
-ghost use Rattle.fsm_words.specs.Relations.{AreSame};
+ghost use Rattle.fsm_words.specs.Relations.{AreSame, IsComposition, ShareLower};
 ghost use Rattle.fsm_base.specs.declared.letters.Sym.{Sym};
 ghost use Rattle.fst_relation.specs.Relation.{IsRelated};
 ghost use Rattle.fst_algebra.specs.Relations.{UsesUpper, UsesLower};
-ghost use Rattle.fst_compose.specs.Composition.{IsComposition, ShareLower};
 
 use crate::operand::Operand;
 use crate::product::{automaton, explore};

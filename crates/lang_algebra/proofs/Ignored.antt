@@ -13,7 +13,7 @@ use Rattle.fsa.specs.Complete.{Complete, Accepts}
 use Rattle.lang_algebra.specs.declared.sources.Sourced.{Sourced}
 use Rattle.lang_algebra.specs.declared.sources.Sourced.TheVariants.{Own, Inserted}
 use Rattle.lang_algebra.specs.Languages.{IsLang}
-use Rattle.lang_algebra.specs.Operations.{IsOneLetter, IsIgnoring}
+use Rattle.fsm_words.specs.Operations.{IsOneLetter, IsIgnoring}
 use Rattle.lang_algebra.specs.Sources.{letter_of, sources_of, own_table, letter_table, inserted_table, IsBlock}
 use Rattle.lang_algebra.proofs.Inserting.{ignoring_spelled, keys_of_rows, inserted_there}
 

@@ -11,7 +11,7 @@ use Rattle.fsm_words.proofs.Places.{slice_get-append_cases}
 use Rattle.fsm_words.proofs.Laws.{IsRepetition-none, IsRepetition-one, IsRepetition-append, IsRepetition-more}
 use Rattle.lang_algebra.specs.declared.sources.Sourced.{Sourced}
 use Rattle.lang_algebra.specs.declared.sources.Sourced.TheVariants.{Own, Inserted}
-use Rattle.lang_algebra.specs.Operations.{HasPutIn, IsIgnoring}
+use Rattle.fsm_words.specs.Operations.{HasPutIn, IsIgnoring}
 use Rattle.lang_algebra.specs.Sources.{letter_of, own_of, sources_of, own_table, letter_table, inserted_table, IsBlock}
 
 -- what stands at a place of a list of images

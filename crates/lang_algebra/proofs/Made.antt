@@ -8,7 +8,7 @@ use Rattle.fsa.specs.Automaton.{Automaton}
 use Rattle.fsa.specs.Language as language
 use Rattle.fsa.specs.Complete.{Complete, IsComplete, Accepts}
 use Rattle.fsa_product.proofs.Turned.{accepted_over}
-use Rattle.lang_algebra.specs.Operations.{IsOneLetter, HasPart, IsIgnoring}
+use Rattle.fsm_words.specs.Operations.{IsOneLetter, HasPart, IsIgnoring}
 use Rattle.lang_algebra.proofs.Inserting.{IsIgnoring-more}
 use Rattle.lang_algebra.specs.Languages.{IsLang}
 

@@ -7,7 +7,7 @@ use Rattle.fsa.specs.Automaton.{Automaton, UsesLetter}
 use Rattle.fsa.specs.Language.{AcceptsFrom, Accepts, stop, read, skip}
 use Rattle.fsa.specs.declared.automaton.Edge.{Edge}
 use Rattle.fsa_rational.specs.Shapes.{Extends, ComesFrom}
-use Rattle.lang_algebra.specs.Operations.{IsOneLetter}
+use Rattle.fsm_words.specs.Operations.{IsOneLetter}
 
 abbrev pub letter_edge : {L : Type 0} → ℕ → L → Edge L
 letter_edge to x = record { from = 0; letter = Some x; to = to }

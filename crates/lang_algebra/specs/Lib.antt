@@ -1,4 +1,3 @@
-pub mod Operations
 pub mod Languages
 pub mod Live
 pub mod Sources

@@ -4,7 +4,7 @@ use Rattle.std.specs.Prelude.{List, ◌++◌, ◌⊎◌, Option, Some, None, map
 use Rattle.fsm_words.specs.Words.{Translates}
 use Rattle.lang_algebra.specs.declared.sources.Sourced.{Sourced}
 use Rattle.lang_algebra.specs.declared.sources.Sourced.TheVariants.{Own, Inserted}
-use Rattle.lang_algebra.specs.Operations.{IsOneLetter}
+use Rattle.fsm_words.specs.Operations.{IsOneLetter}
 
 abbrev pub letter_of : {L : Type 0} → Sourced L → L
 letter_of (Own x) = x

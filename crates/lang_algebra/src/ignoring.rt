@@ -4,7 +4,7 @@ ghost use Rattle.fsa.specs.Automaton.{UsesLetter};
 ghost use Rattle.fsa.specs.Language.{Accepts};
 ghost use Rattle.lang_algebra.specs.declared.sources.Sourced.{Sourced};
 ghost use Rattle.lang_algebra.specs.Languages.{IsLang};
-ghost use Rattle.lang_algebra.specs.Operations.{IsIgnoring};
+ghost use Rattle.fsm_words.specs.Operations.{IsIgnoring};
 ghost use Rattle.lang_algebra.specs.Sources.{sources_of, own_table, IsBlock};
 
 use crate::lang::Lang;

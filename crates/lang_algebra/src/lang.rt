@@ -4,7 +4,7 @@ ghost use Rattle.fsa.specs.Automaton.{UsesLetter, HasNoSilentEdge};
 ghost use Rattle.fsa.specs.Complete.{Accepts, IsComplete};
 ghost use Rattle.fsa.specs.Language as language;
 ghost use Rattle.lang_algebra.specs.Languages.{IsLang};
-ghost use Rattle.lang_algebra.specs.Operations.{IsOneLetter, HasPart, IsIgnoring};
+ghost use Rattle.fsm_words.specs.Operations.{IsOneLetter, HasPart, IsIgnoring};
 
 use crate::ignoring::ignoring;
 use crate::live::live_part;

@@ -9,7 +9,7 @@ use Rattle.std.proofs.lemmas.Map.Keys.{IsDistinct-from_apart}
 use Rattle.std.proofs.lemmas.Map.Made.{is_member-Decides, length-le_from_is_member}
 use Rattle.std.proofs.lemmas.Option.{slice_get-get_or}
 use Rattle.fsm_words.specs.Words.{IsDistinct}
-use Rattle.lookup_answers.specs.Answers.{Answers, AreAll, AreMore, IsLoop, Found, strings, more, loop, times}
+use Rattle.fsm_words.specs.Answers.{Answers, AreAll, AreMore, IsLoop, Found, strings, more, loop, times}
 use Rattle.lookup.specs.OneKind.{IsSameKind}
 
 -- different texts of a list are no more than its texts

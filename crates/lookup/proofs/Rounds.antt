@@ -11,7 +11,7 @@ use Rattle.fsm_base.proofs.AlphabetLemmas.{text_of-pair}
 use Rattle.fsm_words.specs.Words.{IsOver, joined}
 use Rattle.fsm_words.proofs.Laws.{joined-append}
 use Rattle.fsm_words.proofs.Members.{Contains-map, Contains-map_cases}
-use Rattle.lookup_answers.specs.Answers.{Answers, Found, IsLoop, Texts, times}
+use Rattle.fsm_words.specs.Answers.{Answers, Found, IsLoop, Texts, times}
 use Rattle.fsa.specs.declared.automaton.Edge.{Edge}
 use Rattle.lookup_graph.specs.Graph.{Connects, IsPath, Writes, letters_of}
 use Rattle.lookup_graph.specs.Turns.{IsTurn, rounds}

@@ -4,12 +4,10 @@ use Rattle.std.specs.Prelude.{◌≡◌, ◌⊎◌, ℕ, List, Some, Contains}
 use Rattle.fsm_base.specs.Alphabet.{spelled, symbols_of}
 use Rattle.fsm_base.specs.declared.letters.Sym.{Sym}
 use Rattle.fsm_base.specs.declared.letters.Pair.{Pair}
-use Rattle.lookup_answers.specs.Answers.{Texts, Found, strings, more, loop}
+use Rattle.fsm_words.specs.Answers.{Texts}
 use Rattle.fsa.specs.Automaton.{Automaton, UsesLetter}
 use Rattle.fst_relation.specs.Relation.{IsRelated}
 use Rattle.lookup.specs.Moves.{IsRelatedBy}
-use Rattle.lookup.specs.declared.answer.Answer.{Answer}
-use Rattle.lookup.specs.declared.answer.Answer.TheVariants.{Strings, More, Loop}
 use Rattle.lookup.specs.declared.moves.Way.{Way}
 
 -- the texts of the upper words of a lower word
@@ -28,9 +26,3 @@ TextsBy way m alphabet word text = Texts (λ texts. (written : List Sym) × IsRe
 abbrev pub IsOverAlphabet : List (Sym × List ℕ) → Automaton Pair → Type 0
 IsOverAlphabet alphabet m =
     (pair : Pair) (symbol : Sym) → UsesLetter m pair → (pair.up ≡ Some symbol) ⊎ (pair.low ≡ Some symbol) → Contains (symbols_of alphabet) symbol
-
--- the answer, with the bytes of its texts
-abbrev pub found_of : Answer → Found
-found_of (Strings texts) = strings texts.items
-found_of More = more
-found_of (Loop before round after) = loop before round after

@@ -3,7 +3,7 @@
 use Rattle.std.specs.Prelude.{ℕ, List}
 use Rattle.fsm_base.specs.declared.letters.Sym.{Sym}
 use Rattle.fsm_base.specs.declared.letters.Pair.{Pair}
-use Rattle.lookup_answers.specs.Answers.{Answers, Found, strings, more, loop}
+use Rattle.fsm_words.specs.Answers.{Answers, Found, strings, more, loop}
 use Rattle.fsa.specs.Automaton.{Automaton}
 use Rattle.lookup.specs.Answering.{LowerTexts, UpperTexts}
 

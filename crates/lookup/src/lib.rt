@@ -2,12 +2,11 @@
 //!
 //! - [`Net`]: a network, ready for look-ups.
 //! - [`up`], [`down`]: the upper words of a lower word, and the lower words of an upper one, as an [`Answer`].
-//!   fst_relation says what a network relates, `specs/Answering.antt` and lookup_answers'
-//!   `specs/Answers.antt` which answer is lawful.
+//!   fst_relation says what a network relates, `specs/Answering.antt` and fsm_words' `specs/Answers.antt` which
+//!   answer is lawful.
 //! - [`one_kind`]: the law that no two kinds of answer are lawful for one word.
 #![tactic(auto)]
 
-mod answer;
 mod explored;
 mod laws;
 mod look;
@@ -18,7 +17,7 @@ mod table;
 #[cfg(test)]
 mod tests;
 
-pub use answer::Answer;
 pub use laws::one_kind;
 pub use look::{down, up};
+pub use lookup_answers::Answer;
 pub use net::Net;

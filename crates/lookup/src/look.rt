@@ -1,13 +1,13 @@
 ghost use Rattle.std.specs.Prelude.{◌≡◌, ◌<◌, IfOk};
 ghost use Rattle.fsm_words.specs.Words.{IsOver, joined};
 ghost use Rattle.fsm_base.specs.Alphabet.{spelled, symbols_of};
-ghost use Rattle.lookup_answers.specs.Answers.{Answers, IsLoop, loop};
+ghost use Rattle.fsm_words.specs.Answers.{Answers, IsLoop, loop};
 ghost use Rattle.lookup_graph.specs.Graph.{IsWithin};
 ghost use Rattle.lookup_graph.specs.Turns.{IsTurn};
 ghost use Rattle.lookup_texts.specs.GraphTexts.{AreOf, GraphTexts};
-ghost use Rattle.lookup.specs.Answering.{IsOverAlphabet, LowerTexts, TextsBy, UpperTexts, found_of};
+ghost use Rattle.lookup_answers.specs.Answers.{found_of};
+ghost use Rattle.lookup.specs.Answering.{IsOverAlphabet, LowerTexts, TextsBy, UpperTexts};
 
-use crate::answer::Answer;
 use crate::moves::Way;
 use crate::net::Net;
 use crate::part::part_of;

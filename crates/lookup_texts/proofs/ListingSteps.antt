@@ -9,7 +9,7 @@ use Rattle.std.proofs.lemmas.Option.{get_or_from_slice_get, slice_get_within}
 use Rattle.fsm_words.proofs.Members.{Contains-nil_cases}
 use Rattle.fsm_words.specs.Words.{IsDistinct}
 use Rattle.fsa.specs.declared.automaton.Edge.{Edge}
-use Rattle.lookup_answers.specs.Answers.{AreAll, AreMore, IsInOrder}
+use Rattle.fsm_words.specs.Answers.{AreAll, AreMore, IsInOrder}
 use Rattle.lookup_graph.specs.Graph.{Connects, Leads, letters_of, start, end}
 use Rattle.lookup_graph.proofs.Paths.{connects-append}
 use Rattle.lookup_texts.specs.Listings.{AddsText, IsListing}

@@ -8,7 +8,7 @@ use Rattle.fsm_words.specs.Words.{joined}
 use Rattle.fsm_base.specs.Alphabet.{spelled}
 use Rattle.fsm_base.specs.declared.letters.Sym.{Sym}
 use Rattle.fsa.specs.declared.automaton.Edge.{Edge}
-use Rattle.lookup_answers.specs.Answers.{AreAll, AreMore}
+use Rattle.fsm_words.specs.Answers.{AreAll, AreMore}
 use Rattle.lookup_graph.specs.Graph.{AreUseful, IsPath, IsWithin, Leads, Writes, letters_of, start, end}
 use Rattle.lookup_graph.proofs.Paths.{connects_among, path_among}
 use Rattle.lookup_graph.specs.Turns.{HasNoTurn}

@@ -1,10 +1,10 @@
 ghost use Rattle.std.specs.Prelude.{◌↔◌, IfOk, List};
 ghost use Rattle.fsm_base.specs.declared.letters.Sym.{Sym};
-ghost use Rattle.fsm_words.specs.Relations.{AreSame};
+ghost use Rattle.fsm_words.specs.Relations.{AreSame, IsCross, IsLower, IsUpper};
 ghost use Rattle.fsa.specs.Automaton.{UsesLetter};
 ghost use Rattle.fsa.specs.Language.{Accepts};
 ghost use Rattle.fst_relation.specs.Relation.{IsRelated};
-ghost use Rattle.fst_algebra.specs.Relations.{IsCross, IsLower, IsUpper, UsesLower, UsesUpper};
+ghost use Rattle.fst_algebra.specs.Relations.{UsesLower, UsesUpper};
 
 use crate::crossing::{crossed_letters, has_few_pairs, letters_alone};
 use fsa::Fsa;

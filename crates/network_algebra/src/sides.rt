@@ -1,7 +1,7 @@
 ghost use Rattle.std.specs.Prelude.{◌≡◌, IfOk, List, reverse};
 ghost use Rattle.fsm_base.specs.declared.letters.Sym.{Sym};
 ghost use Rattle.fsa.specs.Language.{Accepts};
-ghost use Rattle.fst_algebra.specs.Relations.{IsUpper, IsLower, IsInverse};
+ghost use Rattle.fsm_words.specs.Relations.{IsUpper, IsLower, IsInverse};
 ghost use Rattle.expr_forms.specs.declared.form.Kind.{Kind};
 ghost use Rattle.expr_meaning.specs.Operators.{inner, WithEdge};
 ghost use Rattle.network_algebra.specs.Networks.{IsFor, IsNetwork, PairsOf, UsesOnly, WordsOf, all_letters, kind_of_network};

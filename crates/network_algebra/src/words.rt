@@ -2,7 +2,7 @@ ghost use Rattle.std.specs.Prelude.{◌≡◌, ◌<◌, ◌↔◌, ◌++◌, [],
 ghost use Rattle.fsa.specs.Automaton.{UsesLetter};
 ghost use Rattle.fsa.specs.Language.{Accepts};
 ghost use Rattle.fsa.specs.declared.automaton.Edge.{Edge};
-ghost use Rattle.lang_algebra.specs.Operations.{IsOneLetter};
+ghost use Rattle.fsm_words.specs.Operations.{IsOneLetter};
 ghost use Rattle.network_algebra.specs.Words.{IsStep};
 
 use fsa::{Edge, Fsa};

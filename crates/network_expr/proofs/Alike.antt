@@ -1,12 +1,10 @@
 -- The operators make the same of the same sets and relations.
 use Rattle.std.proofs.Common.{◌≡◌, ◌↔◌, ◌+◌, ℕ, zero, suc, arith, List, [], ◌∷◌, ◌++◌, reverse, subst}
 use Rattle.fsm_base.specs.declared.letters.Bound.{Bound}
-use Rattle.fsm_words.specs.Relations.{AreSame}
+use Rattle.fsm_words.specs.Relations.{AreSame, IsUpper, IsLower, IsComposition}
 use Rattle.fsm_words.proofs.Pairs.{repetition_same as pairs_repeated}
-use Rattle.lang_algebra.specs.Operations.{IsOneLetter, IsIgnoring}
+use Rattle.fsm_words.specs.Operations.{IsOneLetter, IsIgnoring}
 use Rattle.lang_algebra.proofs.Inserting.{IsIgnoring-more}
-use Rattle.fst_algebra.specs.Relations.{IsUpper, IsLower}
-use Rattle.fst_compose.specs.Composition.{IsComposition}
 use Rattle.regex_ast.specs.declared.expr.Suffix.{Suffix}
 use Rattle.regex_ast.specs.declared.expr.Suffix.TheVariants.{Star, Plus, Power, Upper, Lower, Inverse, Reverse}
 use Rattle.regex_ast.specs.declared.expr.Prefix.{Prefix}

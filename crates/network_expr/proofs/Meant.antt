@@ -7,7 +7,7 @@ use Rattle.fsm_base.specs.declared.letters.Bound.TheVariants.{Edge}
 use Rattle.fsm_base.specs.declared.letters.Pair.{Pair}
 use Rattle.fsm_base.specs.declared.letters.Sym.{Sym}
 use Rattle.fsm_words.specs.Words.{IsOver, IsConcatenation}
-use Rattle.fsm_words.specs.Relations.{AreSame, IsConcatenationOfPairs}
+use Rattle.fsm_words.specs.Relations.{AreSame, IsConcatenationOfPairs, IsComposition}
 use Rattle.fsm_words.proofs.Laws.{IsConcatenation-more, IsConcatenation-empty_right}
 use Rattle.fsm_words.proofs.Members.{Contains-nil_cases, Contains-head}
 use Rattle.fsm_words.proofs.Pairs.{concatenation_same, concatenation_empty_right, same_trans, same_back}
@@ -17,9 +17,8 @@ use Rattle.fsa.specs.Complete.{Complete}
 use Rattle.fst_relation.specs.Relation.{IsRelated}
 use Rattle.lang_algebra.specs.Languages.{IsLang}
 use Rattle.lang_algebra.proofs.Made.{IsLang-same}
-use Rattle.lang_algebra.specs.Operations.{IsOneLetter, IsIgnoring}
+use Rattle.fsm_words.specs.Operations.{IsOneLetter, IsIgnoring}
 use Rattle.regex_ast.specs.declared.expr.Prefix.{Prefix}
-use Rattle.fst_compose.specs.Composition.{IsComposition}
 use Rattle.regex_ast.specs.declared.expr.Atom.{Atom}
 use Rattle.regex_ast.specs.declared.expr.Suffix.{Suffix}
 use Rattle.regex_ast.specs.declared.expr.Link.{Link}

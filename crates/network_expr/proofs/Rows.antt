@@ -5,11 +5,10 @@ use Rattle.std.proofs.lemmas.List.Elements.{All-head, All-tail}
 use Rattle.fsm_base.specs.declared.letters.Bound.{Bound}
 use Rattle.fsm_base.specs.declared.letters.Sym.{Sym}
 use Rattle.fsm_words.specs.Words.{IsConcatenation}
-use Rattle.fsm_words.specs.Relations.{AreSame, IsConcatenationOfPairs}
+use Rattle.fsm_words.specs.Relations.{AreSame, IsConcatenationOfPairs, IsComposition}
 use Rattle.fsm_words.proofs.Laws.{IsConcatenation-more, IsConcatenation-assoc, IsConcatenation-empty_left}
 use Rattle.fsm_words.proofs.Pairs.{concatenation_same, concatenation_assoc, concatenation_empty_left, same_trans, same_back, AreEmpty}
-use Rattle.lang_algebra.specs.Operations.{IsIgnoring}
-use Rattle.fst_compose.specs.Composition.{IsComposition}
+use Rattle.fsm_words.specs.Operations.{IsIgnoring}
 use Rattle.regex_ast.specs.declared.expr.Atom.{Atom}
 use Rattle.regex_ast.specs.declared.expr.Expr.{Expr}
 use Rattle.regex_ast.specs.declared.expr.Link.{Link, Or, And, Less}

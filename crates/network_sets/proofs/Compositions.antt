@@ -3,13 +3,12 @@ use Rattle.std.proofs.Common.{◌≡◌, ◌↔◌, List, sym, subst}
 use Rattle.fsm_base.specs.declared.letters.Sym.{Sym}
 use Rattle.fsm_base.specs.declared.letters.Pair.{Pair}
 use Rattle.fsm_base.specs.declared.letters.Bound.{Bound}
-use Rattle.fsm_words.specs.Relations.{AreSame}
+use Rattle.fsm_words.specs.Relations.{AreSame, IsComposition}
 use Rattle.fsm_words.proofs.Pairs.{same_trans}
 use Rattle.fsa.specs.Automaton.{Automaton}
 use Rattle.fsa.specs.Language.{Accepts}
 use Rattle.fst_relation.specs.Relation.{IsRelated}
 use Rattle.fst_algebra.specs.Relations.{UsesUpper, UsesLower}
-use Rattle.fst_compose.specs.Composition.{IsComposition}
 use Rattle.expr_forms.specs.Kinds.{both}
 use Rattle.expr_meaning.specs.Operators.{IsItself}
 use Rattle.expr_meaning.proofs.Itself.{as_it_is, composition_itself}

@@ -14,7 +14,7 @@ use Rattle.fsa.specs.Automaton.{Automaton, UsesLetter}
 use Rattle.fsa.specs.Language as language
 use Rattle.fsa.specs.Complete.{Complete, Accepts}
 use Rattle.lang_algebra.specs.Languages.{IsLang}
-use Rattle.lang_algebra.specs.Operations.{IsOneLetter, HasPart, IsIgnoring}
+use Rattle.fsm_words.specs.Operations.{IsOneLetter, HasPart, IsIgnoring}
 use Rattle.lang_algebra.proofs.Inserting.{IsIgnoring-more}
 use Rattle.expr_meaning.specs.Operators.{inner, WithEdge}
 use Rattle.network_algebra.specs.Networks.{all_letters, UsesOnly}

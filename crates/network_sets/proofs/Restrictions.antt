@@ -12,7 +12,7 @@ use Rattle.fsa.specs.Language as language
 use Rattle.fsa.specs.Complete.{Complete, Accepts}
 use Rattle.fsa_product.proofs.Turned.{accepts_or_not, accepted_over}
 use Rattle.lang_algebra.specs.Languages.{IsLang}
-use Rattle.lang_algebra.specs.Operations.{IsOneLetter}
+use Rattle.fsm_words.specs.Operations.{IsOneLetter}
 use Rattle.expr_meaning.specs.Operators.{inner, WithEdge}
 use Rattle.network_algebra.specs.Networks.{all_letters, UsesOnly}
 use Rattle.network_algebra.proofs.Meanings.{inner_among, among_inner}

@@ -1,6 +1,6 @@
 ghost use Rattle.std.specs.Prelude.{IfOk};
 ghost use Rattle.fsm_words.specs.Words.{IsDistinct};
-ghost use Rattle.fst_compose.specs.Composition.{IsComposition};
+ghost use Rattle.fsm_words.specs.Relations.{IsComposition};
 ghost use Rattle.expr_forms.specs.Kinds.{both};
 ghost use Rattle.network_algebra.specs.Networks.{IsFor, IsNetwork, PairsOf, WordsOf, kind_of_network};
 

@@ -1,9 +1,8 @@
 ghost use Rattle.std.specs.Prelude.{IfOk};
 ghost use Rattle.fsm_base.specs.declared.letters.Sym.{Sym};
-ghost use Rattle.fsm_words.specs.Relations.{AreSame};
+ghost use Rattle.fsm_words.specs.Relations.{AreSame, IsComposition};
 ghost use Rattle.fst_relation.specs.Relation.{IsRelated};
 ghost use Rattle.fst_algebra.specs.Relations.{UsesLower, UsesUpper};
-ghost use Rattle.fst_compose.specs.Composition.{IsComposition};
 
 use fsa::Fsa;
 use fsa_reduce::reduced;

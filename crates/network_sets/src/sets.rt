@@ -4,7 +4,7 @@ ghost use Rattle.fsm_base.specs.declared.letters.Bound.{Bound};
 ghost use Rattle.fsm_words.specs.Words.{IsDistinct};
 ghost use Rattle.fsa.specs.Language.{Accepts};
 ghost use Rattle.lang_algebra.specs.Languages.{IsLang};
-ghost use Rattle.lang_algebra.specs.Operations.{IsIgnoring, IsOneLetter};
+ghost use Rattle.fsm_words.specs.Operations.{IsIgnoring, IsOneLetter};
 ghost use Rattle.regex_ast.specs.declared.expr.Prefix.{Prefix};
 ghost use Rattle.expr_meaning.specs.Operators.{inner, IsPrefixed, WithEdge};
 ghost use Rattle.network_algebra.specs.Networks.{UsesOnly, all_letters};

@@ -1,6 +1,6 @@
 use crate::{Head, accepted, answer, no_net, refused, short, symbol};
 use fsm_base::Text;
-use lookup::Answer;
+use lookup_answers::Answer;
 use regex_ast::{Fault, Why};
 use std::alloc::{AllocError, Global};
 use std::test::Fail;

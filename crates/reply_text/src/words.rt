@@ -1,11 +1,11 @@
 ghost use Rattle.std.specs.Prelude.{◌≡◌, ◌++◌, ◌∷◌, codes, decimal, IfOk};
 ghost use Rattle.std.specs.String.{string_bytes};
-ghost use Rattle.lookup_answers.specs.Answers.{strings};
+ghost use Rattle.fsm_words.specs.Answers.{strings};
 ghost use Rattle.fsm_meaning.specs.Replies.{answer_bytes, headed};
-ghost use Rattle.lookup.specs.Answering.{found_of};
+ghost use Rattle.lookup_answers.specs.Answers.{found_of};
 
 use fsm_base::Text;
-use lookup::Answer;
+use lookup_answers::Answer;
 use std::alloc::{AllocError, Global};
 
 /// How many texts there are, and each on a line.

@@ -1,7 +1,7 @@
 use Rattle.std.proofs.lemmas.Result.{IfOk-weaker}
 use Rattle.fst_relation.specs.Relation.{IsRelated}
 use Rattle.fst_algebra.specs.Relations.{UsesUpper, UsesLower}
-use Rattle.fst_compose.specs.Composition.{IsComposition}
+use Rattle.fsm_words.specs.Relations.{IsComposition}
 use Rattle.fst_compose.proofs.Meets.{composed, composed_lower, relation_kept, upper_kept, lower_kept}
 use Rattle.fst_compose.proofs.composition.compose.Goals as goal
 

@@ -5,7 +5,7 @@ use Rattle.fsm_words.specs.Words.{Translates}
 use Rattle.fsa.specs.Automaton.{UsesLetter}
 use Rattle.fsa.specs.Language.{Accepts}
 use Rattle.lang_algebra.specs.declared.sources.Sourced.{Sourced}
-use Rattle.lang_algebra.specs.Operations.{IsIgnoring}
+use Rattle.fsm_words.specs.Operations.{IsIgnoring}
 use Rattle.lang_algebra.specs.Sources.{letter_table}
 use Rattle.lang_algebra.proofs.Inserting.{sources_distinct}
 use Rattle.lang_algebra.proofs.Ignored.{spelled_letter, ignored_language}

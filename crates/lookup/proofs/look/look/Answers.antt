@@ -2,7 +2,7 @@ use Rattle.std.proofs.Common.{◌≡◌, ◌⊎◌, Some, inl, inr, subst}
 use Rattle.std.specs.List.{Contains}
 use Rattle.fsm_base.specs.declared.letters.Sym.{Sym}
 use Rattle.fsm_base.specs.declared.letters.Pair.{Pair}
-use Rattle.lookup.specs.Answering.{found_of}
+use Rattle.lookup_answers.specs.Answers.{found_of}
 use Rattle.lookup.specs.Moves.{IsRelatedBy, written_on}
 use Rattle.lookup.specs.declared.moves.Way.{Way}
 use Rattle.lookup.specs.declared.moves.Way.TheVariants.{Up, Down}

@@ -4,7 +4,7 @@ use Rattle.fsm_words.specs.Words.{IsOver}
 use Rattle.fsa.specs.Language as language
 use Rattle.fsa.specs.Complete.{Accepts}
 use Rattle.lang_algebra.specs.Languages.{IsLang}
-use Rattle.lang_algebra.specs.Operations.{HasPart}
+use Rattle.fsm_words.specs.Operations.{HasPart}
 use Rattle.lang_algebra.proofs.Made.{contains_made}
 use Rattle.lang_algebra.proofs.lang.Lang.contains.Goals as goal
 

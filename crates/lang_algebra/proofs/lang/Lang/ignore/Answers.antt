@@ -2,7 +2,7 @@ use Rattle.std.proofs.lemmas.Result.{IfOk-weaker}
 use Rattle.fsa.specs.Language as language
 use Rattle.fsa.specs.Complete.{Accepts}
 use Rattle.lang_algebra.specs.Languages.{IsLang}
-use Rattle.lang_algebra.specs.Operations.{IsIgnoring}
+use Rattle.fsm_words.specs.Operations.{IsIgnoring}
 use Rattle.lang_algebra.proofs.Made.{ignore_made}
 use Rattle.lang_algebra.proofs.lang.Lang.ignore.Goals as goal
 
