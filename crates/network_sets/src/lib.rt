@@ -5,7 +5,7 @@
 //! - [`both`], [`minus`], [`ignoring`], [`prefixed`], [`not_one`]: sets of words.
 //! - [`composed`]: composition, which of languages is [`both`].
 //! - [`restricted`]: the words in which each part that is in a language stands at an allowed place. Places are split
-//!   words ([`Split`]), and [`in_context`] gives those in a context.
+//!   words ([`Split`], of letters that [`every_split_letter`] lists), and [`in_context`] gives those in a context.
 #![tactic(auto)]
 
 mod composing;
@@ -15,6 +15,6 @@ mod restricting;
 mod sets;
 
 pub use composing::composed;
-pub use parts::Split;
+pub use parts::{Split, every_split_letter};
 pub use restricting::{in_context, restricted};
 pub use sets::{both, ignoring, language, minus, not_one, prefixed};
