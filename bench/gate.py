@@ -1,0 +1,96 @@
+"""Runs the gate from nothing and prints what it takes, crate by crate: processor seconds of the proof, of the tests and of the
+edits, and the peak memory of a check. Usage: bench/gate.py [WORDS OF rt ci ..], by default --anew.
+
+The time of each prover is read while it runs, a few times a second, so a line may lack as much; the sum at the end is the
+system's own count."""
+import os
+import re
+import resource
+import subprocess
+import sys
+import time
+
+ROOT = os.path.dirname(os.path.dirname(os.path.abspath(__file__)))
+TICK = os.sysconf('SC_CLK_TCK')
+KINDS = ('proof', 'tests', 'edits')
+
+
+def read(path):
+    with open(path, errors='replace') as text:
+        return text.read()
+
+
+def children_of():
+    """The processes that each process has started, by number."""
+    children = {}
+    for name in os.listdir('/proc'):
+        if name.isdigit():
+            try:
+                fields = read(f'/proc/{name}/stat').rpartition(')')[2].split()
+            except OSError:
+                continue
+            children.setdefault(int(fields[1]), []).append((int(name), fields))
+    return children
+
+
+def below(process):
+    """The descendants of a process, with the fields of their stat behind the name."""
+    children, found, left = children_of(), [], [process]
+    while left:
+        for child, fields in children.get(left.pop(), []):
+            found.append((child, fields))
+            left.append(child)
+    return found
+
+
+def task_of(process):
+    """The crate that the prover works at, and whether at its proof, its tests or an edit; None for another process."""
+    words = read(f'/proc/{process}/cmdline').split('\0')
+    if os.path.basename(words[0]) != 'rattle' or '--crate-name' not in words:
+        return None
+    crate = words[words.index('--crate-name') + 1]
+    folder = os.path.basename(os.readlink(f'/proc/{process}/cwd'))
+    if folder.startswith('rt-edit-') or 'edit' in folder:
+        return crate, 'edits'
+    return crate, 'tests' if '--test' in words else 'proof'
+
+
+def watch(gate):
+    """What each prover below the gate has used until it ended: its task, its processor seconds and its peak memory in bytes."""
+    used = {}
+    while gate.poll() is None:
+        for process, fields in below(gate.pid):
+            try:
+                task = used[process][0] if process in used else task_of(process)
+                if task is None:
+                    continue
+                seconds = (int(fields[11]) + int(fields[12])) / TICK
+                peak = re.search(r'VmHWM:\s+(\d+)', read(f'/proc/{process}/status'))
+                used[process] = task, seconds, int(peak[1]) * 1024 if peak else used.get(process, (0, 0, 0))[2]
+            except OSError:
+                continue
+        time.sleep(0.25)
+    return used.values()
+
+
+def main(words):
+    start = time.monotonic()
+    gate = subprocess.Popen(['rt', 'ci', *words], cwd=ROOT)
+    rows = {}
+    for (crate, kind), seconds, peak in watch(gate):
+        row = rows.setdefault(crate, dict.fromkeys((*KINDS, 'peak'), 0))
+        row[kind] += seconds
+        row['peak'] = max(row['peak'], peak)
+    spent = resource.getrusage(resource.RUSAGE_CHILDREN)
+    print('%-20s %7s %7s %7s %7s %8s' % ('crate', *KINDS, 'all', 'peak MiB'))
+    for crate, row in sorted(rows.items(), key=lambda it: -sum(it[1][kind] for kind in KINDS)):
+        seconds = [row[kind] for kind in KINDS]
+        print('%-20s %7.0f %7.0f %7.0f %7.0f %8.0f' % (crate, *seconds, sum(seconds), row['peak'] / 2**20))
+    sums = [sum(row[kind] for row in rows.values()) for kind in KINDS]
+    print('%-20s %7.0f %7.0f %7.0f %7.0f' % ('sum', *sums, sum(sums)))
+    print('processor seconds in all: %.0f; seconds: %.0f' % (spent.ru_utime + spent.ru_stime, time.monotonic() - start))
+    return gate.returncode
+
+
+if __name__ == '__main__':
+    sys.exit(main(sys.argv[1:] or ['--anew']))
