@@ -1,10 +1,10 @@
 -- What is left out of a text by its bytes is left out by its characters.
-use Rattle.std.proofs.Common.{◌≡◌, ◌≢◌, ℕ, ◌+◌, ◌/◌, ◌%◌, ◌<◌, ◌≤◌, zero, suc, Bool, true, false, cond, not, ◌||◌, ◌&&◌, ◌==◌, List, [], ◌∷◌, ◌++◌, length, take, drop, Ok, Err, nat_eq, ltb, count_by, refl, sym, ap, subst, ◌∙◌, ◌⊎◌, inl, inr, arith, append-nil, encode_utf8_all}
+use Rattle.std.proofs.Common.{◌≡◌, ◌≢◌, ℕ, ◌+◌, ◌/◌, ◌%◌, ◌<◌, ◌≤◌, zero, suc, Bool, true, false, cond, not, ◌||◌, ◌&&◌, ◌==◌, List, [], ◌∷◌, ◌++◌, length, take, drop, Ok, Err, nat_eq, ltb, count_by, refl, sym, ap, subst, ◌∙◌, ◌⊎◌, inl, inr, arith, append-nil, length-append, encode_utf8, encode_utf8_all, ◌*◌}
 use Rattle.std.proofs.lemmas.Bool.Decides.{nat_tests}
 use Rattle.std.proofs.lemmas.List.{take-append-drop, drop_all}
 use Rattle.std.proofs.Math.Seq.{take-length}
 use Rattle.std.proofs.lemmas.List.Sums.{sum_by-append, take_while-cons}
-use Rattle.std.proofs.lemmas.Str.{chars_from_encodes, encodes-chars, encodes-append, chars_past_char, is_utf8-from_IsUtf8, IsUtf8-from_is_utf8}
+use Rattle.std.proofs.lemmas.Str.{length-encode, len_utf8_bounds, chars_from_encodes, encodes-chars, encodes-append, chars_past_char, is_utf8-from_IsUtf8, IsUtf8-from_is_utf8}
 use Rattle.std.specs.List.{before_first, list_any, starts_with}
 use Rattle.std.specs.Str.{IsUtf8, NoCharPasses, NonePass, chars, is_utf8}
 use Rattle.std.specs.Str.Pattern.{FindsText}
@@ -13,9 +13,10 @@ use lib.Pointwise.{pointwise}
 use denote.Ref.{Bor}
 use lib.Utf8.{encode}
 use Rattle.std.specs.Str.Lossy.{utf8_valid_len}
-use Rattle.unicode_normalization.specs.Forms.{nfc}
+use Rattle.unicode_normalization.specs.Forms.{nfc, Nfc}
+use Rattle.unicode_normalization.proofs.LengthLemmas.{length-normalize-chars}
 use Rattle.fsm_base.specs.declared.normalize.TextError.TheVariants.{NotUtf8, Control}
-use Rattle.fsm_base.specs.Normal.{is_refused, line_behind, source_text, text_of_characters, without_mark, without_returns}
+use Rattle.fsm_base.specs.Normal.{is_refused, line_behind, most_growth, nfc_of, source_text, text_of_characters, without_mark, without_returns}
 use Rattle.fsm_base.proofs.CutLemmas.{begins_from_test}
 
 -- each byte is from 128 on
@@ -227,3 +228,11 @@ text_of_characters-refused cs line refused e =
 
 pub text_of_characters-kept : (cs : List ℕ) → list_any is_refused cs ≡ false → text_of_characters cs ≡ Ok (encode_utf8_all (nfc cs))
 text_of_characters-kept cs kept = ap (λ (b : Bool). cond b (Err (Control (line_behind (before_first is_refused cs)))) (Ok (encode_utf8_all (nfc cs)))) kept
+
+length-encode_all : (cs : List ℕ) → length (encode_utf8_all cs) ≤ 4 * length cs
+length-encode_all [] = omega arith
+length-encode_all (c ∷ cs) =
+    omega (arith, length-append (encode_utf8 c) (encode_utf8_all cs), length-encode c, (len_utf8_bounds c).1, length-encode_all cs)
+
+pub length-nfc_of : (text : List ℕ) → IsUtf8 text → length (nfc_of text) ≤ most_growth * length text
+length-nfc_of text is = omega (arith, length-normalize-chars Nfc text is, length-encode_all (nfc (chars text)))

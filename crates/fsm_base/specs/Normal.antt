@@ -14,6 +14,11 @@ use Rattle.fsm_base.specs.declared.normalize.TextError.TheVariants.{NotUtf8, Con
 abbrev pub nfc_of : List ℕ → List ℕ
 nfc_of text = encode_utf8_all (nfc (chars text))
 
+-- a text grows to eight times its bytes at most: a byte decomposes into two characters at most, and a character has four
+-- bytes at most
+abbrev pub most_growth : ℕ
+most_growth = 8
+
 -- a byte order mark, U+FEFF, is left out where the text begins with it
 abbrev pub without_mark : List ℕ → List ℕ
 without_mark [] = []

@@ -1,10 +1,10 @@
 //! The text that the bytes of a source spell, in Normalization Form C.
-ghost use Rattle.std.specs.Prelude.{◌≡◌, ◌-◌, ◌^◌, ◌<◌, ◌≤◌, length, take, true, false, Ok, IfOk, IfErr, MatchOption, MatchResult};
+ghost use Rattle.std.specs.Prelude.{◌≡◌, ◌-◌, ◌*◌, ◌^◌, ◌<◌, ◌≤◌, length, take, true, false, Ok, IfOk, IfErr, MatchOption, MatchResult};
 ghost use Rattle.std.specs.List.{before_first, list_any};
 ghost use Rattle.std.specs.Str.{IsUtf8, chars};
 ghost use Rattle.std.specs.Str.Lossy.{utf8_valid_len};
 ghost use Rattle.std.specs.String.{string_bytes};
-ghost use Rattle.fsm_base.specs.Normal.{IsWhyNoText, is_refused, line_behind, nfc_of, source_text, without_mark, without_returns};
+ghost use Rattle.fsm_base.specs.Normal.{IsWhyNoText, is_refused, line_behind, most_growth, nfc_of, source_text, without_mark, without_returns};
 
 use crate::Text;
 use std::alloc::{AllocError, Global};
@@ -43,9 +43,10 @@ impl From<AllocError> for TextError {
     }
 }
 
-/// The text in Normalization Form C (Unicode Standard Annex 15).
+/// The text in Normalization Form C (Unicode Standard Annex 15), at most eight times as long.
 pub fn nfc(alloc: Global, text: &str) -> Result<Text, AllocError>
-    ensures { IfOk result (λ normalized. normalized ≡ nfc_of text.now) }
+    ensures text { IfOk result (λ normalized. normalized ≡ nfc_of text.now) }
+    ensures short { IfOk result (λ normalized. length normalized ≤ most_growth * length text.now) }
 {
     Ok(Text::from(to_nfc(alloc, text)?))
 }
@@ -54,10 +55,11 @@ pub fn nfc(alloc: Global, text: &str) -> Result<Text, AllocError>
 ///
 /// The bytes must be UTF-8. A byte order mark at their start is left out, and so is each carriage
 /// return that stands directly before a newline. No control character may be left then, other than
-/// tab and newline. Lines are counted from 1 by newlines.
+/// tab and newline. Lines are counted from 1 by newlines. The text is at most eight times as long as the bytes.
 pub fn normal(alloc: Global, bytes: &[u8]) -> Result<Text, TextError>
     requires { length bytes.now < 2 ^ 32 - 1 }
     ensures text { IfOk result (λ text. source_text bytes.now ≡ Ok text) }
+    ensures short { IfOk result (λ text. length text ≤ most_growth * length bytes.now) }
     ensures no_text { IfErr result (IsWhyNoText (source_text bytes.now)) }
 {
     let text = without_returns(alloc, without_mark(utf8(bytes)?))?;

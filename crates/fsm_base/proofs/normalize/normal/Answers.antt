@@ -1,4 +1,4 @@
-use Rattle.std.proofs.Common.{List, ℕ, ◌≡◌, Result, Ok, Err, IfErr, ap, sym, subst, ◌∙◌}
+use Rattle.std.proofs.Common.{List, ℕ, ◌≡◌, Result, Ok, Err, IfErr, ap, sym, subst, ◌∙◌, length, arith}
 use Rattle.std.specs.Result.{IsErrAnd}
 use Rattle.std.specs.Str.{chars}
 use Rattle.fsm_base.specs.Normal.{IsWhyNoText, nfc_of, source_text, without_mark, without_returns}
@@ -35,4 +35,15 @@ returns-clause-text c =
     source_text-utf8 c.args.bytes.now (chars c.as_str.result.now) c.in_ok-utf8.ensures.1 characters
     ∙ text_of_characters-kept (chars c.as_str.result.now) c.in-None.ensures
     ∙ ap (λ (bytes : List ℕ). Ok (nfc_of bytes)) (c.as_str.ensures.value ∙ sym c.as_str-in-None.ensures.value)
-    ∙ ap Ok (sym c.in_ok-nfc-in-None.ensures)
+    ∙ ap Ok (sym c.in_ok-nfc-in-None.ensures.text)
+
+pub returns-clause-short : goal.returns-clause-short
+returns-clause-short c =
+    omega (
+      arith,
+      c.in_ok-nfc-in-None.ensures.short,
+      ap length c.as_str-in-None.ensures.value,
+      c.in_ok-text.ensures.short,
+      c.without_mark.ensures.short,
+      ap length c.in_ok-utf8.ensures.0,
+    )
