@@ -1,5 +1,5 @@
--- What a folder holds, and what a read of it finds.
-use Rattle.std.specs.Prelude.{◌≡◌, ℕ, List, [], ◌∷◌, Option, None, Some, ◌≤◌, length, take, if◌then◌else◌, ⊤}
+-- What a folder holds, what a read of it finds, and what it was asked for.
+use Rattle.std.specs.Prelude.{◌≡◌, ◌⊎◌, ℕ, List, [], ◌∷◌, ◌++◌, Option, None, Some, Result, ◌≤◌, length, take, if◌then◌else◌, ⊤, IsErr}
 use Rattle.std.specs.Str.{bytes_eq}
 use Rattle.fsm_io.specs.declared.folder.Found.{Found}
 use Rattle.fsm_io.specs.declared.folder.Found.TheVariants.{Bytes, Missing}
@@ -22,6 +22,20 @@ Finds name most Missing files = file_of name files ≡ None
 abbrev pub HasAtMost : ℕ → Found → Type 0
 HasAtMost most (Bytes bytes) = length bytes.items ≤ most
 HasAtMost most Missing = ⊤
+
+-- a request for a file of this name, of so many bytes at most
+pub record Asked : Type 0 where
+  pub name : List ℕ
+  pub most : ℕ
+
+-- what was asked for so far, where it is told, grew by these requests
+abbrev pub AsksFor : Option (List Asked) → Option (List Asked) → List Asked → Type 0
+AsksFor None new requests = new ≡ None
+AsksFor (Some old) new requests = new ≡ Some (old ++ requests)
+
+-- the call asked for the file. Where it answers an error it may not have come to that
+abbrev pub HasAsked : {T E : Type 0} → Option (List Asked) → Option (List Asked) → List ℕ → ℕ → Result T E → Type 0
+HasAsked old new name most result = AsksFor old new (record { name = name; most = most } ∷ []) ⊎ (IsErr result × (new ≡ old))
 
 -- of what is told: a conclusion, which holds where nothing is told
 abbrev pub Told : {T : Type 0} → Option T → (T → Type 0) → Type 0

@@ -6,5 +6,6 @@ pub mod Folders
 pub mod Gather
 pub mod Held
 pub mod Objects
+pub mod Requests
 pub mod Lines
 pub mod Reading

@@ -4,7 +4,7 @@ use Rattle.std.specs.Prelude.{◌≡◌, ◌≢◌, ℕ, Bool, ◌||◌, ◌==�
 use Rattle.std.specs.List.{list_any}
 use Rattle.std.specs.Global.{Vec}
 use Rattle.fsm_io.specs.Causes.{counted}
-use Rattle.fsm_io.specs.Folders.{Files}
+use Rattle.fsm_io.specs.Folders.{Asked, Files}
 use Rattle.fsm_io.specs.declared.folder.FolderError.{FolderError}
 use Rattle.fsm_io.specs.declared.folder.FolderError.TheVariants.{Failed}
 
@@ -25,9 +25,10 @@ pub record SinkView : Type 0 where
   pub calls : ℕ
   pub faults : ℕ
 
--- the files, the calls that fail, and the counts
+-- the files, what was asked for, the calls that fail, and the counts
 pub record FolderView : Type 0 where
   pub files : Files
+  pub asked : List Asked
   pub failing : List ℕ
   pub calls : ℕ
   pub faults : ℕ
@@ -57,9 +58,9 @@ WritesPiece old new bytes result =
     (IsErr result × (new ≡ record old { calls = counted old.calls; faults = counted old.faults }))
     ((result ≡ Ok count) × (new ≡ record old { calls = counted old.calls; held = old.held ++ take count bytes }))
 
--- a listed read fails and is counted, and no other does
+-- a listed read fails and is counted, and no other does. What was asked for may have grown by its request
 abbrev pub ReadsListed : {T : Type 0} → FolderView → FolderView → Result T FolderError → Type 0
 ReadsListed old new result =
     MatchBool (fails_next old.failing old.calls)
     (IsErrOf result Failed × (new ≡ record old { calls = counted old.calls; faults = counted old.faults }))
-    ((result ≢ Err Failed) × (new ≡ record old { calls = counted old.calls }))
+    ((result ≢ Err Failed) × (new ≡ record old { calls = counted old.calls; asked = new.asked }))

@@ -19,6 +19,15 @@ pub struct DirFolder<'a, R> {
     faults: u64,
 }
 
+/// Whether an error says that there is no file of the name: nothing stands there, what should be the folder is none, or
+/// the name is longer than the system's names are.
+fn is_missing(kind: ErrorKind) -> bool {
+    matches!(
+        kind,
+        ErrorKind::NotFound | ErrorKind::NotADirectory | ErrorKind::InvalidFilename
+    )
+}
+
 impl<'a, R: Files> DirFolder<'a, R> {
     /// The folder of this path. Nothing is read yet.
     pub fn new(rt: &'a R, dir: Text) -> DirFolder<'a, R>
@@ -35,7 +44,7 @@ impl<'a, R: Files> DirFolder<'a, R> {
         let path = format!(in alloc; "{dir}/{name}")?;
         match fs::open(self.rt, path.as_str()) {
             Ok(mut file) => read_found(alloc, &mut file, most),
-            Err(error) if error.kind() == ErrorKind::NotFound => Ok(Found::Missing),
+            Err(error) if is_missing(error.kind()) => Ok(Found::Missing),
             Err(_) => Err(FolderError::Failed),
         }
     }
@@ -43,19 +52,20 @@ impl<'a, R: Files> DirFolder<'a, R> {
 
 impl<'a, R: Files> Folder for DirFolder<'a, R> {
     ghost use Rattle.fsm_io.specs.Causes.{FolderCause};
-    ghost use Rattle.fsm_io.specs.Folders.{Files, Finds, Told};
+    ghost use Rattle.fsm_io.specs.Folders.{Files, Finds, HasAsked, Told};
 
     ghost files = { λ _. None };
 
     ghost faults = { λ s. s.faults };
 
-    ghost reads = { λ _ _ _ _. ⊤ };
+    ghost asked = { λ _. None };
 
-    /// A file that isn't there is missing, and any other error is a fault. No more than `most` bytes
-    /// are kept, however long the file is.
+    /// A file that isn't there is missing, so too where the folder is none or the name too long, and any other
+    /// error is a fault. No more than `most` bytes are kept, however long the file is.
     fn read(&mut self, alloc: Global, name: &str, most: usize) -> Result<Found, FolderError>
         ensures bound { IfOk result (HasAtMost most) }
         ensures found { IfOk result (λ found. Told {T = Files} None (Finds name.now most found)) }
+        ensures asked { HasAsked None None name.now most result }
         ensures cause { FolderCause self.old.faults self.new.faults result }
     {
         let result = self.find(alloc, name, most);

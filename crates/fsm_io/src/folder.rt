@@ -35,7 +35,7 @@ impl From<AllocError> for FolderError {
 /// A set of files, by name.
 pub trait Folder {
     ghost use Rattle.fsm_io.specs.Causes.{FolderCause};
-    ghost use Rattle.fsm_io.specs.Folders.{Files, Finds, Told};
+    ghost use Rattle.fsm_io.specs.Folders.{Asked, Files, Finds, HasAsked, Told};
 
     /// The files, or `None` where they aren't told.
     ghost files: { Self → Option Files };
@@ -43,15 +43,14 @@ pub trait Folder {
     /// The failed calls so far, which [`Folder::faults`] answers.
     ghost faults: { Self → ℕ };
 
-    /// What a read of a file of this name, of so many bytes at most, may make of the folder. A clause
-    /// over any folder says by it which files were asked for, and no others.
-    ghost reads: { Self → List ℕ → ℕ → Self → Type 0 };
+    /// What it was asked for so far, or `None` where that isn't told.
+    ghost asked: { Self → Option (List Asked) };
 
     /// The first `most` bytes of the file of this name. A read changes no file.
     fn read(&mut self, alloc: Global, name: &str, most: usize) -> Result<Found, FolderError>
         ensures found { IfOk result (λ found. Told (files self.old) (Finds name.now most found)) }
         ensures files { files self.new ≡ files self.old }
-        ensures asked { reads self.old name.now most self.new }
+        ensures asked { HasAsked (asked self.old) (asked self.new) name.now most result }
         ensures cause { FolderCause (faults self.old) (faults self.new) result };
 
     /// How many calls failed so far, as far as 64 bits count.

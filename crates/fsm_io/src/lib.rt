@@ -29,7 +29,7 @@ mod write_sink;
 pub use dir_folder::DirFolder;
 pub use folder::{Folder, FolderError, Found};
 pub use lines::{LineEvent, Lines};
-pub use memory_folder::MemoryFolder;
+pub use memory_folder::{MemoryFolder, Request};
 pub use memory_sink::MemorySink;
 pub use memory_source::MemorySource;
 pub use outbox::Outbox;

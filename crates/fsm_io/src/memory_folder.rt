@@ -1,4 +1,4 @@
-ghost use Rattle.std.specs.Prelude.{◌≡◌, ℕ, Some, IfOk};
+ghost use Rattle.std.specs.Prelude.{◌≡◌, ◌∷◌, ◌++◌, ℕ, [], Some, IfOk, OnOk, OnErr};
 ghost use Rattle.fsm_io.specs.Folders.{Finds};
 ghost use Rattle.fsm_io.specs.Objects.{contents};
 
@@ -7,10 +7,39 @@ use fsm_base::Text;
 use std::alloc::{AllocError, Global};
 use std::marker::Model;
 
-/// A folder in memory, which fails at listed calls.
+/// A request for a file.
+#[derive(Debug, Drop)]
+pub struct Request {
+    /// The file's name.
+    pub name: Text,
+    /// How many bytes of it at most.
+    pub most: usize,
+}
+
+impl Request {
+    /// A request for the file of this name.
+    fn of(alloc: Global, name: &str, most: usize) -> Result<Request, AllocError>
+        ensures { IfOk result (λ request. (request.name ≡ name.now) × (request.most ≡ most)) }
+    {
+        let name = Text::of(alloc, name)?;
+        Ok(Request { name, most })
+    }
+}
+
+/// Puts a request behind those before it.
+fn note(requests: &mut Vec<Request>, request: Request) -> Result<(), AllocError>
+    ensures noted { OnOk result (requests.new.items ≡ requests.old.items ++ request ∷ []) }
+    ensures refused { OnErr result (requests.new.items ≡ requests.old.items) }
+{
+    requests.push(request)?;
+    Ok(())
+}
+
+/// A folder in memory, which fails at listed calls and keeps what it was asked for.
 #[derive(Drop)]
 pub struct MemoryFolder {
     files: Vec<(Text, Vec<u8>)>,
+    requests: Vec<Request>,
     failing: Vec<u64>,
     calls: u64,
     faults: u64,
@@ -18,43 +47,55 @@ pub struct MemoryFolder {
 
 impl Model for MemoryFolder {
     ghost use Rattle.fsm_io.specs.Objects.{FolderView, contents};
+    ghost use Rattle.fsm_io.specs.Requests.{asked_in};
 
     ghost Value = { FolderView };
 
-    ghost view = { λ s. record { files = contents s.files.items; failing = s.failing.items; calls = s.calls; faults = s.faults } };
+    ghost view = { λ s. record { files = contents s.files.items; asked = asked_in s.requests.items; failing = s.failing.items; calls = s.calls; faults = s.faults } };
 }
 
 impl MemoryFolder {
     ghost use Rattle.fsm_io.specs.Objects.{FolderView, contents};
+    ghost use Rattle.fsm_io.specs.Requests.{asked_in};
 
     /// A folder of these files, each with its name, of which the first of a name counts. It fails at
     /// the calls listed in `failing`, counted from 1.
     pub fn new(files: Vec<(Text, Vec<u8>)>, failing: Vec<u64>) -> MemoryFolder
-        ensures { result ≡ record { files = contents files.items; failing = failing.items; calls = 0; faults = 0 } }
+        ensures { result ≡ record { files = contents files.items; asked = []; failing = failing.items; calls = 0; faults = 0 } }
     {
+        let requests = Vec::new(*failing.allocator());
         MemoryFolder {
             files,
+            requests,
             failing,
             calls: 0,
             faults: 0,
         }
     }
+
+    /// What was asked for so far, in order. A request that was refused for want of memory or failed may be missing.
+    pub fn requests(&self) -> &[Request]
+        ensures { asked_in result.now ≡ self.now.asked }
+    {
+        &self.requests
+    }
 }
 
 impl Folder for MemoryFolder {
     ghost use Rattle.fsm_io.specs.Causes.{FolderCause};
-    ghost use Rattle.fsm_io.specs.Folders.{Finds};
+    ghost use Rattle.fsm_io.specs.Folders.{Finds, HasAsked};
     ghost use Rattle.fsm_io.specs.Objects.{ReadsListed};
 
     ghost files = { λ s. Some s.files };
 
-    ghost faults = { λ s. s.faults };
+    ghost asked = { λ s. Some s.asked };
 
-    ghost reads = { λ old _ _ new. new.files ≡ old.files };
+    ghost faults = { λ s. s.faults };
 
     fn read(&mut self, alloc: Global, name: &str, most: usize) -> Result<Found, FolderError>
         ensures found { IfOk result (λ found. Finds name.now most found self.old.files) }
         ensures files { self.new.files ≡ self.old.files }
+        ensures asked { HasAsked (Some self.old.asked) (Some self.new.asked) name.now most result }
         ensures cause { FolderCause self.old.faults self.new.faults result }
         ensures exact { ReadsListed self.old self.new result }
     {
@@ -63,6 +104,7 @@ impl Folder for MemoryFolder {
             self.faults = self.faults.saturating_add(1);
             return Err(FolderError::Failed);
         }
+        note(&mut self.requests, Request::of(alloc, name, most)?)?;
         Ok(found_in(alloc, &self.files, name, most)?)
     }
 
