@@ -1,4 +1,5 @@
 ghost use Rattle.std.specs.Prelude.{◌≡◌, ◌↔◌, ℕ, ◌≤◌, List, [], ◌++◌, Option, IfOk, IsTrue, Contains, MatchOption, length, take, drop, ◌∷◌, ◌+◌, ◌<◌, if◌then◌else◌, true};
+ghost use Rattle.fsm_io.specs.Buffers.{most_ahead};
 ghost use Rattle.fsm_io.specs.Causes.{Rose};
 ghost use Rattle.fsm_io.specs.Gather.{Moves, Gathered, IsNewline, event_of};
 ghost use Rattle.fsm_io.specs.Lines.{IsWithinLine};
@@ -16,9 +17,6 @@ const LONGEST: usize = 4096;
 
 /// How many bytes of a line are kept: enough to see that it is long.
 const KEPT: usize = 4097;
-
-/// How many bytes a read of the source asks for.
-const READ: usize = 64 * 1024;
 
 /// What comes next in a source of lines.
 #[derive(Clone, Copy, Debug, PartialEq, Eq)]
@@ -80,6 +78,7 @@ pub struct Lines {
 
 impl Model for Lines {
     ghost use Rattle.std.specs.Prelude.{◌≡◌, ◌≤◌, true, [], length, if◌then◌else◌};
+    ghost use Rattle.fsm_io.specs.Buffers.{most_ahead};
     ghost use Rattle.fsm_io.specs.Gather.{most_kept};
     ghost use Rattle.fsm_io.specs.Reading.{LinesView};
 
@@ -87,7 +86,7 @@ impl Model for Lines {
 
     ghost view = { λ l. record { begun = (if l.told then [] else l.line.held); ahead = l.held; text = l.line.held; budget = l.budget; ended = l.ended } };
 
-    ghost invariant = { λ l. (l.line.room ≡ most_kept) × (length l.line.held ≤ l.line.room) × (l.ended ≡ true → ((if l.told then [] else l.line.held) ≡ []) × (l.held ≡ [])) };
+    ghost invariant = { λ l. (l.line.room ≡ most_kept) × (length l.line.held ≤ l.line.room) × (l.ended ≡ true → ((if l.told then [] else l.line.held) ≡ []) × (l.held ≡ [])) × (length l.held ≤ most_ahead) };
 }
 
 impl Lines {
@@ -98,7 +97,7 @@ impl Lines {
         ensures told { IfOk result (λ lines. (left : Option (List ℕ)) → HasTold left left budget lines []) }
     {
         Ok(Lines {
-            held: Held::new(alloc, READ)?,
+            held: Held::new(alloc)?,
             line: Buffer::new(alloc, KEPT)?,
             budget,
             told: false,
@@ -113,6 +112,9 @@ impl Lines {
         // What was told so far of the lines of all bytes taken, and this event, are what is told now.
         ensures told { (left : Option (List ℕ)) (budget : ℕ) (lines : List (Option (List ℕ))) → HasTold left (S.left source.old) budget self.old lines
             → HasTold left (S.left source.new) budget self.new (lines ++ told_by result self.new.text) }
+
+        // No more than one read gave is ahead.
+        ensures few { length self.new.ahead ≤ most_ahead }
 
         // Where a whole line is ahead, the source isn't read.
         ensures ready { Contains self.old.ahead 10 → IsLineEvent result × (source.new ≡ source.old) }
@@ -143,6 +145,7 @@ impl Lines {
 
     fn advance<S: Source>(&mut self, source: &mut S) -> LineEvent
         ensures next { NextEvent (S.left source.old) (S.left source.new) self.old self.new result }
+        ensures few { length self.new.ahead ≤ most_ahead }
         ensures ready { Contains self.old.ahead 10 → IsLineEvent result × (source.new ≡ source.old) }
         ensures spent { self.old.budget ≡ 0 → source.new ≡ source.old }
         ensures ended { self.old.ended ≡ true → source.new ≡ source.old }
@@ -183,7 +186,9 @@ fn event_after(step: Step, line: &[u8]) -> LineEvent
 
 /// Moves bytes to the line up to a newline, from those held and then from the source.
 fn gather<S: Source>(held: &mut Held, line: &mut Buffer, budget: &mut u64, source: &mut S) -> Step
-    requires { length line.old.held ≤ line.old.room }
+    requires room { length line.old.held ≤ line.old.room }
+    requires few { length held.old ≤ most_ahead }
+    ensures few { length held.new ≤ most_ahead }
     ensures gathered { Gathered (S.left source.old) (S.left source.new) budget.old budget.new line.old line.new held.old held.new result }
     ensures ready { Contains held.old 10 → (result ≡ Step.Settled) × (source.new ≡ source.old) }
     ensures spent { budget.old ≡ 0 → source.new ≡ source.old }

@@ -4,9 +4,10 @@ use Rattle.fsm_io.proofs.lines.gather.Goals as goal
 
 pub reads-init : goal.reads-init
 reads-init g c = record {
-  gathering = gathering_start _ _ _ _ c.requires;
+  gathering = gathering_start _ _ _ _ c.requires.room;
   ready = λ found. (found, refl);
   spent = λ none. (none, refl);
+  few = c.requires.few;
   later = omega arith;
 }
 
@@ -27,6 +28,7 @@ reads-preserved g c = record {
   gathering = gathering_more _ _ _ _ _ _ _ _ _ _ _ _ _ c.reads.invariant.gathering c.reads-test.ensures.moves c.in-Ok.ensures.bytes.consumed (omega (arith, c.in-Ok.ensures.bytes.count.0, c.in-Ok.ensures.bytes.count.1));
   ready = λ found. let none = c.reads-test.ensures.newline.1 (c.reads.invariant.ready found).0 in cc;
   spent = λ none. absurd (c.if-budget-eq0.false (c.reads.invariant.spent none).0);
+  few = c.in-Ok.ensures.few;
   later = omega (arith, c.reads.invariant.later, c.refill.ensures.cause.later);
 }
 

@@ -1,4 +1,5 @@
-use Rattle.std.proofs.Common.{◌≡◌, ◌≤◌, Contains}
+use Rattle.std.proofs.Common.{◌≡◌, ◌≤◌, Contains, length}
+use Rattle.fsm_io.specs.Buffers.{most_ahead}
 use Rattle.fsm_io.proofs.Gathering.{Gathering}
 use Rattle.fsm_io.proofs.lines.gather.Given as goal
 
@@ -7,6 +8,7 @@ invariant-reads g l = record {
   gathering : Gathering (g.S.Source.left l.fn.source) (g.S.Source.left l.source) l.fn.budget l.budget l.fn.line l.line l.fn.held l.held;
   ready : Contains l.fn.held 10 → Contains l.held 10 × (l.source ≡ l.fn.source);
   spent : l.fn.budget ≡ 0 → (l.budget ≡ 0) × (l.source ≡ l.fn.source);
+  few : length l.held ≤ most_ahead;
   later : g.S.Source.faults l.fn.source ≤ g.S.Source.faults l.source;
 }
 

@@ -10,6 +10,7 @@ invariant_of-result c = (
   ap (λ (b : BufferView). b.room) c.in_ok-new-2.ensures,
   rw c.in_ok-new-2.ensures (omega arith),
   λ is. cc,
+  rw c.in_ok-new.ensures (omega arith),
 )
 
 pub returns-clause-told : goal.returns-clause-told
