@@ -1,5 +1,5 @@
 -- Laws for loops over a source: what was told so far, and one event more.
-use Rattle.std.proofs.Common.{◌≡◌, ℕ, ◌<◌, Bool, true, false, List, [], ◌∷◌, ◌++◌, length, map, Option, cond, refl, sym, ap, subst, ◌∙◌, append_assoc, append-nil, arith, length-append}
+use Rattle.std.proofs.Common.{◌≡◌, ℕ, ◌<◌, Bool, true, false, List, [], ◌∷◌, ◌++◌, length, map, Option, cond, ◌⊎◌, inl, inr, refl, sym, ap, subst, ◌∙◌, append_assoc, append-nil, arith, length-append}
 use Rattle.std.proofs.lemmas.List.{map-append}
 use Rattle.std.specs.Io.KnownBytes.{IsAtEnd}
 use Rattle.fsm_io.specs.Lines.{raw_lines, told, lines_of}
@@ -213,6 +213,42 @@ told_so_far left0 left budget0 reader lines before is none =
     ∙ ap (λ (l : List ℕ). map told before.raw ++ lines_of false l) (append-nil read.begun)
     ∙ ap (λ (l : List (List ℕ)). map told before.raw ++ map told l) (raw_lines-within read.begun read.within)
     ∙ append-nil (map told before.raw) ∙ before.told
+
+-- after an event no line is begun, or nothing is ahead
+pub settled_by : (left0 left : Option (List ℕ)) (old new : LinesView) (event : LineEvent) → NextEvent left0 left old new event → (new.begun ≡ []) ⊎ (new.ahead ≡ [])
+settled_by left0 left old new Line next = inl next.tells.1
+settled_by left0 left old new Long next = inl next.tells.1
+settled_by left0 left old new End next = inl next.tells.1
+settled_by left0 left old new Failed next = inr next.divided.1
+settled_by left0 left old new Over next = inr next.divided.1
+
+-- where no line is begun or nothing is ahead, the lines that weren't told yet are those ahead
+pub told_behind : (left0 left : Option (List ℕ)) (budget0 : ℕ) (reader : LinesView) (lines : List (Option (List ℕ))) (before : HasTold left0 left budget0 reader lines) → (reader.begun ≡ []) ⊎ (reader.ahead ≡ [])
+    → lines_of reader.ended before.read.taken ≡ lines ++ lines_of reader.ended reader.ahead
+told_behind left0 left budget0 reader lines before settled = at reader.ended refl where
+  read : HasRead left0 left budget0 reader before.raw
+  read = before.read
+
+  -- what was begun has no newline
+  begun_alone : reader.ahead ≡ [] → lines_of false (read.begun ++ reader.ahead) ≡ lines_of false reader.ahead
+  begun_alone none =
+      ap (λ (l : List ℕ). lines_of false (read.begun ++ l)) none ∙ ap (λ (l : List ℕ). lines_of false l) (append-nil read.begun) ∙ ap (map told) (raw_lines-within read.begun read.within)
+      ∙ ap (λ (l : List ℕ). lines_of false l) (sym none)
+
+  ahead : lines_of false (read.begun ++ reader.ahead) ≡ lines_of false reader.ahead
+  ahead = elim settled as (λ _. lines_of false (read.begun ++ reader.ahead) ≡ lines_of false reader.ahead) [
+    | inl none ↦ ap (λ (l : List ℕ). lines_of false (l ++ reader.ahead)) (told-nil reader.begun read.begun read.kept none)
+    | inr none ↦ begun_alone none
+  ]
+
+  at : (ended : Bool) → reader.ended ≡ ended → lines_of ended read.taken ≡ lines ++ lines_of ended reader.ahead
+  at true is =
+      let all = told_all left0 left budget0 reader lines before is in
+      all.0 ∙ sym (append-nil lines) ∙ ap (λ (l : List ℕ). lines ++ lines_of true l) (sym ((read.ends is).2))
+  at false is =
+      no_more false read.taken read.begun reader.ahead before.raw (read.goes_on is false [])
+      ∙ ap (λ (l : List (Option (List ℕ))). l ++ lines_of false (read.begun ++ reader.ahead)) before.told
+      ∙ ap (λ (l : List (Option (List ℕ))). lines ++ l) ahead
 
 -- what was told is a front of the lines of all bytes taken
 pub told_front : (left0 left : Option (List ℕ)) (budget0 : ℕ) (reader : LinesView) (lines : List (Option (List ℕ))) (before : HasTold left0 left budget0 reader lines)

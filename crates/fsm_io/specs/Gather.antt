@@ -2,7 +2,7 @@
 use Rattle.std.specs.Prelude.{◌≡◌, ℕ, ◌+◌, ◌<◌, Bool, true, false, List, [], ◌∷◌, ◌++◌, length, take, drop, Option, nat_le, ◌==◌, if◌then◌else◌, ⊤}
 use Rattle.std.specs.Io.KnownBytes.{Consumes, IsAtEnd}
 use Rattle.fsm_io.specs.Buffers.{BufferView}
-use Rattle.fsm_io.specs.Lines.{IsWithinLine}
+use Rattle.fsm_io.specs.Lines.{most_line, IsWithinLine}
 use Rattle.fsm_io.specs.declared.lines.LineEvent.{LineEvent}
 use Rattle.fsm_io.specs.declared.lines.LineEvent.TheVariants.{Line, Long, End, Failed, Over}
 use Rattle.fsm_io.specs.declared.lines.Step.{Step}
@@ -67,7 +67,7 @@ pub record Gathered (left0 left : Option (List ℕ)) (budget0 budget : ℕ) (lin
 
 -- the event of a line that ended so
 abbrev pub event_of : Step → List ℕ → LineEvent
-event_of step.Settled line = if nat_le (length line) 4096 then Line else Long
-event_of step.Ended line = if length line == 0 then End else (if nat_le (length line) 4096 then Line else Long)
+event_of step.Settled line = if nat_le (length line) most_line then Line else Long
+event_of step.Ended line = if length line == 0 then End else (if nat_le (length line) most_line then Line else Long)
 event_of step.Failed line = Failed
 event_of step.Over line = Over

@@ -14,9 +14,13 @@ abbrev pub raw_lines : Bool → List ℕ → List (List ℕ)
 raw_lines ended [] = []
 raw_lines ended (b ∷ bytes) = if b == 10 then [] ∷ raw_lines ended bytes else onto ended b (raw_lines ended bytes)
 
+-- the most bytes of a line that is told by itself
+abbrev pub most_line : ℕ
+most_line = 4096
+
 -- the line, or that it is long
 abbrev pub told : List ℕ → Option (List ℕ)
-told line = if nat_le (length line) 4096 then Some line else None
+told line = if nat_le (length line) most_line then Some line else None
 
 -- the lines of these bytes as they are told
 abbrev pub lines_of : Bool → List ℕ → List (Option (List ℕ))

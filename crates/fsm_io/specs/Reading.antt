@@ -2,7 +2,7 @@
 -- be an incomplete line (POSIX.1-2017, Base Definitions, 3.195), which its end settles.
 use Rattle.std.specs.Prelude.{◌≡◌, ℕ, ◌+◌, ◌<◌, ◌≤◌, Bool, true, false, List, [], ◌∷◌, ◌++◌, map, length, Option, None, Some, if◌then◌else◌, ⊤}
 use Rattle.std.specs.Io.KnownBytes.{Consumes, IsAtEnd}
-use Rattle.fsm_io.specs.Lines.{raw_lines, told, IsWithinLine}
+use Rattle.fsm_io.specs.Lines.{raw_lines, told, most_line, IsWithinLine}
 use Rattle.fsm_io.specs.declared.lines.LineEvent.{LineEvent}
 use Rattle.fsm_io.specs.declared.lines.LineEvent.TheVariants.{Line, Long, End, Failed, Over}
 
@@ -80,7 +80,7 @@ pub record NextEvent (left0 left : Option (List ℕ)) (old new : LinesView) (eve
   pub at_end : old.ended ≡ false → new.ended ≡ true → IsAtEnd left × (0 < new.budget)
   -- once it has ended it stays so, and takes nothing
   pub stays : old.ended ≡ true → (event ≡ End) × (new ≡ old) × (left ≡ left0)
-  pub short : event ≡ Line → length new.text ≤ 4096
+  pub short : event ≡ Line → length new.text ≤ most_line
   pub progress : IsLineEvent event → size_of new < size_of old
 
 -- the bytes taken so far and their lines, where `begun` is the front of a further line that was read

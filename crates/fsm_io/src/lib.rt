@@ -11,6 +11,7 @@
 #![tactic(auto)]
 
 mod buffer;
+mod causes;
 mod dir_folder;
 mod folder;
 mod held;
@@ -26,6 +27,7 @@ mod source;
 mod tests;
 mod write_sink;
 
+pub use causes::rose;
 pub use dir_folder::DirFolder;
 pub use folder::{Folder, FolderError, Found};
 pub use lines::{LineEvent, Lines};

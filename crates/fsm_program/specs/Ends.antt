@@ -1,11 +1,9 @@
--- How a run ends: its status, and what was read and written by then.
+-- How a run ends: its status, and what it read and wrote.
 use Rattle.std.specs.Prelude.{◌≡◌, ◌⊎◌, ◌++◌, ◌||◌, ℕ, Bool, List, [], ◌∷◌, Option, None, Some, Ok, Err, codes, if◌then◌else◌}
 use Rattle.std.specs.Option.{option_map}
 use Rattle.std.specs.Str.{bytes_eq}
-use Rattle.std.specs.Io.KnownBytes.{Appends}
 use Rattle.regex_ast.specs.declared.fault.Fault.{Fault}
-use Rattle.fsm_io.specs.Causes.{Rose}
-use Rattle.fsm_io.specs.Folders.{Files, Told}
+use Rattle.fsm_io.specs.Folders.{Told}
 use Rattle.fsm_meaning.specs.declared.ending.Ending.{Ending}
 use Rattle.fsm_meaning.specs.declared.ending.Ending.TheVariants.{Finished, WriteFailed, ReadFailed, Spent}
 use Rattle.fsm_base.specs.Normal.{nfc_of}
@@ -13,10 +11,11 @@ use Rattle.fsm_meaning.specs.Projects.{Project}
 use Rattle.fsm_meaning.specs.declared.direction.Direction.{Direction}
 use Rattle.fsm_meaning.specs.declared.direction.Direction.TheVariants.{Up, Down}
 use Rattle.fsm_meaning.specs.Replies.{Replies, line_of}
-use Rattle.fsm_meaning.specs.Transcripts.{HasAnswered}
+use Rattle.fsm_meaning.specs.Transcripts.{HasAnswered, WithoutState}
 use Rattle.fsm_program.specs.Loaded.{AreNames}
 use Rattle.reply_text.specs.Projects.{accepted_line, refused_line}
 use Rattle.fsm_program.specs.Files.{Reads}
+use Rattle.fsm_program.specs.Outside.{Outside, ReadNothing, WroteNothing, Wrote, FolderFailed, IsSaid}
 use Rattle.fsm_program.specs.declared.load.LoadError.{LoadError}
 use Rattle.fsm_program.specs.declared.load.LoadError.TheVariants.{Failed, Memory, Refused}
 use Rattle.fsm_program.specs.declared.words.Command.{Command}
@@ -79,24 +78,23 @@ status_of ReadFailed = 3
 status_of Spent = 6
 
 -- the lines of the input were answered, and this is the status of how that ended
-abbrev pub IsAnswered : (Option (List ℕ) → List ℕ → Type 0) → Option (List ℕ) → Option (List ℕ) → Option (List ℕ) → Option (List ℕ) → ℕ → Type 0
-IsAnswered R left0 left held0 held status = (ending : Ending) × (status ≡ status_of ending) × HasAnswered R most_taken left0 left held0 held ending
+abbrev pub IsAnswered : (Option (List ℕ) → List ℕ → Type 0) → Outside → Outside → ℕ → Type 0
+IsAnswered R before after status =
+    (ending : Ending) × (status ≡ status_of ending) × HasAnswered (WithoutState R) tt most_taken before.input after.input before.output after.output ending
 
--- the text was written and this is the status, or a front of it and the status is 4
-abbrev pub IsSaid : Option (List ℕ) → Option (List ℕ) → List ℕ → ℕ → ℕ → Type 0
-IsSaid held0 held text said status = (front : List ℕ) × (rest : List ℕ) × (text ≡ front ++ rest) × Appends held0 held front × (((status ≡ said) × (rest ≡ [])) ⊎ (status ≡ 4))
-
--- every way to end. `asked` is what the words ask for, `faults` are the folder's before and after, `left` the
--- input's bytes and `held` the output's before and after
-pub data Ends (asked : Option Asked) (files : Option Files) (faults0 faults : ℕ) (left0 left held0 held : Option (List ℕ)) (status : ℕ) : Type 0 where
-  no_words : asked ≡ None → left ≡ left0 → IsSaid held0 held usage_text 1 status → Ends asked files faults0 faults left0 left held0 held status
-  helped : asked ≡ Some for_help → left ≡ left0 → IsSaid held0 held usage_text 0 status → Ends asked files faults0 faults left0 left held0 held status
-  refused : (what : Asked) (fault : Fault) → asked ≡ Some what → Loads what → Told files (λ files. Reads files (Err fault)) → left ≡ left0 → IsSaid held0 held (refused_line fault) 2 status → Ends asked files faults0 faults left0 left held0 held status
-  folder_failed : (what : Asked) → asked ≡ Some what → Loads what → left ≡ left0 → held ≡ held0 → Rose faults0 faults → status ≡ 3 → Ends asked files faults0 faults left0 left held0 held status
-  no_memory : (what : Asked) → asked ≡ Some what → Loads what → left ≡ left0 → held ≡ held0 → status ≡ 5 → Ends asked files faults0 faults left0 left held0 held status
-  checked : (project : Project) (names : List (List ℕ)) → asked ≡ Some for_check → Told files (λ files. Reads files (Ok project)) → AreNames project names → left ≡ left0 → IsSaid held0 held (accepted_line 1 names) 0 status → Ends asked files faults0 faults left0 left held0 held status
-  answered : (query : Query) (project : Project) → asked ≡ Some (for_look query) → Told files (λ files. Reads files (Ok project)) → IsAnswered (Replies project query.direction 1 query.net) left0 left held0 held status
-      → Ends asked files faults0 faults left0 left held0 held status
+-- Every way to end. `asked` is what the words ask for, `version` the number that the replies name, and `before` and `after`
+-- are what stands outside. The folder didn't fail where its project is refused.
+pub data Ends (version : ℕ) (asked : Option Asked) (before after : Outside) (status : ℕ) : Type 0 where
+  no_words : asked ≡ None → ReadNothing before after → Wrote before after usage_text 1 status → Ends version asked before after status
+  helped : asked ≡ Some for_help → ReadNothing before after → Wrote before after usage_text 0 status → Ends version asked before after status
+  refused : (what : Asked) (fault : Fault) → asked ≡ Some what → Loads what → Told before.files (λ files. Reads files (Err fault)) → ¬ FolderFailed before after → ReadNothing before after
+      → Wrote before after (refused_line fault) 2 status → Ends version asked before after status
+  folder_failed : (what : Asked) → asked ≡ Some what → Loads what → FolderFailed before after → ReadNothing before after → WroteNothing before after → status ≡ 3 → Ends version asked before after status
+  no_memory : (what : Asked) → asked ≡ Some what → Loads what → ReadNothing before after → WroteNothing before after → status ≡ 5 → Ends version asked before after status
+  checked : (project : Project) (names : List (List ℕ)) → asked ≡ Some for_check → Told before.files (λ files. Reads files (Ok project)) → AreNames project names → ReadNothing before after
+      → Wrote before after (accepted_line version names) 0 status → Ends version asked before after status
+  answered : (query : Query) (project : Project) → asked ≡ Some (for_look query) → Told before.files (λ files. Reads files (Ok project))
+      → IsAnswered (Replies project query.direction version query.net) before after status → Ends version asked before after status
 
 -- how a run ends whose project isn't loaded
 abbrev pub IsNotLoaded : LoadError → Option (List ℕ) → Option (List ℕ) → ℕ → Type 0

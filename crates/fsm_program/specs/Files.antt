@@ -1,7 +1,7 @@
 -- What was read of a folder, and which project its files are.
-use Rattle.std.specs.Prelude.{◌≡◌, ℕ, List, [], ◌∷◌, take, Option, Some, Result, Ok, Err}
+use Rattle.std.specs.Prelude.{◌≡◌, ◌++◌, ℕ, List, [], ◌∷◌, map, take, Option, Some, Result, Ok, Err, ⊤}
 use Rattle.fsm_io.specs.Causes.{Rose}
-use Rattle.fsm_io.specs.Folders.{Files, file_of, Told}
+use Rattle.fsm_io.specs.Folders.{Asked, AsksFor, Files, file_of, Told}
 use Rattle.regex_ast.specs.declared.fault.Fault.{Fault}
 use Rattle.fsm_meaning.specs.Projects.{Project}
 use Rattle.project_manifest.specs.Manifests.{ManifestView}
@@ -25,18 +25,34 @@ most_read = 1048577
 abbrev pub Names : List ℕ → List ℕ → Type 0
 Names content file = (manifest : ManifestView) × IsManifestFile content manifest × (manifest.files ≡ file ∷ [])
 
--- which files a folder was asked for, where `R` says what a read of a file, of so many bytes at most, may
--- make of it: none, the manifest, or the manifest and then the file that it names
-pub data Asks {S : Type 0} (R : S → List ℕ → ℕ → S → Type 0) (files : Option Files) (old new : S) : Type 0 where
-  for_none : new ≡ old → Asks R files old new
-  for_manifest : R old project_name most_read new → Asks R files old new
-  for_both : (between : S) (manifest name : List ℕ) → R old project_name most_read between → Told files (λ files. (content : List ℕ) × (file_of project_name files ≡ Some content) × (manifest ≡ take most_read content)) → Names manifest name → R between name most_read new → Asks R files old new
+-- a front of the names of the files that the manifest names
+abbrev pub AreNamed : List (List ℕ) → Files → Type 0
+AreNamed [] files = ⊤
+AreNamed (name ∷ names) files =
+    (content : List ℕ) × (manifest : ManifestView) × (rest : List (List ℕ)) × (file_of project_name files ≡ Some content) × IsManifestFile (take most_read content) manifest
+    × (manifest.files ≡ (name ∷ names) ++ rest)
+
+-- a front of the names of the files that a project stands in: the manifest's, and then those that it names
+abbrev pub AreWanted : List (List ℕ) → Files → Type 0
+AreWanted [] files = ⊤
+AreWanted (name ∷ names) files = (name ≡ project_name) × AreNamed names files
+
+-- the folder was asked for these files alone, in their order, each as far as files are read
+abbrev pub AskedForFiles : Option Files → Option (List Asked) → Option (List Asked) → Type 0
+AskedForFiles files old new =
+    (names : List (List ℕ)) × AsksFor old new (map (λ name. record { name = name; most = most_read }) names) × Told files (AreWanted names)
+
+-- why files couldn't be read: their folder failed, or want of memory
+abbrev pub IsReadError : LoadError → ℕ → ℕ → Type 0
+IsReadError Failed before now = Rose before now
+IsReadError (Memory refused) before now = Unit {0}
+IsReadError (Refused fault) before now = ⊥
 
 -- why a project couldn't be loaded: its folder failed, want of memory, or its first fault
 abbrev pub IsLoadError : LoadError → Option Files → ℕ → ℕ → Type 0
 IsLoadError Failed files before now = Rose before now
 IsLoadError (Memory refused) files before now = Unit {0}
-IsLoadError (Refused fault) files before now = Told files (λ files. Reads files (Err fault))
+IsLoadError (Refused fault) files before now = Told files (λ files. Reads files (Err fault)) × ¬ (Rose before now)
 
 -- what was loaded is the project that the files are
 abbrev pub IsLoaded : LoadedView → Option Files → Type 0

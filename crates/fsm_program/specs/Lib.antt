@@ -4,4 +4,5 @@ pub mod Sending
 pub mod Running
 pub mod Files
 pub mod Gathered
+pub mod Outside
 pub mod Ends

@@ -29,25 +29,26 @@ fn look(
     }
 }
 
-/// The reply to a word that is looked up in a network over an alphabet.
+/// The reply to a word that is looked up in a network over an alphabet, at a version.
 pub fn reply_in(
     alloc: Global,
     alphabet: &Alphabet,
     net: &Net,
     direction: Direction,
+    version: u64,
     word: &str,
 ) -> Result<Vec<u8>, AllocError>
     requires over { IsOverAlphabet alphabet.now net.now }
     requires short { length word.now < 2 ^ 32 - 1 }
     ensures { (project : Project) (name : List ℕ) → Shows (record { alphabet = alphabet.now; name = name; net = Some net.now }) project
-        → IfOk result (λ bytes. RepliesToWord project direction 1 name word.now bytes.items) }
+        → IfOk result (λ bytes. RepliesToWord project direction version name word.now bytes.items) }
 {
     match alphabet.tokens(alloc, word) {
         Ok(symbols) => {
             let found = look(alloc, alphabet, net, direction, &symbols)?;
-            answer(alloc, 1, word, &found)
+            answer(alloc, version, word, &found)
         }
-        Err(TokensError::NoSymbol { at }) => symbol(alloc, 1, at, word),
+        Err(TokensError::NoSymbol { at }) => symbol(alloc, version, at, word),
         Err(TokensError::Memory(error)) => Err(error),
     }
 }

@@ -1,11 +1,11 @@
 ghost use Rattle.std.specs.Prelude.{◌≡◌, ◌≤◌, ℕ, List, None, MatchOption, IfOk, IfErr, OnOk};
-ghost use Rattle.fsm_io.specs.Folders.{Finds, Told, file_of};
-ghost use Rattle.fsm_program.specs.Files.{Asks, IsLoadError, IsLoaded, Names, most_read};
+ghost use Rattle.fsm_io.specs.Folders.{Finds, HasAsked, Told, file_of};
+ghost use Rattle.fsm_program.specs.Files.{AskedForFiles, IsLoadError, IsLoaded, IsReadError, Names, most_read};
 ghost use Rattle.fsm_program.specs.Gathered.{HasAdded, IsGathered, IsOfSources, IsWhyNot, SourcesName};
 
 use crate::project::Project;
 use fsm_base::{SymbolTable, Text};
-use fsm_io::{Folder, FolderError, Found};
+use fsm_io::{Folder, FolderError, Found, rose};
 use project_model::{PlanError, Sources, manifest_of, read_project};
 use regex_ast::Fault;
 use std::alloc::{AllocError, Global};
@@ -51,9 +51,9 @@ fn read_file<F: Folder>(
     most: usize,
 ) -> Result<Found, LoadError>
     ensures found { IfOk result (λ found. Told (F.files folder.old) (Finds name.now most found)) }
-    ensures error { IfErr result (λ error. IsLoadError error (F.files folder.old) (F.faults folder.old) (F.faults folder.new)) }
+    ensures error { IfErr result (λ error. IsReadError error (F.faults folder.old) (F.faults folder.new)) }
     ensures files { F.files folder.new ≡ F.files folder.old }
-    ensures asked { F.reads folder.old name.now most folder.new }
+    ensures asked { HasAsked (F.asked folder.old) (F.asked folder.new) name.now most result }
     ensures later { F.faults folder.old ≤ F.faults folder.new }
 {
     match folder.read(alloc, name, most) {
@@ -74,9 +74,9 @@ fn with_file<F: Folder>(
     requires { file_of name.now sources ≡ None }
     ensures added { IfOk result (λ new. Told (F.files folder.old) (HasAdded name.now most sources new)) }
     ensures others { IfOk result (λ new. (other : List ℕ) → (name.now ≡ other → ⊥) → file_of other new ≡ file_of other sources) }
-    ensures error { IfErr result (λ error. IsLoadError error (F.files folder.old) (F.faults folder.old) (F.faults folder.new)) }
+    ensures error { IfErr result (λ error. IsReadError error (F.faults folder.old) (F.faults folder.new)) }
     ensures files { F.files folder.new ≡ F.files folder.old }
-    ensures asked { F.reads folder.old name.now most folder.new }
+    ensures asked { HasAsked (F.asked folder.old) (F.asked folder.new) name.now most result }
     ensures later { F.faults folder.old ≤ F.faults folder.new }
 {
     match read_file(alloc, folder, name, most) {
@@ -103,8 +103,8 @@ fn named_in(alloc: Global, sources: &Sources) -> Result<Option<Text>, AllocError
 fn gather<F: Folder>(alloc: Global, folder: &mut F, most: usize) -> Result<Sources, LoadError>
     requires { most ≡ most_read }
     ensures gathered { IfOk result (λ sources. Told (F.files folder.old) (IsGathered sources)) }
-    ensures error { IfErr result (λ error. IsLoadError error (F.files folder.old) (F.faults folder.old) (F.faults folder.new)) }
-    ensures asked { Asks F.reads (F.files folder.old) folder.old folder.new }
+    ensures error { IfErr result (λ error. IsReadError error (F.faults folder.old) (F.faults folder.new)) }
+    ensures asked { AskedForFiles (F.files folder.old) (F.asked folder.old) (F.asked folder.new) }
     ensures later { F.faults folder.old ≤ F.faults folder.new }
 {
     let sources = with_file(alloc, folder, Sources::new(alloc), "project", most)?;
@@ -127,14 +127,19 @@ fn project_of(alloc: Global, sources: &Sources) -> Result<Project, LoadError>
     }
 }
 
-/// Loads the project of a folder. At most `most` bytes of each of its files are read.
+/// Loads the project of a folder, which has failed too where its count of faults rose and a read went well. At most `most`
+/// bytes of each of its files are read.
 pub fn load<F: Folder>(alloc: Global, folder: &mut F, most: usize) -> Result<Project, LoadError>
     requires { most ≡ most_read }
     ensures loaded { IfOk result (λ project. IsLoaded project (F.files folder.old)) }
     ensures error { IfErr result (λ error. IsLoadError error (F.files folder.old) (F.faults folder.old) (F.faults folder.new)) }
-    ensures asked { Asks F.reads (F.files folder.old) folder.old folder.new }
+    ensures asked { AskedForFiles (F.files folder.old) (F.asked folder.old) (F.asked folder.new) }
     ensures later { F.faults folder.old ≤ F.faults folder.new }
 {
+    let before = folder.faults();
     let sources = gather(alloc, folder, most)?;
+    if rose(before, folder.faults()) {
+        return Err(LoadError::Failed);
+    }
     project_of(alloc, &sources)
 }

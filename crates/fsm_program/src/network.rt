@@ -65,15 +65,16 @@ impl Network {
         })
     }
 
-    /// The reply to a word in Normalization Form C.
+    /// The reply to a word in Normalization Form C, at a version.
     pub fn reply_to(
         &self,
         alloc: Global,
         direction: Direction,
+        version: u64,
         word: &str,
     ) -> Result<Vec<u8>, AllocError>
         requires { length word.now < 2 ^ 32 - 1 }
-        ensures { (project : Meant) → Shows self.now project → IfOk result (λ bytes. RepliesToWord project direction 1 self.now.name word.now bytes.items) }
+        ensures { (project : Meant) → Shows self.now project → IfOk result (λ bytes. RepliesToWord project direction version self.now.name word.now bytes.items) }
     {
         match &self.compiled {
             Some(compiled) => {
@@ -82,10 +83,11 @@ impl Network {
                     self.project.alphabet(),
                     compiled.net(),
                     direction,
+                    version,
                     word,
                 )
             }
-            None => no_net(alloc, 1, self.name.as_str()),
+            None => no_net(alloc, version, self.name.as_str()),
         }
     }
 }

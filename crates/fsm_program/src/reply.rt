@@ -1,6 +1,7 @@
-ghost use Rattle.std.specs.Prelude.{◌≡◌, Some, codes, IfOk};
+ghost use Rattle.std.specs.Prelude.{◌≤◌, Some, codes, length, IfOk};
 ghost use Rattle.fsm_base.specs.Normal.{nfc_of};
 ghost use Rattle.fsm_io.specs.Causes.{HasCause};
+ghost use Rattle.fsm_io.specs.Lines.{most_line};
 ghost use Rattle.fsm_io.specs.Sinks.{Gathers};
 ghost use Rattle.fsm_meaning.specs.Projects.{Project};
 ghost use Rattle.fsm_meaning.specs.Replies.{Replies, RepliesToWord, headed};
@@ -17,63 +18,70 @@ use reply_text::{Head, short};
 use std::alloc::{AllocError, Global};
 use std::str;
 
-/// More bytes than a word has. A line has 4,096 at most, and Normalization Form C makes a text three times as long at
-/// most (Unicode Standard Annex 15, section 3).
-const MOST_WORD: usize = 4 * 4096;
-
-/// Gathers a reply of one word.
-fn put_short<O: Sink>(head: Head, outbox: &mut Outbox, output: &mut O) -> Result<(), Failed>
-    ensures bytes { Gathers (O.held output.old) (O.held output.new) outbox.old (headed 1 (head_word head)) outbox.new result }
-    ensures cause { HasCause (O.faults output.old) (O.faults output.new) result }
-{
-    let mut buf = [0u8; 64];
-    let end = short(1, head, &mut buf);
-    outbox.put(output, &buf[..end])
+/// What lines are looked up in: a name's network, one way or the other, at a version of the project.
+#[derive(Drop)]
+pub struct LookUp {
+    /// The name, and its network if the project defines it.
+    pub network: Network,
+    /// Which words a look-up gives.
+    pub direction: Direction,
+    /// The version's number, which every reply names.
+    pub version: u64,
 }
 
-/// The reply to a word, which is put into Normalization Form C first.
-fn reply_to_word(
-    alloc: Global,
-    network: &Network,
-    direction: Direction,
-    word: &str,
-) -> Result<Vec<u8>, AllocError>
-    ensures { (project : Project) → Shows network.now project → IfOk result (λ bytes. RepliesToWord project direction 1 network.now.name (nfc_of word.now) bytes.items) }
-{
-    let word = nfc(alloc, word)?;
-    // This never comes, since no line's word is so long.
-    if word.as_str().len() > MOST_WORD {
-        return Err(AllocError);
+impl LookUp {
+    /// Gathers a reply of one word.
+    fn put_short<O: Sink>(
+        &self,
+        head: Head,
+        outbox: &mut Outbox,
+        output: &mut O,
+    ) -> Result<(), Failed>
+        ensures bytes { Gathers (O.held output.old) (O.held output.new) outbox.old (headed self.now.version (head_word head)) outbox.new result }
+        ensures cause { HasCause (O.faults output.old) (O.faults output.new) result }
+    {
+        let mut buf = [0u8; 64];
+        let end = short(self.version, head, &mut buf);
+        outbox.put(output, &buf[..end])
     }
-    network.reply_to(alloc, direction, word.as_str())
-}
 
-/// Gathers the reply to a line that isn't long.
-pub fn reply<O: Sink>(
-    alloc: Global,
-    network: &Network,
-    direction: Direction,
-    line: &[u8],
-    outbox: &mut Outbox,
-    output: &mut O,
-) -> Result<(), Failed>
-    ensures sends { (project : Project) → Shows network.now project
-        → Sends (Replies project direction 1 network.now.name (Some line.now)) (O.held output.old) (O.held output.new) outbox.old outbox.new result }
-    ensures cause { HasCause (O.faults output.old) (O.faults output.new) result }
-{
-    match str::from_utf8(without_last(b'\r', line)) {
-        Ok(word) => match reply_to_word(alloc, network, direction, word) {
-            Ok(bytes) => outbox.put(output, &bytes),
-            Err(_) => put_short(Head::Memory, outbox, output),
-        },
-        Err(_) => put_short(Head::Line, outbox, output),
+    /// The reply to a word, which is put into Normalization Form C first.
+    fn reply_to_word(&self, alloc: Global, word: &str) -> Result<Vec<u8>, AllocError>
+        requires { length word.now ≤ most_line }
+        ensures { (project : Project) → Shows self.now.network project → IfOk result (λ bytes. RepliesToWord project self.now.direction self.now.version self.now.network.name (nfc_of word.now) bytes.items) }
+    {
+        let word = nfc(alloc, word)?;
+        self.network
+            .reply_to(alloc, self.direction, self.version, word.as_str())
     }
-}
 
-/// Gathers the reply to a long line.
-pub fn reply_long<O: Sink>(outbox: &mut Outbox, output: &mut O) -> Result<(), Failed>
-    ensures bytes { Gathers (O.held output.old) (O.held output.new) outbox.old (headed 1 (codes "long")) outbox.new result }
-    ensures cause { HasCause (O.faults output.old) (O.faults output.new) result }
-{
-    put_short(Head::Long, outbox, output)
+    /// Gathers the reply to a line that isn't long.
+    pub fn reply<O: Sink>(
+        &self,
+        alloc: Global,
+        line: &[u8],
+        outbox: &mut Outbox,
+        output: &mut O,
+    ) -> Result<(), Failed>
+        requires { length line.now ≤ most_line }
+        ensures sends { (project : Project) → Shows self.now.network project
+            → Sends (Replies project self.now.direction self.now.version self.now.network.name (Some line.now)) (O.held output.old) (O.held output.new) outbox.old outbox.new result }
+        ensures cause { HasCause (O.faults output.old) (O.faults output.new) result }
+    {
+        match str::from_utf8(without_last(b'\r', line)) {
+            Ok(word) => match self.reply_to_word(alloc, word) {
+                Ok(bytes) => outbox.put(output, &bytes),
+                Err(_) => self.put_short(Head::Memory, outbox, output),
+            },
+            Err(_) => self.put_short(Head::Line, outbox, output),
+        }
+    }
+
+    /// Gathers the reply to a long line.
+    pub fn reply_long<O: Sink>(&self, outbox: &mut Outbox, output: &mut O) -> Result<(), Failed>
+        ensures bytes { Gathers (O.held output.old) (O.held output.new) outbox.old (headed self.now.version (codes "long")) outbox.new result }
+        ensures cause { HasCause (O.faults output.old) (O.faults output.new) result }
+    {
+        self.put_short(Head::Long, outbox, output)
+    }
 }
