@@ -1,9 +1,9 @@
 -- How a run ends, by what it did, and what follows of its status.
-use Rattle.std.proofs.Common.{◌≡◌, ◌≢◌, ◌⊎◌, ℕ, List, [], Option, Some, None, Ok, Err, Result, length, refl, sym, subst, ◌∙◌, inl, inr, arith}
+use Rattle.std.proofs.Common.{◌≡◌, ◌≢◌, ◌⊎◌, ℕ, List, [], Option, Some, None, Ok, Err, Result, length, refl, sym, ap, subst, ◌∙◌, inl, inr, arith}
 use Rattle.std.specs.Io.KnownBytes.{Consumes}
 use Rattle.fsm_io.specs.Causes.{Rose}
 use Rattle.fsm_io.specs.Folders.{Files, Told, IsTold}
-use Rattle.fsm_io.specs.Reading.{LinesView, HasTold}
+use Rattle.fsm_io.specs.Reading.{LinesView, at_start}
 use Rattle.regex_ast.specs.declared.fault.Fault.{Fault}
 use Rattle.fsm_meaning.specs.declared.ending.Ending.{Ending}
 use Rattle.fsm_meaning.specs.declared.ending.Ending.TheVariants.{Finished, WriteFailed, ReadFailed, Spent}
@@ -13,7 +13,8 @@ use Rattle.project_model.specs.Reads.{FilesSay}
 use Rattle.project_model.specs.Written.{Planned, project_in}
 use Rattle.fsm_program.specs.Loaded.{AreNames, IsLoadedFrom, LoadedView}
 use Rattle.reply_text.specs.Projects.{accepted_line, refused_line}
-use Rattle.fsm_program.specs.Ends.{Ends, Asked, for_check, for_look, for_help, Loads, Query, no_words, helped, refused, folder_failed, no_memory, checked, answered, IsAnswered, IsNotLoaded, IsSaid, usage_text, status_of}
+use Rattle.fsm_program.specs.Ends.{Ends, Asked, for_check, for_look, for_help, Loads, Query, no_words, helped, refused, folder_failed, no_memory, checked, answered, IsAnswered, IsNotLoaded, usage_text, status_of}
+use Rattle.fsm_program.specs.Outside.{Outside, outside, ReadNothing, WroteNothing, Wrote, FolderFailed, InputFailed, OutputFailed, IsSaid}
 use Rattle.fsm_program.specs.Files.{Reads, IsLoaded, IsLoadError, most_read}
 use Rattle.fsm_program.specs.Running.{most_taken}
 use Rattle.fsm_program.proofs.Loading.{told_so}
@@ -29,17 +30,18 @@ pub most_taken_is : 1099511627776 ≡ most_taken
 unfolding most_taken
 most_taken_is = refl
 
-pub told_most : (lines : LinesView) → ((left : Option (List ℕ)) → HasTold left left 1099511627776 lines []) → (left : Option (List ℕ)) → HasTold left left most_taken lines []
-told_most lines told left = subst (λ (n : ℕ). HasTold left left n lines []) most_taken_is (told left)
+pub start_most : (lines : LinesView) → lines ≡ at_start 1099511627776 → lines ≡ at_start most_taken
+start_most lines start = start ∙ ap (λ (n : ℕ). at_start n) most_taken_is
 
-module _ (what : Asked) (loads : Loads what) (files : Option Files) (faults0 faults : ℕ) where
-  pub ends_unloaded : (left held0 held : Option (List ℕ)) (status : ℕ) (error : LoadError) → IsLoadError error files faults0 faults → IsNotLoaded error held0 held status → Ends (Some what) files faults0 faults left left held0 held status
-  ends_unloaded left held0 held status Failed rose (same, is) = folder_failed what refl loads refl same rose is
-  ends_unloaded left held0 held status (Memory a) u (same, is) = no_memory what refl loads refl same is
-  ends_unloaded left held0 held status (Refused fault) told either =
-      elim either as (λ _. Ends (Some what) files faults0 faults left left held0 held status) [
-        | inl said ↦ refused what fault refl loads told refl said
-        | inr (same, is) ↦ no_memory what refl loads refl same is
+module _ (version : ℕ) (what : Asked) (loads : Loads what) (before after : Outside) where
+  pub ends_unloaded : (status : ℕ) (error : LoadError) → IsLoadError error before.files before.folder_faults after.folder_faults → ReadNothing before after → IsNotLoaded error before.output after.output status
+      → Ends version (Some what) before after status
+  ends_unloaded status Failed rose unread (same, is) = folder_failed what refl loads rose unread same is
+  ends_unloaded status (Memory a) u unread (same, is) = no_memory what refl loads unread same is
+  ends_unloaded status (Refused fault) (told, whole) unread either =
+      elim either as (λ _. Ends version (Some what) before after status) [
+        | inl said ↦ refused what fault refl loads told whole unread said
+        | inr (same, is) ↦ no_memory what refl loads unread same is
       ]
 
 -- what the loaded project is, the files are
@@ -47,18 +49,18 @@ told_reads : (planned : Planned) (files : Option Files) → Told files (λ fs. F
 told_reads planned files told = told_so (λ fs. FilesSay fs [] (Ok planned)) (λ fs. Reads fs (Ok (project_in planned))) files (λ fs said. (planned, said, refl)) told
 
 -- the names of a project were written, or there was no memory for them
-pub ends_checked : (files : Option Files) (faults0 faults : ℕ) (left held0 held : Option (List ℕ)) (status : ℕ) (loaded : LoadedView) → IsLoaded loaded files → (status ≡ 5 → held ≡ held0)
-    → ((planned : Planned) → IsLoadedFrom planned loaded → ((names : List (List ℕ)) × AreNames (project_in planned) names × IsSaid held0 held (accepted_line 1 names) 0 status) ⊎ (status ≡ 5)) → Ends (Some for_check) files faults0 faults left left held0 held status
-ends_checked files faults0 faults left held0 held status loaded (planned, from, told) unwritten said =
-    elim (said planned from) as (λ _. Ends (Some for_check) files faults0 faults left left held0 held status) [
-      | inl (names, are, line) ↦ checked (project_in planned) names refl (told_reads planned files told) are refl line
-      | inr is ↦ no_memory for_check refl tt refl (unwritten is) is
+pub ends_checked : (version : ℕ) (before after : Outside) (status : ℕ) (loaded : LoadedView) → IsLoaded loaded before.files → ReadNothing before after → (status ≡ 5 → WroteNothing before after)
+    → ((planned : Planned) → IsLoadedFrom planned loaded → ((names : List (List ℕ)) × AreNames (project_in planned) names × Wrote before after (accepted_line version names) 0 status) ⊎ (status ≡ 5)) → Ends version (Some for_check) before after status
+ends_checked version before after status loaded (planned, from, told) unread unwritten said =
+    elim (said planned from) as (λ _. Ends version (Some for_check) before after status) [
+      | inl (names, are, line) ↦ checked (project_in planned) names refl (told_reads planned before.files told) are unread line
+      | inr is ↦ no_memory for_check refl tt unread (unwritten is) is
     ]
 
-pub ends_answered : (query : Query) (files : Option Files) (faults0 faults : ℕ) (left0 left held0 held : Option (List ℕ)) (status : ℕ) (loaded : LoadedView) (name : List ℕ) → IsLoaded loaded files → name ≡ query.net
-    → ((planned : Planned) → IsLoadedFrom planned loaded → IsAnswered (Replies (project_in planned) query.direction 1 name) left0 left held0 held status) → Ends (Some (for_look query)) files faults0 faults left0 left held0 held status
-ends_answered query files faults0 faults left0 left held0 held status loaded name (planned, from, told) is answers =
-    answered query (project_in planned) refl (told_reads planned files told) (subst (λ (n : List ℕ). IsAnswered (Replies (project_in planned) query.direction 1 n) left0 left held0 held status) is (answers planned from))
+pub ends_answered : (version : ℕ) (query : Query) (before after : Outside) (status : ℕ) (loaded : LoadedView) (name : List ℕ) → IsLoaded loaded before.files → name ≡ query.net
+    → ((planned : Planned) → IsLoadedFrom planned loaded → IsAnswered (Replies (project_in planned) query.direction version name) before after status) → Ends version (Some (for_look query)) before after status
+ends_answered version query before after status loaded name (planned, from, told) is answers =
+    answered query (project_in planned) refl (told_reads planned before.files told) (subst (λ (n : List ℕ). IsAnswered (Replies (project_in planned) query.direction version n) before after status) is (answers planned from))
 
 -- files say one thing
 one_told : (files : Option Files) (r q : Result Project Fault) → IsTold files (λ fs. Reads fs r) → Told files (λ fs. Reads fs q) → r ≡ q
@@ -103,67 +105,67 @@ answered_other WriteFailed k s e either = absurd (elim either as (λ _. ⊥) [ i
 answered_other ReadFailed k s e either = absurd (elim either as (λ _. ⊥) [ inl is ↦ omega (arith, s, e, is) | inr is ↦ omega (arith, s, e, is) ])
 answered_other Spent k s e either = absurd (elim either as (λ _. ⊥) [ inl is ↦ omega (arith, s, e, is) | inr is ↦ omega (arith, s, e, is) ])
 
-module _ {asked : Option Asked} {files : Option Files} {faults0 faults : ℕ} {left0 left held0 held : Option (List ℕ)} {status : ℕ} where
+module _ {version : ℕ} {asked : Option Asked} {before after : Outside} {status : ℕ} where
   -- words in no form
-  pub unsaid : Ends asked files faults0 faults left0 left held0 held status → asked ≡ None → IsSaid held0 held usage_text 1 status
+  pub unsaid : Ends version asked before after status → asked ≡ None → Wrote before after usage_text 1 status
   unsaid (no_words none l said) e = said
   unsaid (helped is l said) e = asks_none asked for_help e is
-  unsaid (refused what fault is loads told l said) e = asks_none asked what e is
-  unsaid (folder_failed what is loads l h rose s) e = asks_none asked what e is
+  unsaid (refused what fault is loads told held l said) e = asks_none asked what e is
+  unsaid (folder_failed what is loads rose l h s) e = asks_none asked what e is
   unsaid (no_memory what is loads l h s) e = asks_none asked what e is
   unsaid (checked project names is told are l said) e = asks_none asked for_check e is
   unsaid (answered query project is told answers) e = asks_none asked (for_look query) e is
 
   -- help
-  pub help : Ends asked files faults0 faults left0 left held0 held status → asked ≡ Some for_help → IsSaid held0 held usage_text 0 status
+  pub help : Ends version asked before after status → asked ≡ Some for_help → Wrote before after usage_text 0 status
   help (no_words none l said) e = asks_none asked for_help none e
   help (helped is l said) e = said
-  help (refused what fault is loads told l said) e = no_help asked what e is loads
-  help (folder_failed what is loads l h rose s) e = no_help asked what e is loads
+  help (refused what fault is loads told held l said) e = no_help asked what e is loads
+  help (folder_failed what is loads rose l h s) e = no_help asked what e is loads
   help (no_memory what is loads l h s) e = no_help asked what e is loads
   help (checked project names is told are l said) e = no_help asked for_check e is tt
   help (answered query project is told answers) e = no_help asked (for_look query) e is tt
 
   -- a project with a fault
-  pub refusal : Ends asked files faults0 faults left0 left held0 held status → (what : Asked) (fault : Fault) → asked ≡ Some what → Loads what → IsTold files (λ fs. Reads fs (Err fault)) → (Rose faults0 faults → ⊥)
-      → IsSaid held0 held (refused_line fault) 2 status ⊎ (status ≡ 5)
+  pub refusal : Ends version asked before after status → (what : Asked) (fault : Fault) → asked ≡ Some what → Loads what → IsTold before.files (λ fs. Reads fs (Err fault)) → (FolderFailed before after → ⊥)
+      → Wrote before after (refused_line fault) 2 status ⊎ (status ≡ 5)
   refusal (no_words none l said) what fault e loads told whole = asks_none asked what none e
   refusal (helped is l said) what fault e loads told whole = no_help asked what is e loads
-  refusal (refused what' fault' is loads' told' l said) what fault e loads told whole =
-      inl (subst (λ (f : Fault). IsSaid held0 held (refused_line f) 2 status) (sym (same_fault fault fault' (one_told files (Err fault) (Err fault') told told'))) said)
-  refusal (folder_failed what' is loads' l h rose s) what fault e loads told whole = absurd (whole rose)
+  refusal (refused what' fault' is loads' told' held l said) what fault e loads told whole =
+      inl (subst (λ (f : Fault). Wrote before after (refused_line f) 2 status) (sym (same_fault fault fault' (one_told before.files (Err fault) (Err fault') told told'))) said)
+  refusal (folder_failed what' is loads' rose l h s) what fault e loads told whole = absurd (whole rose)
   refusal (no_memory what' is loads' l h s) what fault e loads told whole = inr s
-  refusal (checked project names is told' are l said) what fault e loads told whole = no_fault fault project (one_told files (Err fault) (Ok project) told told')
-  refusal (answered query project is told' answers) what fault e loads told whole = no_fault fault project (one_told files (Err fault) (Ok project) told told')
+  refusal (checked project names is told' are l said) what fault e loads told whole = no_fault fault project (one_told before.files (Err fault) (Ok project) told told')
+  refusal (answered query project is told' answers) what fault e loads told whole = no_fault fault project (one_told before.files (Err fault) (Ok project) told told')
 
   -- a project without, of which the names were asked for
-  pub check : Ends asked files faults0 faults left0 left held0 held status → (project : Project) → asked ≡ Some for_check → IsTold files (λ fs. Reads fs (Ok project)) → (Rose faults0 faults → ⊥)
-      → ((names : List (List ℕ)) × AreNames project names × IsSaid held0 held (accepted_line 1 names) 0 status) ⊎ (status ≡ 5)
+  pub check : Ends version asked before after status → (project : Project) → asked ≡ Some for_check → IsTold before.files (λ fs. Reads fs (Ok project)) → (FolderFailed before after → ⊥)
+      → ((names : List (List ℕ)) × AreNames project names × Wrote before after (accepted_line version names) 0 status) ⊎ (status ≡ 5)
   check (no_words none l said) project e told whole = asks_none asked for_check none e
   check (helped is l said) project e told whole = no_help asked for_check is e tt
-  check (refused what' fault' is loads' told' l said) project e told whole = no_fault fault' project (sym (one_told files (Ok project) (Err fault') told told'))
-  check (folder_failed what' is loads' l h rose s) project e told whole = absurd (whole rose)
+  check (refused what' fault' is loads' told' held l said) project e told whole = no_fault fault' project (sym (one_told before.files (Ok project) (Err fault') told told'))
+  check (folder_failed what' is loads' rose l h s) project e told whole = absurd (whole rose)
   check (no_memory what' is loads' l h s) project e told whole = inr s
   check (checked project' names is told' are l said) project e told whole =
-      inl (names, subst (λ (p : Project). AreNames p names) (sym (same_project project project' (one_told files (Ok project) (Ok project') told told'))) are, said)
+      inl (names, subst (λ (p : Project). AreNames p names) (sym (same_project project project' (one_told before.files (Ok project) (Ok project') told told'))) are, said)
   check (answered query project' is told' answers) project e told whole = check_look asked query e is
 
   -- a project without, in which lines were looked up
-  pub answer : Ends asked files faults0 faults left0 left held0 held status → (query : Query) (project : Project) → asked ≡ Some (for_look query) → IsTold files (λ fs. Reads fs (Ok project)) → (Rose faults0 faults → ⊥)
-      → IsAnswered (Replies project query.direction 1 query.net) left0 left held0 held status ⊎ (status ≡ 5)
+  pub answer : Ends version asked before after status → (query : Query) (project : Project) → asked ≡ Some (for_look query) → IsTold before.files (λ fs. Reads fs (Ok project)) → (FolderFailed before after → ⊥)
+      → IsAnswered (Replies project query.direction version query.net) before after status ⊎ (status ≡ 5)
   answer (no_words none l said) query project e told whole = asks_none asked (for_look query) none e
   answer (helped is l said) query project e told whole = no_help asked (for_look query) is e tt
-  answer (refused what' fault' is loads' told' l said) query project e told whole = no_fault fault' project (sym (one_told files (Ok project) (Err fault') told told'))
-  answer (folder_failed what' is loads' l h rose s) query project e told whole = absurd (whole rose)
+  answer (refused what' fault' is loads' told' held l said) query project e told whole = no_fault fault' project (sym (one_told before.files (Ok project) (Err fault') told told'))
+  answer (folder_failed what' is loads' rose l h s) query project e told whole = absurd (whole rose)
   answer (no_memory what' is loads' l h s) query project e told whole = inr s
   answer (checked project' names is told' are l said) query project e told whole = check_look asked query is e
   answer (answered query' project' is told' answers) query project e told whole =
-      inl (subst (λ (p : Project). IsAnswered (Replies p query.direction 1 query.net) left0 left held0 held status) (sym (same_project project project' (one_told files (Ok project) (Ok project') told told')))
-      (subst (λ (q : Query). IsAnswered (Replies project' q.direction 1 q.net) left0 left held0 held status) (same_query asked query' query is e) answers))
+      inl (subst (λ (p : Project). IsAnswered (Replies p query.direction version query.net) before after status) (sym (same_project project project' (one_told before.files (Ok project) (Ok project') told told')))
+      (subst (λ (q : Query). IsAnswered (Replies project' q.direction version q.net) before after status) (same_query asked query' query is e) answers))
 
   -- with no failure and bytes left to take, all was done or there was no memory
-  pub completes : {I O : Type 0} → Ends asked files faults0 faults left0 left held0 held status → (status ≡ 3 → Rose faults0 faults ⊎ I) → (status ≡ 4 → O) → (what : Asked) (project : Project) → asked ≡ Some what → Loads what
-      → IsTold files (λ fs. Reads fs (Ok project)) → (Rose faults0 faults → ⊥) → (I → ⊥) → (O → ⊥) → status ≢ 6 → (status ≡ 0) ⊎ (status ≡ 5)
+  pub completes : {I O : Type 0} → Ends version asked before after status → (status ≡ 3 → FolderFailed before after ⊎ I) → (status ≡ 4 → O) → (what : Asked) (project : Project) → asked ≡ Some what → Loads what
+      → IsTold before.files (λ fs. Reads fs (Ok project)) → (FolderFailed before after → ⊥) → (I → ⊥) → (O → ⊥) → status ≢ 6 → (status ≡ 0) ⊎ (status ≡ 5)
   completes {I} {O} ends three four what project e loads told whole read written unspent = by what e loads
     where
       by_ending : (ending : Ending) → status ≡ status_of ending → (status ≡ 0) ⊎ (status ≡ 5)
@@ -173,38 +175,38 @@ module _ {asked : Option Asked} {files : Option Files} {faults0 faults : ℕ} {l
       by_ending Spent s = absurd (unspent s)
 
       by : (what : Asked) → asked ≡ Some what → Loads what → (status ≡ 0) ⊎ (status ≡ 5)
-      by for_check e loads = elim (check ends project e told whole) as (λ _. (status ≡ 0) ⊎ (status ≡ 5)) [ inl (names, are, said) ↦ inl (said_whole held0 held said four written) | inr five ↦ inr five ]
+      by for_check e loads = elim (check ends project e told whole) as (λ _. (status ≡ 0) ⊎ (status ≡ 5)) [ inl (names, are, said) ↦ inl (said_whole before.output after.output said four written) | inr five ↦ inr five ]
       by (for_look query) e loads = elim (answer ends query project e told whole) as (λ _. (status ≡ 0) ⊎ (status ≡ 5)) [ inl (ending, s, a) ↦ by_ending ending s | inr five ↦ inr five ]
       by for_help e loads = absurd loads
 
   -- status 1 comes for words in no form
-  pub usage_cause : Ends asked files faults0 faults left0 left held0 held status → status ≡ 1 → asked ≡ None
+  pub usage_cause : Ends version asked before after status → status ≡ 1 → asked ≡ None
   usage_cause (no_words none l said) e = none
-  usage_cause (helped is l said) e = said_other held0 held said e (λ z. omega (arith, z)) (λ z. omega (arith, z))
-  usage_cause (refused what fault is loads told l said) e = said_other held0 held said e (λ z. omega (arith, z)) (λ z. omega (arith, z))
-  usage_cause (folder_failed what is loads l h rose s) e = absurd (omega (arith, s, e))
+  usage_cause (helped is l said) e = said_other before.output after.output said e (λ z. omega (arith, z)) (λ z. omega (arith, z))
+  usage_cause (refused what fault is loads told held l said) e = said_other before.output after.output said e (λ z. omega (arith, z)) (λ z. omega (arith, z))
+  usage_cause (folder_failed what is loads rose l h s) e = absurd (omega (arith, s, e))
   usage_cause (no_memory what is loads l h s) e = absurd (omega (arith, s, e))
-  usage_cause (checked project names is told are l said) e = said_other held0 held said e (λ z. omega (arith, z)) (λ z. omega (arith, z))
+  usage_cause (checked project names is told are l said) e = said_other before.output after.output said e (λ z. omega (arith, z)) (λ z. omega (arith, z))
   usage_cause (answered query project is told (ending, s, a)) e = answered_other ending 1 s e (inl refl)
 
   -- 2 for a project with a fault
-  pub fault_cause : Ends asked files faults0 faults left0 left held0 held status → status ≡ 2 → (fault : Fault) × Told files (λ fs. Reads fs (Err fault))
-  fault_cause (no_words none l said) e = said_other held0 held said e (λ z. omega (arith, z)) (λ z. omega (arith, z))
-  fault_cause (helped is l said) e = said_other held0 held said e (λ z. omega (arith, z)) (λ z. omega (arith, z))
-  fault_cause (refused what fault is loads told l said) e = (fault, told)
-  fault_cause (folder_failed what is loads l h rose s) e = absurd (omega (arith, s, e))
+  pub fault_cause : Ends version asked before after status → status ≡ 2 → (fault : Fault) × Told before.files (λ fs. Reads fs (Err fault)) × ¬ FolderFailed before after
+  fault_cause (no_words none l said) e = said_other before.output after.output said e (λ z. omega (arith, z)) (λ z. omega (arith, z))
+  fault_cause (helped is l said) e = said_other before.output after.output said e (λ z. omega (arith, z)) (λ z. omega (arith, z))
+  fault_cause (refused what fault is loads told held l said) e = (fault, told, held)
+  fault_cause (folder_failed what is loads rose l h s) e = absurd (omega (arith, s, e))
   fault_cause (no_memory what is loads l h s) e = absurd (omega (arith, s, e))
-  fault_cause (checked project names is told are l said) e = said_other held0 held said e (λ z. omega (arith, z)) (λ z. omega (arith, z))
+  fault_cause (checked project names is told are l said) e = said_other before.output after.output said e (λ z. omega (arith, z)) (λ z. omega (arith, z))
   fault_cause (answered query project is told (ending, s, a)) e = answered_other ending 2 s e (inr refl)
 
   -- and 6 where so many bytes were taken
-  pub spent_cause : Ends asked files faults0 faults left0 left held0 held status → status ≡ 6 → (taken : List ℕ) × Consumes left0 left taken × (length taken ≡ most_taken)
-  spent_cause (no_words none l said) e = said_other held0 held said e (λ z. omega (arith, z)) (λ z. omega (arith, z))
-  spent_cause (helped is l said) e = said_other held0 held said e (λ z. omega (arith, z)) (λ z. omega (arith, z))
-  spent_cause (refused what fault is loads told l said) e = said_other held0 held said e (λ z. omega (arith, z)) (λ z. omega (arith, z))
-  spent_cause (folder_failed what is loads l h rose s) e = absurd (omega (arith, s, e))
+  pub spent_cause : Ends version asked before after status → status ≡ 6 → (taken : List ℕ) × Consumes before.input after.input taken × (length taken ≡ most_taken)
+  spent_cause (no_words none l said) e = said_other before.output after.output said e (λ z. omega (arith, z)) (λ z. omega (arith, z))
+  spent_cause (helped is l said) e = said_other before.output after.output said e (λ z. omega (arith, z)) (λ z. omega (arith, z))
+  spent_cause (refused what fault is loads told held l said) e = said_other before.output after.output said e (λ z. omega (arith, z)) (λ z. omega (arith, z))
+  spent_cause (folder_failed what is loads rose l h s) e = absurd (omega (arith, s, e))
   spent_cause (no_memory what is loads l h s) e = absurd (omega (arith, s, e))
-  spent_cause (checked project names is told are l said) e = said_other held0 held said e (λ z. omega (arith, z)) (λ z. omega (arith, z))
+  spent_cause (checked project names is told are l said) e = said_other before.output after.output said e (λ z. omega (arith, z)) (λ z. omega (arith, z))
   spent_cause (answered query project is told (Spent, s, a)) e = (a.taken, a.consumed, a.spends refl)
   spent_cause (answered query project is told (Finished, s, a)) e = absurd (omega (arith, s, e))
   spent_cause (answered query project is told (WriteFailed, s, a)) e = absurd (omega (arith, s, e))

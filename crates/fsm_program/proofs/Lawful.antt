@@ -123,18 +123,18 @@ module _ (alphabet : List (Sym × List ℕ)) (name : List ℕ) (net : Automaton 
   cut_shown : (word : List ℕ) (r : Result (List (List ℕ)) ℕ) → cut (texts_of alphabet) word ≡ r → cut project.alphabet word ≡ r
   cut_shown word r is = ap (λ a. cut a word) shown.alphabet ∙ is
 
-  pub lawful : (direction : Direction) (word : List ℕ) (symbols : List Sym) (found : Found) (bytes : List ℕ) → cut (texts_of alphabet) word ≡ Ok (spelled alphabet symbols) → IsOver (symbols_of alphabet) symbols → Answers (TextsTo direction net alphabet symbols) found
-      → bytes ≡ answer_bytes 1 word found → RepliesToWord project direction 1 name word bytes
-  lawful direction word symbols found bytes is over answers told =
+  pub lawful : (direction : Direction) (version : ℕ) (word : List ℕ) (symbols : List Sym) (found : Found) (bytes : List ℕ) → cut (texts_of alphabet) word ≡ Ok (spelled alphabet symbols) → IsOver (symbols_of alphabet) symbols → Answers (TextsTo direction net alphabet symbols) found
+      → bytes ≡ answer_bytes version word found → RepliesToWord project direction version name word bytes
+  lawful direction version word symbols found bytes is over answers told =
       answered (spelled alphabet symbols) found shown.net.defined (cut_shown word (Ok (spelled alphabet symbols)) is)
       (answers_same (TextsTo direction net alphabet symbols) (Related project direction name (spelled alphabet symbols)) (found_texts direction symbols over) found answers) told
 
-  pub lawful_stop : (direction : Direction) (word : List ℕ) (at : ℕ) (bytes : List ℕ) → cut (texts_of alphabet) word ≡ Err at → bytes ≡ headed 1 (codes "symbol " ++ decimal at ++ 32 ∷ word) → RepliesToWord project direction 1 name word bytes
-  lawful_stop direction word at bytes is told = no_symbol at shown.net.defined (cut_shown word (Err at) is) told
+  pub lawful_stop : (direction : Direction) (version : ℕ) (word : List ℕ) (at : ℕ) (bytes : List ℕ) → cut (texts_of alphabet) word ≡ Err at → bytes ≡ headed version (codes "symbol " ++ decimal at ++ 32 ∷ word) → RepliesToWord project direction version name word bytes
+  lawful_stop direction version word at bytes is told = no_symbol at shown.net.defined (cut_shown word (Err at) is) told
 
 -- a reply in which the name isn't defined
-pub lawful_none : (alphabet : List (Sym × List ℕ)) (name : List ℕ) (project : Project) → Shows (record { alphabet = alphabet; name = name; net = None }) project → (direction : Direction) (word bytes : List ℕ) → bytes ≡ headed 1 (codes "net " ++ name) → RepliesToWord project direction 1 name word bytes
-lawful_none alphabet name project shown direction word bytes told = no_net shown.net told
+pub lawful_none : (alphabet : List (Sym × List ℕ)) (name : List ℕ) (project : Project) → Shows (record { alphabet = alphabet; name = name; net = None }) project → (direction : Direction) (version : ℕ) (word bytes : List ℕ) → bytes ≡ headed version (codes "net " ++ name) → RepliesToWord project direction version name word bytes
+lawful_none alphabet name project shown direction version word bytes told = no_net shown.net told
 
 -- what follows of a value follows of it where it is an answer
 pub if_ok : {A E : Type 0} (P Q : A → Type 0) → ((a : A) → P a → Q a) → (r : Result A E) → IfOk r P → IfOk r Q

@@ -1,19 +1,20 @@
 -- What the files read say of the project, as far as they are told.
-use Rattle.std.proofs.Common.{◌≡◌, ℕ, ◌≤◌, ◌+◌, Bool, true, false, cond, List, [], ◌∷◌, length, take, Some, None, Option, Ok, Err, IfOk, IfErr, MatchOption, Result, refl, sym, ap, subst, ◌∙◌, arith}
+use Rattle.std.proofs.Common.{◌≡◌, ℕ, ◌≤◌, ◌+◌, Bool, true, false, cond, List, [], ◌∷◌, ◌++◌, append_assoc, append-nil, length, take, IsErr, inl, inr, Some, None, Option, Ok, Err, IfOk, IfErr, MatchOption, Result, refl, sym, ap, subst, ◌∙◌, arith}
 use Rattle.std.proofs.lemmas.List.{length-take, take_all}
 use Rattle.std.proofs.lemmas.Slice.Eq.{bytes_eq-Decides}
 use Rattle.std.specs.Option.{option_map}
 use Rattle.std.specs.Str.{bytes_eq}
 use Rattle.std.specs.declared.vec.Vec.{Vec}
 use Rattle.std.specs.declared.alloc.Global.{Global}
-use Rattle.fsm_io.specs.Folders.{Files, file_of, Finds, Told}
+use Rattle.fsm_io.specs.Causes.{Rose}
+use Rattle.fsm_io.specs.Folders.{Asked, AsksFor, HasAsked, Files, file_of, Finds, Told}
 use Rattle.fsm_io.specs.declared.folder.Found.TheVariants.{Bytes, Missing}
 use Rattle.regex_ast.specs.declared.fault.Fault.{Fault}
 use Rattle.project_manifest.specs.Manifests.{ManifestView}
 use Rattle.project_model.specs.Reads.{ContentSays, no_text, has_text, FilesSay, no_project, no_manifest, manifest_says, HasNoText, large, not_utf8, control, IsManifestFile, ManifestSays, no_file, says, most_bytes}
 use Rattle.project_model.specs.Together.{project_name}
 use Rattle.project_model.specs.Written.{Planned}
-use Rattle.fsm_program.specs.Files.{IsLoaded, IsLoadError, Names, Asks, for_both, most_read}
+use Rattle.fsm_program.specs.Files.{IsLoaded, IsLoadError, IsReadError, Names, AreNamed, AreWanted, AskedForFiles, most_read}
 use Rattle.fsm_program.specs.Gathered.{HasAdded, IsGathered, IsOfSources, IsSeen, IsWhyNot, SourcesName}
 use Rattle.fsm_program.specs.Loaded.{LoadedView}
 use Rattle.fsm_program.specs.declared.load.LoadError.{LoadError}
@@ -96,10 +97,10 @@ pub loaded_from : (sources : Files) (files : Option Files) (loaded : LoadedView)
 loaded_from sources files loaded told (planned, from, said) =
     (planned, from, told_so (IsGathered sources) (λ fs. FilesSay fs [] (Ok planned)) files (λ fs gathered. gathered_says sources fs gathered [] (Ok planned) said) told)
 
-pub why_from : (sources : Files) (files : Option Files) (before now : ℕ) (error : LoadError) → Told files (IsGathered sources) → IsWhyNot sources error → IsLoadError error files before now
-why_from sources files before now Failed told why = absurd why
-why_from sources files before now (Memory refused) told why = tt
-why_from sources files before now (Refused fault) told why = told_so (IsGathered sources) (λ fs. FilesSay fs [] (Err fault)) files (λ fs gathered. gathered_says sources fs gathered [] (Err fault) why) told
+pub why_from : (sources : Files) (files : Option Files) (before now : ℕ) (error : LoadError) → Told files (IsGathered sources) → ¬ (Rose before now) → IsWhyNot sources error → IsLoadError error files before now
+why_from sources files before now Failed told held why = absurd why
+why_from sources files before now (Memory refused) told held why = tt
+why_from sources files before now (Refused fault) told held why = (told_so (IsGathered sources) (λ fs. FilesSay fs [] (Err fault)) files (λ fs gathered. gathered_says sources fs gathered [] (Err fault) why) told, held)
 
 -- a file that was found is put beside the sources
 pub added_file : (name : List ℕ) (most : ℕ) (files : Option Files) (bytes : Vec ℕ Global) (old new : Files) → Told files (Finds name most (Bytes bytes)) → ((other : List ℕ) → file_of other new ≡ cond (bytes_eq name other) (Some bytes.items) (file_of other old)) → Told files (HasAdded name most old new)
@@ -185,16 +186,62 @@ pub loads_from : (sources : Files) (files : Option Files) (r : Result LoadedView
 loads_from sources files (Ok loaded) told of_sources = loaded_from sources files loaded told of_sources
 loads_from sources files (Err error) told of_sources = tt
 
-pub fails_from : (sources : Files) (files : Option Files) (before now : ℕ) (r : Result LoadedView LoadError) → Told files (IsGathered sources) → IfErr r (IsWhyNot sources) → IfErr r (λ error. IsLoadError error files before now)
-fails_from sources files before now (Ok loaded) told why = tt
-fails_from sources files before now (Err error) told why = why_from sources files before now error told why
+pub fails_from : (sources : Files) (files : Option Files) (before now : ℕ) (r : Result LoadedView LoadError) → Told files (IsGathered sources) → ¬ (Rose before now) → IfErr r (IsWhyNot sources) → IfErr r (λ error. IsLoadError error files before now)
+fails_from sources files before now (Ok loaded) told held why = tt
+fails_from sources files before now (Err error) told held why = why_from sources files before now error told held why
+
+-- what was asked for in two calls
+asked_twice : (old between new : Option (List Asked)) (first second : List Asked) → AsksFor old between first → AsksFor between new second → AsksFor old new (first ++ second)
+asked_twice None between new first second one two = subst (λ (o : Option (List Asked)). AsksFor o new second) one two
+asked_twice (Some asked) between new first second one two =
+    subst (λ (o : Option (List Asked)). AsksFor o new second) one two ∙ ap (λ (z : List Asked). Some z) (append_assoc asked first second)
+
+-- nothing was asked for
+asked_nothing : (old new : Option (List Asked)) → new ≡ old → AsksFor old new []
+asked_nothing None new same = same
+asked_nothing (Some asked) new same = same ∙ ap (λ (z : List Asked). Some z) (sym (append-nil asked))
+
+pub asks_none : (files : Option Files) (old new : Option (List Asked)) → new ≡ old → AskedForFiles files old new
+asks_none files old new same = ([], asked_nothing old new same, told_all files)
+  where
+    told_all : (files : Option Files) → Told files (AreWanted [])
+    told_all None = tt
+    told_all (Some fs) = tt
+
+whole : List ℕ → Asked
+whole name = record { name = name; most = most_read }
+
+told_manifest : (files : Option Files) → Told files (AreWanted (project_name ∷ []))
+told_manifest None = tt
+told_manifest (Some fs) = (refl, tt)
+
+-- the manifest was asked for
+pub asks_manifest : {T E : Type 0} (files : Option Files) (old new : Option (List Asked)) (most : ℕ) (r : Result T E) → most ≡ most_read → HasAsked old new project_name most r → AskedForFiles files old new
+asks_manifest files old new most r is (inl asked) =
+    (project_name ∷ [], subst (λ (n : ℕ). AsksFor old new (record { name = project_name; most = n } ∷ [])) is asked, told_manifest files)
+asks_manifest files old new most r is (inr none) = asks_none files old new none.1
+
+-- an answer without error came of a request
+pub asked_ok : {T E : Type 0} (old new : Option (List Asked)) (name : List ℕ) (most : ℕ) (r : Result T E) (x : T) → r ≡ Ok x → HasAsked old new name most r → AsksFor old new (record { name = name; most = most } ∷ [])
+asked_ok old new name most r x is (inl asked) = asked
+asked_ok old new name most r x is (inr none) = absurd (subst IsErr is none.0)
+
+-- what was made of an answer asked for the same
+pub asked_so : {T U E F : Type 0} (old new : Option (List Asked)) (name : List ℕ) (most : ℕ) (r : Result T E) (q : Result U F) → (IsErr r → IsErr q) → HasAsked old new name most r → HasAsked old new name most q
+asked_so old new name most r q so (inl asked) = inl asked
+asked_so old new name most r q so (inr none) = inr (so none.0, none.1)
 
 -- the manifest and then the file that it names were asked for
-pub asks_both : {S : Type 0} (R : S → List ℕ → ℕ → S → Type 0) (files : Option Files) (old between new : S) (most : ℕ) (sources : Files) (name : List ℕ) → most ≡ most_read → Told files (HasAdded project_name most [] sources) → SourcesName sources name
-    → R old project_name most between → R between name most new → Asks R files old new
-asks_both {S} R files old between new most sources name is told (content, at, named) first second =
-    for_both between content name
-    (subst (λ n. R old project_name n between) is first)
-    (told_so (HasAdded project_name most [] sources) (λ fs. (whole : List ℕ) × (file_of project_name fs ≡ Some whole) × (content ≡ take most_read whole)) files
-    (λ fs added. seen_some sources fs project_name content (added_seen most is project_name [] sources fs added) at) told)
-    named (subst (λ n. R between name n new) is second)
+pub asks_both : {T E : Type 0} (files : Option Files) (old between new : Option (List Asked)) (most : ℕ) (sources : Files) (name : List ℕ) (second : Result T E) → most ≡ most_read
+    → Told files (HasAdded project_name most [] sources) → SourcesName sources name → AsksFor old between (record { name = project_name; most = most } ∷ []) → HasAsked between new name most second → AskedForFiles files old new
+asks_both {T} {E} files old between new most sources name second is told (content, at, (manifest, file, named)) one (inl two) = (
+  project_name ∷ name ∷ [],
+  asked_twice old between new (whole project_name ∷ []) (whole name ∷ [])
+  (subst (λ (n : ℕ). AsksFor old between (record { name = project_name; most = n } ∷ [])) is one) (subst (λ (n : ℕ). AsksFor between new (record { name = name; most = n } ∷ [])) is two),
+  told_so (HasAdded project_name most [] sources) (AreWanted (project_name ∷ name ∷ [])) files
+  (λ fs added.
+      let (seen, held, cut) = seen_some sources fs project_name content (added_seen most is project_name [] sources fs added) at in
+      (refl, (seen, manifest, [], held, subst (λ (z : List ℕ). IsManifestFile z manifest) cut file, named))) told,
+)
+asks_both {T} {E} files old between new most sources name second is told named one (inr none) =
+    asks_manifest {T} {E} files old new most second is (inl (subst (λ (o : Option (List Asked)). AsksFor old o (record { name = project_name; most = most } ∷ [])) (sym none.1) one))

@@ -2,6 +2,7 @@ pub mod Loaded
 pub mod Networks
 pub mod Sending
 pub mod Running
+pub mod Steps
 pub mod Files
 pub mod Gathered
 pub mod Outside

@@ -15,7 +15,7 @@ mod look_up;
 mod network;
 mod program;
 mod project;
-mod reply;
+mod session;
 mod words;
 
 pub use program::run;

@@ -1,150 +1,87 @@
-ghost use Rattle.std.specs.Prelude.{◌≡◌, ◌<◌, ◌≤◌, ℕ, [], List, Option, Some, None, IfNone, OnOk, is_ok, if◌then◌else◌};
-ghost use Rattle.fsm_io.specs.Causes.{HasCause, Rose};
-ghost use Rattle.fsm_io.specs.Reading.{at_start, size_of};
+ghost use Rattle.std.specs.Prelude.{◌≤◌, Some, codes, length, IfOk};
+ghost use Rattle.fsm_base.specs.Normal.{nfc_of};
+ghost use Rattle.fsm_io.specs.Causes.{HasCause};
+ghost use Rattle.fsm_io.specs.Lines.{most_line};
 ghost use Rattle.fsm_io.specs.Sinks.{Gathers};
 ghost use Rattle.fsm_meaning.specs.Projects.{Project};
-ghost use Rattle.fsm_meaning.specs.Replies.{Replies};
-ghost use Rattle.fsm_meaning.specs.Transcripts.{HasAnswered, WithoutState};
+ghost use Rattle.fsm_meaning.specs.Replies.{Replies, RepliesToWord, headed};
+ghost use Rattle.reply_text.specs.Heads.{head_word};
 ghost use Rattle.fsm_program.specs.Networks.{Shows};
-ghost use Rattle.fsm_program.specs.Running.{MayRead, Sofar, Turns, flushed, most_taken};
+ghost use Rattle.fsm_program.specs.Sending.{Sends};
 
-use crate::reply::LookUp;
-use fsm_io::{Failed, LineEvent, Lines, Outbox, Sink, Source};
-use fsm_meaning::Ending;
-use std::alloc::Global;
+use crate::bytes::without_last;
+use crate::network::Network;
+use fsm_base::nfc;
+use fsm_io::{Failed, Outbox, Sink};
+use fsm_meaning::Direction;
+use reply_text::{Head, short};
+use std::alloc::{AllocError, Global};
+use std::str;
 
-/// Whether a reply was written or gathered, or how that ends the answering.
-fn ending_of(sent: Result<(), Failed>) -> Option<Ending>
-    ensures { result ≡ (if is_ok sent then None else Some Ending.WriteFailed) }
-{
-    match sent {
-        Ok(()) => None,
-        Err(Failed) => Some(Ending::WriteFailed),
-    }
-}
-
-/// A session of look-ups over an input and an output.
+/// What lines are looked up in: a name's network, one way or the other, at a version of the project.
 #[derive(Drop)]
-pub struct Session {
-    /// What the lines are looked up in.
-    pub look_up: LookUp,
-    /// The lines of the input.
-    pub lines: Lines,
-    /// The replies that aren't written yet.
-    pub outbox: Outbox,
+pub struct LookUp {
+    /// The name, and its network if the project defines it.
+    pub network: Network,
+    /// Which words a look-up gives.
+    pub direction: Direction,
+    /// The version's number, which every reply names.
+    pub version: u64,
 }
 
-impl Session {
-    /// Writes the replies that are gathered where the next line needs a read, so that they are seen
-    /// before the input is waited for.
-    fn write_before_read<O: Sink>(&mut self, output: &mut O) -> Result<(), Failed>
-        ensures bytes { Gathers (O.held output.old) (O.held output.new) self.old.outbox [] self.new.outbox result }
-        ensures ready { OnOk result (MayRead self.new.lines self.new.outbox) }
-        ensures others { self.new ≡ record self.old { outbox = self.new.outbox } }
+impl LookUp {
+    /// Gathers a reply of one word.
+    fn put_short<O: Sink>(
+        &self,
+        head: Head,
+        outbox: &mut Outbox,
+        output: &mut O,
+    ) -> Result<(), Failed>
+        ensures bytes { Gathers (O.held output.old) (O.held output.new) outbox.old (headed self.now.version (head_word head)) outbox.new result }
         ensures cause { HasCause (O.faults output.old) (O.faults output.new) result }
     {
-        if self.lines.is_ready() {
-            Ok(())
-        } else {
-            self.outbox.flush(output)
-        }
+        let mut buf = [0u8; 64];
+        let end = short(self.version, head, &mut buf);
+        outbox.put(output, &buf[..end])
     }
 
-    /// Reads a line and gathers its reply, or says how the answering ended.
-    fn answer_line<I: Source, O: Sink>(
-        &mut self,
+    /// The reply to a word, which is put into Normalization Form C first.
+    fn reply_to_word(&self, alloc: Global, word: &str) -> Result<Vec<u8>, AllocError>
+        requires { length word.now ≤ most_line }
+        ensures { (project : Project) → Shows self.now.network project → IfOk result (λ bytes. RepliesToWord project self.now.direction self.now.version self.now.network.name (nfc_of word.now) bytes.items) }
+    {
+        let word = nfc(alloc, word)?;
+        self.network
+            .reply_to(alloc, self.direction, self.version, word.as_str())
+    }
+
+    /// Gathers the reply to a line that isn't long.
+    pub fn reply<O: Sink>(
+        &self,
         alloc: Global,
-        input: &mut I,
+        line: &[u8],
+        outbox: &mut Outbox,
         output: &mut O,
-    ) -> Option<Ending>
-        requires { MayRead self.old.lines self.old.outbox }
-        ensures turns { (project : Project) (budget : ℕ) (left0 held0 : Option (List ℕ)) → Shows self.old.look_up.network project
-            → Sofar (WithoutState (Replies project self.old.look_up.direction self.old.look_up.version self.old.look_up.network.name)) tt budget left0 (I.left input.old) held0 (O.held output.old) self.old.lines self.old.outbox
-            → Turns (WithoutState (Replies project self.old.look_up.direction self.old.look_up.version self.old.look_up.network.name)) tt budget left0 (I.left input.new) held0 (O.held output.new) self.new.lines self.new.outbox result }
-        ensures same { self.new.look_up ≡ self.old.look_up }
-        ensures progress { IfNone result (size_of self.new.lines < size_of self.old.lines) }
-        ensures read { result ≡ Some Ending.ReadFailed → Rose (I.faults input.old) (I.faults input.new) }
-        ensures write { result ≡ Some Ending.WriteFailed → Rose (O.faults output.old) (O.faults output.new) }
-        ensures later_input { I.faults input.old ≤ I.faults input.new }
-        ensures later_output { O.faults output.old ≤ O.faults output.new }
+    ) -> Result<(), Failed>
+        requires { length line.now ≤ most_line }
+        ensures sends { (project : Project) → Shows self.now.network project
+            → Sends (Replies project self.now.direction self.now.version self.now.network.name (Some line.now)) (O.held output.old) (O.held output.new) outbox.old outbox.new result }
+        ensures cause { HasCause (O.faults output.old) (O.faults output.new) result }
     {
-        match self.lines.next(input) {
-            LineEvent::Line => ending_of(self.look_up.reply(
-                alloc,
-                self.lines.text(),
-                &mut self.outbox,
-                output,
-            )),
-            LineEvent::Long => ending_of(self.look_up.reply_long(&mut self.outbox, output)),
-            LineEvent::End => Some(Ending::Finished),
-            LineEvent::Failed => Some(Ending::ReadFailed),
-            LineEvent::Over => Some(Ending::Spent),
-        }
-    }
-
-    /// Answers the next line, after what is gathered was written where that line needs a read. After a failed write the
-    /// input isn't read.
-    fn turn<I: Source, O: Sink>(
-        &mut self,
-        alloc: Global,
-        input: &mut I,
-        output: &mut O,
-    ) -> Option<Ending>
-        ensures turns { (project : Project) (budget : ℕ) (left0 held0 : Option (List ℕ)) → Shows self.old.look_up.network project
-            → Sofar (WithoutState (Replies project self.old.look_up.direction self.old.look_up.version self.old.look_up.network.name)) tt budget left0 (I.left input.old) held0 (O.held output.old) self.old.lines self.old.outbox
-            → Turns (WithoutState (Replies project self.old.look_up.direction self.old.look_up.version self.old.look_up.network.name)) tt budget left0 (I.left input.new) held0 (O.held output.new) self.new.lines self.new.outbox result }
-        ensures same { self.new.look_up ≡ self.old.look_up }
-        ensures progress { IfNone result (size_of self.new.lines < size_of self.old.lines) }
-        ensures read { result ≡ Some Ending.ReadFailed → Rose (I.faults input.old) (I.faults input.new) }
-        ensures write { result ≡ Some Ending.WriteFailed → Rose (O.faults output.old) (O.faults output.new) }
-        ensures later_input { I.faults input.old ≤ I.faults input.new }
-        ensures later_output { O.faults output.old ≤ O.faults output.new }
-    {
-        match self.write_before_read(output) {
-            Ok(()) => self.answer_line(alloc, input, output),
-            Err(Failed) => Some(Ending::WriteFailed),
-        }
-    }
-
-    /// Writes what is still gathered, however the answering ended. A failed write goes before that.
-    fn finish<O: Sink>(&mut self, ending: Ending, output: &mut O) -> Ending
-        ensures failed { ending ≡ Ending.WriteFailed → (result ≡ Ending.WriteFailed) × (output.new ≡ output.old) }
-        ensures written { (result ≡ Ending.WriteFailed → ⊥) → (result ≡ ending) × (self.new.outbox ≡ []) }
-        ensures bytes { (ending ≡ Ending.WriteFailed → ⊥) → Gathers (O.held output.old) (O.held output.new) self.old.outbox [] self.new.outbox (flushed result) }
-        ensures write { (ending ≡ Ending.WriteFailed → ⊥) → result ≡ Ending.WriteFailed → Rose (O.faults output.old) (O.faults output.new) }
-        ensures same { self.new.lines ≡ self.old.lines }
-        ensures later { O.faults output.old ≤ O.faults output.new }
-    {
-        match ending {
-            Ending::WriteFailed => Ending::WriteFailed,
-            ending => match self.outbox.flush(output) {
-                Ok(()) => ending,
-                Err(Failed) => Ending::WriteFailed,
+        match str::from_utf8(without_last(b'\r', line)) {
+            Ok(word) => match self.reply_to_word(alloc, word) {
+                Ok(bytes) => outbox.put(output, &bytes),
+                Err(_) => self.put_short(Head::Memory, outbox, output),
             },
+            Err(_) => self.put_short(Head::Line, outbox, output),
         }
     }
 
-    /// Answers all lines of the input, each by its reply, in their order. The replies are gathered while
-    /// whole lines were read already, and written before the next read and at the end.
-    pub fn answer_all<I: Source, O: Sink>(
-        mut self,
-        alloc: Global,
-        input: &mut I,
-        output: &mut O,
-    ) -> Ending
-        requires start { self.lines ≡ at_start most_taken }
-        requires empty { self.outbox ≡ [] }
-        ensures answered { (project : Project) → Shows self.look_up.network project
-            → HasAnswered (WithoutState (Replies project self.look_up.direction self.look_up.version self.look_up.network.name)) tt most_taken (I.left input.old) (I.left input.new) (O.held output.old) (O.held output.new) result }
-        ensures read { result ≡ Ending.ReadFailed → Rose (I.faults input.old) (I.faults input.new) }
-        ensures write { result ≡ Ending.WriteFailed → Rose (O.faults output.old) (O.faults output.new) }
-        ensures later_input { I.faults input.old ≤ I.faults input.new }
-        ensures later_output { O.faults output.old ≤ O.faults output.new }
+    /// Gathers the reply to a long line.
+    pub fn reply_long<O: Sink>(&self, outbox: &mut Outbox, output: &mut O) -> Result<(), Failed>
+        ensures bytes { Gathers (O.held output.old) (O.held output.new) outbox.old (headed self.now.version (codes "long")) outbox.new result }
+        ensures cause { HasCause (O.faults output.old) (O.faults output.new) result }
     {
-        'lines: loop {
-            if let Some(ending) = self.turn(alloc, input, output) {
-                return self.finish(ending, output);
-            }
-        }
+        self.put_short(Head::Long, outbox, output)
     }
 }

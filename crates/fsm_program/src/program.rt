@@ -3,22 +3,25 @@ ghost use Rattle.std.specs.String.{string_bytes};
 ghost use Rattle.std.specs.Io.KnownBytes.{Consumes};
 ghost use Rattle.fsm_io.specs.Causes.{Rose};
 ghost use Rattle.fsm_io.specs.Folders.{Files, IsTold, Told};
-ghost use Rattle.fsm_io.specs.Reading.{HasTold};
+ghost use Rattle.fsm_io.specs.Reading.{at_start};
 ghost use Rattle.regex_ast.specs.declared.fault.Fault.{Fault};
 ghost use Rattle.fsm_meaning.specs.Projects.{Project as Meant};
 ghost use Rattle.fsm_meaning.specs.Replies.{Replies};
+ghost use Rattle.fsm_meaning.specs.Transcripts.{HasAnswered, WithoutState, first_version};
 ghost use Rattle.project_model.specs.Written.{Planned, project_in};
 ghost use Rattle.fsm_program.specs.Loaded.{AreNames, IsLoadedFrom};
 ghost use Rattle.reply_text.specs.Projects.{accepted_line, refused_line};
-ghost use Rattle.fsm_program.specs.Ends.{Asked, Ends, IsAnswered, IsNotLoaded, IsSaid, IsWhyUnread, Loads, Query, asked_by, asked_of, for_check, for_help, for_look, status_of, usage_text};
-ghost use Rattle.fsm_program.specs.Files.{Asks, Reads};
+ghost use Rattle.fsm_program.specs.Ends.{Asked, Ends, IsNotLoaded, IsWhyUnread, Loads, Query, asked_by, asked_of, for_check, for_help, for_look, status_of, usage_text};
+ghost use Rattle.fsm_program.specs.Files.{AskedForFiles, Reads};
 ghost use Rattle.fsm_program.specs.Networks.{Shows};
+ghost use Rattle.fsm_program.specs.Outside.{IsSaid, outside};
 ghost use Rattle.fsm_program.specs.Running.{most_taken};
 
 use crate::load::{LoadError, load};
-use crate::look_up::look_up_all;
+use crate::look_up::LookUp;
 use crate::network::Network;
 use crate::project::Project;
+use crate::session::Session;
 use crate::words::{Command, WordsError, read_words};
 use fsm_base::Text;
 use fsm_io::{Failed, Folder, Lines, Outbox, Sink, Source, write_all};
@@ -28,6 +31,9 @@ use std::alloc::{AllocError, Global};
 
 /// What is written for help, and where the words are in no form.
 const USAGE: &[u8] = b"check DIR\nup DIR NET\ndown DIR NET\nhelp\n";
+
+/// The number of the version that is loaded.
+const FIRST_VERSION: u64 = 1;
 
 /// The greatest number of bytes taken from the input.
 const MOST_TAKEN: u64 = 1 << 40;
@@ -65,7 +71,8 @@ fn status(ending: Ending) -> u8
 
 /// Ends a run whose words ask for nothing.
 fn not_read<O: Sink>(error: WordsError, output: &mut O) -> u8
-    ensures ends { (asked : Option Asked) (files : Option Files) (faults : ℕ) (left : Option (List ℕ)) → IsWhyUnread asked error → Ends asked files faults faults left left (O.held output.old) (O.held output.new) result }
+    ensures said { error ≡ WordsError.Usage → IsSaid (O.held output.old) (O.held output.new) usage_text 1 result }
+    ensures none { error ≢ WordsError.Usage → (result ≡ 5) × (output.new ≡ output.old) }
     ensures status { (result ≡ 1) ⊎ (result ≡ 4) ⊎ (result ≡ 5) }
     ensures unwritten { result ≡ 5 → output.new ≡ output.old }
     ensures write { result ≡ 4 → Rose (O.faults output.old) (O.faults output.new) }
@@ -95,81 +102,80 @@ fn not_loaded<O: Sink>(alloc: Global, error: LoadError, output: &mut O) -> u8
 }
 
 /// The line of a project without fault.
-fn names_line(alloc: Global, project: &Project) -> Result<Vec<u8>, AllocError>
-    ensures { (planned : Planned) → IsLoadedFrom planned project.now → IfOk result (λ text. (names : List (List ℕ)) × AreNames (project_in planned) names × (text.items ≡ accepted_line 1 names)) }
+fn names_line(alloc: Global, version: u64, project: &Project) -> Result<Vec<u8>, AllocError>
+    ensures { (planned : Planned) → IsLoadedFrom planned project.now → IfOk result (λ text. (names : List (List ℕ)) × AreNames (project_in planned) names × (text.items ≡ accepted_line version names)) }
 {
     let names = project.names(alloc)?;
-    accepted(alloc, 1, &names)
+    accepted(alloc, version, &names)
 }
 
 /// Writes the names of a project.
-fn say_names<O: Sink>(alloc: Global, project: &Project, output: &mut O) -> u8
-    ensures said { (planned : Planned) → IsLoadedFrom planned project.now → ((names : List (List ℕ)) × AreNames (project_in planned) names × IsSaid (O.held output.old) (O.held output.new) (accepted_line 1 names) 0 result) ⊎ (result ≡ 5) }
+fn say_names<O: Sink>(alloc: Global, version: u64, project: &Project, output: &mut O) -> u8
+    ensures said { (planned : Planned) → IsLoadedFrom planned project.now → ((names : List (List ℕ)) × AreNames (project_in planned) names × IsSaid (O.held output.old) (O.held output.new) (accepted_line version names) 0 result) ⊎ (result ≡ 5) }
     ensures status { (result ≡ 0) ⊎ (result ≡ 4) ⊎ (result ≡ 5) }
     ensures unwritten { result ≡ 5 → output.new ≡ output.old }
     ensures write { result ≡ 4 → Rose (O.faults output.old) (O.faults output.new) }
 {
-    match names_line(alloc, project) {
+    match names_line(alloc, version, project) {
         Ok(text) => said(output, &text, 0),
         Err(_) => 5,
     }
 }
 
 /// Checks the folder's project.
-fn check<F: Folder, O: Sink>(alloc: Global, folder: &mut F, output: &mut O) -> u8
-    ensures ends { (left : Option (List ℕ)) → Ends (Some for_check) (F.files folder.old) (F.faults folder.old) (F.faults folder.new) left left (O.held output.old) (O.held output.new) result }
+fn check<F: Folder, O: Sink>(alloc: Global, version: u64, folder: &mut F, output: &mut O) -> u8
+    ensures ends { (left : Option (List ℕ)) (input_faults : ℕ) → Ends version (Some for_check) (outside (F.files folder.old) (F.faults folder.old) left input_faults (O.held output.old) (O.faults output.old)) (outside (F.files folder.new) (F.faults folder.new) left input_faults (O.held output.new) (O.faults output.new)) result }
     ensures unwritten { result ≡ 5 → output.new ≡ output.old }
     ensures read { result ≡ 3 → Rose (F.faults folder.old) (F.faults folder.new) }
     ensures write { result ≡ 4 → Rose (O.faults output.old) (O.faults output.new) }
-    ensures asked { Asks F.reads (F.files folder.old) folder.old folder.new }
+    ensures asked { AskedForFiles (F.files folder.old) (F.asked folder.old) (F.asked folder.new) }
 {
     match load(alloc, folder, MOST_READ) {
-        Ok(project) => say_names(alloc, &project, output),
+        Ok(project) => say_names(alloc, version, &project, output),
         Err(error) => not_loaded(alloc, error, output),
     }
 }
 
-/// Answers the lines of the input in a project that is loaded.
+/// Answers the lines of the input in a session.
 fn answered<I: Source, O: Sink>(
     alloc: Global,
-    network: &Network,
-    direction: Direction,
-    lines: &mut Lines,
-    outbox: &mut Outbox,
+    session: Session,
     input: &mut I,
     output: &mut O,
 ) -> u8
-    requires start { (left : Option (List ℕ)) → HasTold left left most_taken lines.old [] }
-    requires empty { outbox.old ≡ [] }
-    ensures answered { (project : Meant) → Shows network.now project
-        → IsAnswered (Replies project direction 1 network.now.name) (I.left input.old) (I.left input.new) (O.held output.old) (O.held output.new) result }
+    requires start { session.lines ≡ at_start most_taken }
+    requires empty { session.outbox ≡ [] }
+    ensures answered { (project : Meant) → Shows session.look_up.network project
+        → (ending : Ending) × (result ≡ status_of ending)
+        × HasAnswered (WithoutState (Replies project session.look_up.direction session.look_up.version session.look_up.network.name)) tt most_taken (I.left input.old) (I.left input.new) (O.held output.old) (O.held output.new) ending }
     ensures read { result ≡ 3 → Rose (I.faults input.old) (I.faults input.new) }
     ensures write { result ≡ 4 → Rose (O.faults output.old) (O.faults output.new) }
     ensures status { (result ≢ 1) × (result ≢ 2) × (result ≢ 5) }
 {
-    status(look_up_all(alloc, network, direction, lines, outbox, input, output))
+    status(session.answer_all(alloc, input, output))
 }
 
 /// Answers the lines of the input in the folder's project.
 fn look_up<F: Folder, I: Source, O: Sink>(
     alloc: Global,
+    version: u64,
     direction: Direction,
     net: Text,
     folder: &mut F,
     input: &mut I,
     output: &mut O,
 ) -> u8
-    ensures ends { Ends (Some (for_look (record { direction = direction; net = net }))) (F.files folder.old) (F.faults folder.old) (F.faults folder.new) (I.left input.old) (I.left input.new) (O.held output.old) (O.held output.new) result }
+    ensures ends { Ends version (Some (for_look (record { direction = direction; net = net }))) (outside (F.files folder.old) (F.faults folder.old) (I.left input.old) (I.faults input.old) (O.held output.old) (O.faults output.old)) (outside (F.files folder.new) (F.faults folder.new) (I.left input.new) (I.faults input.new) (O.held output.new) (O.faults output.new)) result }
     ensures unread { (result ≡ 1) ⊎ (result ≡ 2) ⊎ (result ≡ 5) → input.new ≡ input.old }
     ensures unwritten { result ≡ 5 → output.new ≡ output.old }
     ensures read { result ≡ 3 → Rose (F.faults folder.old) (F.faults folder.new) ⊎ Rose (I.faults input.old) (I.faults input.new) }
     ensures write { result ≡ 4 → Rose (O.faults output.old) (O.faults output.new) }
-    ensures asked { Asks F.reads (F.files folder.old) folder.old folder.new }
+    ensures asked { AskedForFiles (F.files folder.old) (F.asked folder.old) (F.asked folder.new) }
 {
-    let Ok(mut lines) = Lines::open(alloc, MOST_TAKEN) else {
+    let Ok(lines) = Lines::open(alloc, MOST_TAKEN) else {
         return 5;
     };
-    let Ok(mut outbox) = Outbox::open(alloc, OUTBOX_ROOM) else {
+    let Ok(outbox) = Outbox::open(alloc, OUTBOX_ROOM) else {
         return 5;
     };
     let project = match load(alloc, folder, MOST_READ) {
@@ -177,15 +183,19 @@ fn look_up<F: Folder, I: Source, O: Sink>(
         Err(error) => return not_loaded(alloc, error, output),
     };
     match Network::of(alloc, project, net) {
-        Ok(network) => answered(
-            alloc,
-            &network,
-            direction,
-            &mut lines,
-            &mut outbox,
-            input,
-            output,
-        ),
+        Ok(network) => {
+            let look_up = LookUp {
+                network,
+                direction,
+                version,
+            };
+            let session = Session {
+                look_up,
+                lines,
+                outbox,
+            };
+            answered(alloc, session, input, output)
+        }
         Err(_) => 5,
     }
 }
@@ -193,23 +203,25 @@ fn look_up<F: Folder, I: Source, O: Sink>(
 /// Does what a command asks for.
 fn obey<F: Folder, I: Source, O: Sink>(
     alloc: Global,
+    version: u64,
     command: Command,
     folder: &mut F,
     input: &mut I,
     output: &mut O,
 ) -> u8
-    ensures ends { Ends (Some (asked_by command)) (F.files folder.old) (F.faults folder.old) (F.faults folder.new) (I.left input.old) (I.left input.new) (O.held output.old) (O.held output.new) result }
+    ensures ends { Ends version (Some (asked_by command)) (outside (F.files folder.old) (F.faults folder.old) (I.left input.old) (I.faults input.old) (O.held output.old) (O.faults output.old)) (outside (F.files folder.new) (F.faults folder.new) (I.left input.new) (I.faults input.new) (O.held output.new) (O.faults output.new)) result }
     ensures unread { (result ≡ 1) ⊎ (result ≡ 2) ⊎ (result ≡ 5) → input.new ≡ input.old }
     ensures look_ups_read { ((query : Query) → asked_by command ≢ for_look query) → input.new ≡ input.old }
     ensures unwritten { result ≡ 5 → output.new ≡ output.old }
+    ensures unasked { ¬ (Loads (asked_by command)) → folder.new ≡ folder.old }
     ensures read { result ≡ 3 → Rose (F.faults folder.old) (F.faults folder.new) ⊎ Rose (I.faults input.old) (I.faults input.new) }
     ensures write { result ≡ 4 → Rose (O.faults output.old) (O.faults output.new) }
-    ensures asked { Asks F.reads (F.files folder.old) folder.old folder.new }
+    ensures asked { AskedForFiles (F.files folder.old) (F.asked folder.old) (F.asked folder.new) }
 {
     match command {
-        Command::Check => check(alloc, folder, output),
-        Command::Up { net } => look_up(alloc, Direction::Up, net, folder, input, output),
-        Command::Down { net } => look_up(alloc, Direction::Down, net, folder, input, output),
+        Command::Check => check(alloc, version, folder, output),
+        Command::Up { net } => look_up(alloc, version, Direction::Up, net, folder, input, output),
+        Command::Down { net } => look_up(alloc, version, Direction::Down, net, folder, input, output),
         Command::Help => said(output, USAGE, 0),
     }
 }
@@ -222,16 +234,17 @@ fn ended<F: Folder, I: Source, O: Sink>(
     input: &mut I,
     output: &mut O,
 ) -> u8
-    ensures ends { Ends (asked_of (map string_bytes words.now)) (F.files folder.old) (F.faults folder.old) (F.faults folder.new) (I.left input.old) (I.left input.new) (O.held output.old) (O.held output.new) result }
+    ensures ends { Ends first_version (asked_of (map string_bytes words.now)) (outside (F.files folder.old) (F.faults folder.old) (I.left input.old) (I.faults input.old) (O.held output.old) (O.faults output.old)) (outside (F.files folder.new) (F.faults folder.new) (I.left input.new) (I.faults input.new) (O.held output.new) (O.faults output.new)) result }
     ensures unread { (result ≡ 1) ⊎ (result ≡ 2) ⊎ (result ≡ 5) → input.new ≡ input.old }
     ensures look_ups_read { ((query : Query) → asked_of (map string_bytes words.now) ≢ Some (for_look query)) → input.new ≡ input.old }
     ensures unwritten { result ≡ 5 → output.new ≡ output.old }
+    ensures unasked { ((what : Asked) → asked_of (map string_bytes words.now) ≡ Some what → ¬ (Loads what)) → folder.new ≡ folder.old }
     ensures read { result ≡ 3 → Rose (F.faults folder.old) (F.faults folder.new) ⊎ Rose (I.faults input.old) (I.faults input.new) }
     ensures write { result ≡ 4 → Rose (O.faults output.old) (O.faults output.new) }
-    ensures asked { Asks F.reads (F.files folder.old) folder.old folder.new }
+    ensures asked { AskedForFiles (F.files folder.old) (F.asked folder.old) (F.asked folder.new) }
 {
     match read_words(alloc, words) {
-        Ok(command) => obey(alloc, command, folder, input, output),
+        Ok(command) => obey(alloc, FIRST_VERSION, command, folder, input, output),
         Err(error) => not_read(error, output),
     }
 }
@@ -261,26 +274,27 @@ pub fn run<F: Folder, I: Source, O: Sink>(
     input: &mut I,
     output: &mut O,
 ) -> u8
-    ensures ends { Ends (asked_of (map string_bytes words.now)) (F.files folder.old) (F.faults folder.old) (F.faults folder.new) (I.left input.old) (I.left input.new) (O.held output.old) (O.held output.new) result }
+    ensures ends { Ends first_version (asked_of (map string_bytes words.now)) (outside (F.files folder.old) (F.faults folder.old) (I.left input.old) (I.faults input.old) (O.held output.old) (O.faults output.old)) (outside (F.files folder.new) (F.faults folder.new) (I.left input.new) (I.faults input.new) (O.held output.new) (O.faults output.new)) result }
     ensures usage { result ≡ 1 → asked_of (map string_bytes words.now) ≡ None }
     ensures no_words { asked_of (map string_bytes words.now) ≡ None → IsSaid (O.held output.old) (O.held output.new) usage_text 1 result }
     ensures helped { asked_of (map string_bytes words.now) ≡ Some for_help → IsSaid (O.held output.old) (O.held output.new) usage_text 0 result }
-    ensures fault { result ≡ 2 → (fault : Fault) × Told (F.files folder.old) (λ files. Reads files (Err fault)) }
+    ensures fault { result ≡ 2 → (fault : Fault) × Told (F.files folder.old) (λ files. Reads files (Err fault)) × ¬ (Rose (F.faults folder.old) (F.faults folder.new)) }
     ensures refused { (what : Asked) (fault : Fault) → asked_of (map string_bytes words.now) ≡ Some what → Loads what → IsTold (F.files folder.old) (λ files. Reads files (Err fault)) → ¬ (Rose (F.faults folder.old) (F.faults folder.new))
         → IsSaid (O.held output.old) (O.held output.new) (refused_line fault) 2 result ⊎ (result ≡ 5) }
     ensures checked { (project : Meant) → asked_of (map string_bytes words.now) ≡ Some for_check → IsTold (F.files folder.old) (λ files. Reads files (Ok project)) → ¬ (Rose (F.faults folder.old) (F.faults folder.new))
-        → ((names : List (List ℕ)) × AreNames project names × IsSaid (O.held output.old) (O.held output.new) (accepted_line 1 names) 0 result) ⊎ (result ≡ 5) }
+        → ((names : List (List ℕ)) × AreNames project names × IsSaid (O.held output.old) (O.held output.new) (accepted_line first_version names) 0 result) ⊎ (result ≡ 5) }
     ensures answered { (query : Query) (project : Meant) → asked_of (map string_bytes words.now) ≡ Some (for_look query) → IsTold (F.files folder.old) (λ files. Reads files (Ok project)) → ¬ (Rose (F.faults folder.old) (F.faults folder.new))
-        → IsAnswered (Replies project query.direction 1 query.net) (I.left input.old) (I.left input.new) (O.held output.old) (O.held output.new) result ⊎ (result ≡ 5) }
+        → ((ending : Ending) × (result ≡ status_of ending) × HasAnswered (WithoutState (Replies project query.direction first_version query.net)) tt most_taken (I.left input.old) (I.left input.new) (O.held output.old) (O.held output.new) ending) ⊎ (result ≡ 5) }
     ensures complete { (what : Asked) (project : Meant) → asked_of (map string_bytes words.now) ≡ Some what → Loads what → IsTold (F.files folder.old) (λ files. Reads files (Ok project)) → ¬ (Rose (F.faults folder.old) (F.faults folder.new))
         → ¬ (Rose (I.faults input.old) (I.faults input.new)) → ¬ (Rose (O.faults output.old) (O.faults output.new)) → result ≢ 6 → (result ≡ 0) ⊎ (result ≡ 5) }
     ensures spent { result ≡ 6 → (taken : List ℕ) × Consumes (I.left input.old) (I.left input.new) taken × (length taken ≡ most_taken) }
     ensures unread { (result ≡ 1) ⊎ (result ≡ 2) ⊎ (result ≡ 5) → input.new ≡ input.old }
     ensures look_ups_read { ((query : Query) → asked_of (map string_bytes words.now) ≢ Some (for_look query)) → input.new ≡ input.old }
     ensures unwritten { result ≡ 5 → output.new ≡ output.old }
+    ensures unasked { ((what : Asked) → asked_of (map string_bytes words.now) ≡ Some what → ¬ (Loads what)) → folder.new ≡ folder.old }
     ensures read { result ≡ 3 → Rose (F.faults folder.old) (F.faults folder.new) ⊎ Rose (I.faults input.old) (I.faults input.new) }
     ensures write { result ≡ 4 → Rose (O.faults output.old) (O.faults output.new) }
-    ensures asked { Asks F.reads (F.files folder.old) folder.old folder.new }
+    ensures asked { AskedForFiles (F.files folder.old) (F.asked folder.old) (F.asked folder.new) }
 {
     ended(alloc, words, folder, input, output)
 }

@@ -1,7 +1,7 @@
 use Rattle.std.proofs.Common.{refl, inl, inr}
 use Rattle.project_model.specs.Written.{project_in}
 use Rattle.fsm_program.specs.Ends.{for_look, no_memory}
-use Rattle.fsm_program.proofs.Endings.{most_read_is, told_most, ends_answered, ends_unloaded}
+use Rattle.fsm_program.proofs.Endings.{most_read_is, start_most, ends_answered, ends_unloaded}
 use Rattle.fsm_program.proofs.program.look_up.Goals as goal
 
 pub returns-in_default-clause-ends : goal.returns-in_default-clause-ends
@@ -14,14 +14,14 @@ pub load-requires : goal.load-requires
 load-requires g c = most_read_is
 
 pub answered-requires-clause-start : goal.answered-requires-clause-start
-answered-requires-clause-start g c = told_most c.in-Ok.lines c.in-Ok.ensures.told
+answered-requires-clause-start g c = start_most c.in-Ok.lines c.in-Ok.ensures.start
 
 pub returns-in-Err-clause-ends : goal.returns-in-Err-clause-ends
-returns-in-Err-clause-ends g c = ends_unloaded (for_look _) tt _ _ _ _ _ _ _ c.in-Err.error c.in-Err.ensures.error c.not_loaded.ensures.ends
+returns-in-Err-clause-ends g c = ends_unloaded _ (for_look _) tt _ _ _ c.in-Err.error c.in-Err.ensures.error refl c.not_loaded.ensures.ends
 
 pub returns-in-Ok-of-clause-ends : goal.returns-in-Ok-of-clause-ends
 returns-in-Ok-of-clause-ends g c =
-    ends_answered _ _ _ _ _ _ _ _ _ c.in-Ok-load.project c.in-Ok-of.network.name c.in-Ok-load.ensures.loaded c.in-Ok-of.ensures.name
+    ends_answered _ _ _ _ _ c.in-Ok-load.project c.in-Ok-of.network.name c.in-Ok-load.ensures.loaded c.in-Ok-of.ensures.name
     (λ planned from. c.answered.ensures.answered (project_in planned) (c.in-Ok-of.ensures.shows planned from))
 
 pub returns-in-Ok-of-clause-unread : goal.returns-in-Ok-of-clause-unread
