@@ -22,8 +22,6 @@ mod outbox;
 mod read_source;
 mod sink;
 mod source;
-#[cfg(test)]
-mod tests;
 mod write_sink;
 
 pub use dir_folder::DirFolder;
