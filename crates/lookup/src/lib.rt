@@ -15,8 +15,6 @@ mod moves;
 mod net;
 mod part;
 mod table;
-#[cfg(test)]
-mod tests;
 
 pub use answer::Answer;
 pub use laws::one_kind;

@@ -1,6 +1,6 @@
 use Rattle.std.proofs.Common.{◌≡◌, true, refl, rules}
-use Rattle.lookup.proofs.Over.{over_push}
-use Rattle.lookup.proofs.tests.add_row.Goals as goal
+use Rattle.lookup_trials.proofs.Over.{over_push}
+use Rattle.lookup_trials.proofs.network.add_row.Goals as goal
 
 pub returns : goal.returns
 returns c =
