@@ -10,8 +10,6 @@
 mod automaton;
 mod complete;
 mod place;
-#[cfg(test)]
-mod tests;
 
 pub use automaton::{Edge, Fsa};
 pub use complete::Dfa;

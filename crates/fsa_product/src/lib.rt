@@ -12,6 +12,3 @@ mod search;
 pub use complements::{complement, complement_is_undone};
 pub use products::{both, minus};
 pub use search::{is_empty, shortest};
-
-#[cfg(test)]
-mod tests;

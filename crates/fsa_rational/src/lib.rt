@@ -12,8 +12,6 @@ mod join;
 mod lettered;
 mod reversal;
 mod rows;
-#[cfg(test)]
-mod tests;
 mod translate;
 
 pub use join::{concat, star, union};

@@ -16,7 +16,5 @@ mod merging;
 mod numbering;
 mod reduction;
 mod silent;
-#[cfg(test)]
-mod tests;
 
 pub use reduction::reduced;

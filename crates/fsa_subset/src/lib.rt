@@ -7,6 +7,3 @@ mod places;
 mod subsets;
 
 pub use subsets::determine;
-
-#[cfg(test)]
-mod tests;

@@ -51,15 +51,5 @@ module _ {L : Type 0} (edges : List (Edge L)) (letter : Option L) where
 
 -- edges that enter states below a bound, one edge more, and in another order
 module _ {L : Type 0} (bound : ℕ) where
-  pub AreWithin-nil : AreWithin {L = L} [] bound
-  AreWithin-nil e h = absurd (Contains-nil_cases e h)
-
-  pub AreWithin-push : (edges more : List (Edge L)) (e : Edge L) → more ≡ edges ++ e ∷ [] → e.to < bound → AreWithin edges bound → AreWithin more bound
-  AreWithin-push edges more e is below within f h =
-      elim (Contains-push_cases edges e f (subst (λ es. Contains es f) is h)) [
-        | inl held ↦ within f held
-        | inr same ↦ subst (λ g. g.to < bound) same below
-      ]
-
   pub AreWithin-permutation : (edges others : List (Edge L)) → IsPermutation edges others → AreWithin edges bound → AreWithin others bound
   AreWithin-permutation edges others moved within f h = within f (Contains-permutation others edges f (IsPermutation-sym edges others moved) h)

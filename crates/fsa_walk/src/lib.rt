@@ -13,8 +13,6 @@ mod lazy;
 mod marked;
 mod rows;
 mod table;
-#[cfg(test)]
-mod tests;
 
 pub use closure::{add_targets, close};
 pub use lazy::{Explored, Found, LazyAutomaton, explore};

@@ -16,8 +16,6 @@ mod letters;
 mod longest;
 mod normalize;
 mod symbols;
-#[cfg(test)]
-mod tests;
 mod text;
 
 pub use alphabet::{Alphabet, TokensError};

@@ -23,8 +23,6 @@ mod outbox;
 mod read_source;
 mod sink;
 mod source;
-#[cfg(test)]
-mod tests;
 mod write_sink;
 
 pub use causes::rose;

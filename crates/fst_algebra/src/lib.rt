@@ -9,7 +9,5 @@
 
 mod relabel;
 mod relations;
-#[cfg(test)]
-mod tests;
 
 pub use relations::{cross, identity, inverse, lower, upper};

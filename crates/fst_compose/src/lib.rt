@@ -9,8 +9,6 @@ mod moves;
 mod operand;
 mod pairs;
 mod product;
-#[cfg(test)]
-mod tests;
 mod trim;
 
 pub use composition::compose;

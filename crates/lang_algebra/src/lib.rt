@@ -10,7 +10,5 @@ mod lang;
 mod live;
 mod one_letter;
 mod sources;
-#[cfg(test)]
-mod tests;
 
 pub use lang::Lang;

@@ -6,4 +6,3 @@ pub mod Exploring
 pub mod Paths
 pub mod AnswerKinds
 pub mod Rounds
-pub mod Over

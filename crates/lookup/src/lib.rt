@@ -14,8 +14,6 @@ mod moves;
 mod net;
 mod part;
 mod table;
-#[cfg(test)]
-mod tests;
 
 pub use laws::one_kind;
 pub use look::{down, up};

@@ -1,13 +1,12 @@
 -- Paths one after another, in more edges, and the other way round.
-use Rattle.std.proofs.Common.{◌≡◌, ℕ, ◌<◌, List, [], ◌∷◌, ◌++◌, refl, sym, subst, ap, inl, inr, ◌∙◌, append_assoc, option_to_list, map}
+use Rattle.std.proofs.Common.{◌≡◌, ℕ, List, [], ◌∷◌, ◌++◌, refl, sym, subst, ap, ◌∙◌, append_assoc, option_to_list, map}
 use Rattle.std.specs.List.{Contains}
 use Rattle.std.specs.List.Sorted.{IsPermutation}
 use Rattle.std.proofs.lemmas.List.{append-nil}
-use Rattle.std.proofs.lemmas.List.Elements.{Contains-push_cases}
 use Rattle.std.proofs.lemmas.List.Sorted.{Contains-permutation, IsPermutation-sym}
 use Rattle.fsm_words.proofs.Members.{Contains-map, Contains-map_cases}
 use Rattle.fsa.specs.declared.automaton.Edge.{Edge}
-use Rattle.lookup_graph.specs.Graph.{IsPath, IsWithin, letters_of, Connects, Leads}
+use Rattle.lookup_graph.specs.Graph.{IsPath, letters_of, Connects, Leads}
 use Rattle.lookup_graph.specs.Tree.{turned, AreTurned}
 
 module _ {L : Type 0} (edges : List (Edge L)) where
@@ -66,11 +65,3 @@ are_turned {L = L} edges others rows is moved e = (
       subst P r.2 r.1,
   λ h. Contains-permutation others rows e moved (subst (λ es. Contains es e) (sym is) (Contains-map turned edges (turned e) h)),
 )
-
--- an edge more
-pub within_push : {L : Type 0} (edges more : List (Edge L)) (e : Edge L) (count : ℕ) → more ≡ edges ++ e ∷ [] → e.from < count → e.to < count → IsWithin edges count → IsWithin more count
-within_push edges more e count is from to within f h =
-    elim (Contains-push_cases edges e f (subst (λ es. Contains es f) is h)) [
-      | inl old ↦ within f old
-      | inr same ↦ subst (λ x. (x.from < count) × (x.to < count)) same (from, to)
-    ]

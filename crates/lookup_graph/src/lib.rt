@@ -11,8 +11,6 @@
 
 mod kept;
 mod levels;
-#[cfg(test)]
-mod tests;
 mod tree;
 mod turns;
 

@@ -9,7 +9,7 @@ use Rattle.fsm_words.proofs.Members.{Contains-nil_cases}
 use Rattle.fsm_words.proofs.Places.{slice_get-append_left, slice_get-push}
 use Rattle.fsm_words.specs.Words.{joined}
 use Rattle.fsa.specs.declared.automaton.Edge.{Edge}
-use Rattle.fsm_base.specs.Alphabet.{spelled, symbols_of, text_of}
+use Rattle.fsm_base.specs.Alphabet.{spelled, text_of}
 use Rattle.fsm_base.specs.declared.letters.Sym.{Sym}
 use Rattle.lookup_graph.specs.Graph.{Connects, IsPath, IsWithin, letters_of, start, end}
 use Rattle.lookup_graph.proofs.Paths.{connects-append, connects_among, connects_edge}
@@ -241,12 +241,3 @@ letter_of alphabet edges of e held =
       | None ↦ λ _. tt
       | Some symbol ↦ λ is. of e symbol held is
     ] refl
-
--- an edge more
-pub of_push : (alphabet : List (Sym × List ℕ)) (edges more : List (Edge Sym)) (e : Edge Sym) → more ≡ edges ++ e ∷ [] → ((symbol : Sym) → e.letter ≡ Some symbol → Contains (symbols_of alphabet) symbol)
-    → AreOf alphabet edges → AreOf alphabet more
-of_push alphabet edges more e is new of f symbol h letter =
-    elim (Contains-push_cases edges e f (subst (λ es. Contains es f) is h)) [
-      | inl old ↦ of f symbol old letter
-      | inr same ↦ new symbol (ap (λ x. x.letter) same ∙ letter)
-    ]

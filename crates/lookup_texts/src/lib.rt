@@ -6,8 +6,6 @@
 
 mod bytes;
 mod listing;
-#[cfg(test)]
-mod tests;
 mod texts;
 mod walk;
 

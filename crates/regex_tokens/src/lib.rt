@@ -14,8 +14,6 @@ mod gap;
 mod laws;
 mod lexer;
 mod operator;
-#[cfg(test)]
-mod tests;
 mod token;
 
 pub use front::after;

@@ -10,8 +10,6 @@
 
 mod heads;
 mod projects;
-#[cfg(test)]
-mod tests;
 mod words;
 
 pub use heads::{Head, short};

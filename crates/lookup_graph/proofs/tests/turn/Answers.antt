@@ -1,4 +1,0 @@
-use Rattle.lookup_graph.proofs.tests.turn.Goals as goal
-
-pub find_turn-requires-clause-within : goal.find_turn-requires-clause-within
-find_turn-requires-clause-within c = rw c.deref.ensures.value c.in_ok-edges.ensures
