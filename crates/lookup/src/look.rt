@@ -13,6 +13,7 @@ use crate::net::Net;
 use crate::part::part_of;
 use fsa::Edge;
 use fsm_base::{Alphabet, Sym};
+use lookup_answers::Answer;
 use lookup_graph::{Turn, find_turn, useful};
 use lookup_texts::texts_of;
 use std::alloc::{AllocError, Global};

@@ -6,29 +6,66 @@ use fsm_base::Text;
 use fsm_io::{DirFolder, ReadSource, WriteSink};
 use fsm_program::run;
 use std::alloc::{AllocError, Global};
-use std::env;
+use std::env::{self, FillError};
 use std::io::{self, ErrorKind};
 use std::process::ExitCode;
+use std::rt::Env;
 
 /// The status where there is no memory for the words.
 const NO_MEMORY: u8 = 5;
 
-/// The words behind the program's name, up to the first `--`. Words that aren't UTF-8 are in no form,
-/// as no words are.
-fn words_of(rt: &HostRuntime) -> io::Result<Vec<String>> {
-    let mut words = Vec::new(rt.alloc());
-    let args = match env::args(rt) {
-        Ok(args) => args,
-        Err(error) if error.kind() == ErrorKind::InvalidData => return Ok(words),
-        Err(error) => return Err(error),
-    };
-    'words: for word in args.skip(1) {
-        if word.as_str() == "--" {
-            break;
-        }
-        words.push(word)?;
+/// Whether the argument at this place ends the program's words: it is `--`, or there is none. Arguments are counted from 0,
+/// where the program's name stands.
+fn ends_words(rt: &HostRuntime, place: usize) -> bool {
+    let mut front = [0u8; 3];
+    match rt.arg(place, &mut front) {
+        Ok(count) => count == 2 && front[0] == b'-' && front[1] == b'-',
+        Err(FillError::NotPresent) => true,
+        Err(FillError::TooLong) => false,
     }
-    Ok(words)
+}
+
+/// The arguments before a place alone, so that those behind it aren't read.
+#[derive(Clone, Copy)]
+struct Front<'a> {
+    rt: &'a HostRuntime,
+    end: usize,
+}
+
+impl<'a> Env for Front<'a> {
+    fn arg(&self, i: usize, buf: &mut [u8]) -> Result<usize, FillError> {
+        if i < self.end {
+            self.rt.arg(i, buf)
+        } else {
+            Err(FillError::NotPresent)
+        }
+    }
+
+    fn var(&self, name: &str, buf: &mut [u8]) -> Result<usize, FillError> {
+        self.rt.var(name, buf)
+    }
+
+    fn var_at(&self, i: usize, buf: &mut [u8]) -> Result<usize, FillError> {
+        self.rt.var_at(i, buf)
+    }
+}
+
+/// The words behind the program's name, up to the first `--`. Words that aren't UTF-8 are in no form, as no words are.
+fn words_of(rt: &HostRuntime) -> io::Result<Vec<String>> {
+    let end = (1..usize::MAX)
+        .find(|place| ends_words(rt, *place))
+        .unwrap_or(usize::MAX);
+    let mut words = Vec::new(rt.alloc());
+    match env::args(&(Front { rt, end }, rt.alloc())) {
+        Ok(args) => {
+            'words: for word in args.skip(1) {
+                words.push(word)?;
+            }
+            Ok(words)
+        }
+        Err(error) if error.kind() == ErrorKind::InvalidData => Ok(words),
+        Err(error) => Err(error),
+    }
 }
 
 /// The path of the folder: the second word, or the current folder where there is none.
