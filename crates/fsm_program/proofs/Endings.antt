@@ -13,13 +13,16 @@ use Rattle.project_model.specs.Reads.{FilesSay}
 use Rattle.project_model.specs.Written.{Planned, project_in}
 use Rattle.fsm_program.specs.Loaded.{AreNames, IsLoadedFrom, LoadedView}
 use Rattle.reply_text.specs.Projects.{accepted_line, refused_line}
-use Rattle.fsm_program.specs.Ends.{Ends, Asked, for_check, for_look, for_help, Loads, Query, no_words, helped, refused, folder_failed, no_memory, checked, answered, IsAnswered, IsNotLoaded, usage_text, status_of}
+use Rattle.fsm_program.specs.Ends.{Ends, Asked, for_check, for_look, for_help, Loads, Query, no_words, helped, refused, folder_failed, no_memory, checked, answered, IsAnswered, IsNotLoaded, IsWhyUnread, usage_text, status_of}
 use Rattle.fsm_program.specs.Outside.{Outside, outside, ReadNothing, WroteNothing, Wrote, FolderFailed, InputFailed, OutputFailed, IsSaid}
 use Rattle.fsm_program.specs.Files.{Reads, IsLoaded, IsLoadError, most_read}
 use Rattle.fsm_program.specs.Running.{most_taken}
 use Rattle.fsm_program.proofs.Loading.{told_so}
 use Rattle.fsm_program.proofs.Reading.{one_reading}
 use Rattle.fsm_program.specs.declared.load.LoadError.{LoadError}
+use Rattle.fsm_program.specs.declared.words.WordsError.{WordsError}
+use Rattle.fsm_program.specs.declared.words.WordsError.TheVariants as unread
+use Rattle.fsm_program.specs.declared.words.WordsError.TheVariants.{Usage}
 use Rattle.fsm_program.specs.declared.load.LoadError.TheVariants.{Failed, Memory, Refused}
 
 pub most_read_is : 1048577 ≡ most_read
@@ -43,6 +46,13 @@ module _ (version : ℕ) (what : Asked) (loads : Loads what) (before after : Out
         | inl said ↦ refused what fault refl loads told whole unread said
         | inr (same, is) ↦ no_memory what refl loads unread same is
       ]
+
+-- words that ask for nothing, or for the name in which there was no memory
+pub ends_unread : (version : ℕ) (asked : Option Asked) (error : WordsError) (before after : Outside) (status : ℕ) → IsWhyUnread asked error → ReadNothing before after
+    → (error ≡ Usage → Wrote before after usage_text 1 status) → (error ≢ Usage → (status ≡ 5) × WroteNothing before after) → Ends version asked before after status
+ends_unread version asked Usage before after status why unread said none = no_words why unread (said refl)
+ends_unread version asked (unread.Memory memory) before after status (query, is) nothing said none =
+    let other = none (λ (e : unread.Memory memory ≡ Usage). cc) in no_memory (for_look query) is tt nothing other.1 other.0
 
 -- what the loaded project is, the files are
 told_reads : (planned : Planned) (files : Option Files) → Told files (λ fs. FilesSay fs [] (Ok planned)) → Told files (λ fs. Reads fs (Ok (project_in planned)))

@@ -1,5 +1,5 @@
 -- Bytes without a last byte.
-use Rattle.std.proofs.Common.{◌≡◌, ◌≢◌, ◌⊎◌, ℕ, ◌==◌, Bool, true, false, cond, List, [], ◌∷◌, ◌++◌, All, refl, sym, ap, ◌∙◌, inl, inr}
+use Rattle.std.proofs.Common.{◌≡◌, ◌≢◌, ◌⊎◌, ℕ, ◌==◌, Bool, true, false, cond, List, [], ◌∷◌, ◌++◌, All, ◌≤◌, length, length-append, arith, refl, sym, ap, ◌∙◌, inl, inr}
 use Rattle.std.proofs.lemmas.List.Elements.{All-head, All-tail}
 use Rattle.std.proofs.lemmas.Bool.Decides.{eqb_tells}
 use Rattle.fsm_meaning.specs.Replies.{without_last}
@@ -38,4 +38,11 @@ dropped_cases last (b ∷ []) = elim (eqb_tells b last) as (λ _. (b ∷ [] ≡ 
 dropped_cases last (b ∷ c ∷ bytes) = elim (dropped_cases last (c ∷ bytes)) as (λ _. (b ∷ c ∷ bytes ≡ without_last last (b ∷ c ∷ bytes)) ⊎ (b ∷ c ∷ bytes ≡ without_last last (b ∷ c ∷ bytes) ++ last ∷ [])) [
   | inl e ↦ inl (ap (λ (z : List ℕ). b ∷ z) e)
   | inr e ↦ inr (ap (λ (z : List ℕ). b ∷ z) e)
+]
+
+-- it isn't longer then
+pub length-without_last : (last : ℕ) (bytes : List ℕ) → length (without_last last bytes) ≤ length bytes
+length-without_last last bytes = elim (dropped_cases last bytes) as (λ _. length (without_last last bytes) ≤ length bytes) [
+  | inl e ↦ omega (arith, ap length e)
+  | inr e ↦ omega (arith, ap length e, length-append (without_last last bytes) (last ∷ []))
 ]

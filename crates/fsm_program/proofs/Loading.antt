@@ -1,5 +1,5 @@
 -- What the files read say of the project, as far as they are told.
-use Rattle.std.proofs.Common.{◌≡◌, ℕ, ◌≤◌, ◌+◌, Bool, true, false, cond, List, [], ◌∷◌, ◌++◌, append_assoc, append-nil, length, take, IsErr, inl, inr, Some, None, Option, Ok, Err, IfOk, IfErr, MatchOption, Result, refl, sym, ap, subst, ◌∙◌, arith}
+use Rattle.std.proofs.Common.{◌≡◌, ℕ, ◌≤◌, ◌+◌, Bool, true, false, cond, List, [], ◌∷◌, ◌++◌, append_assoc, append-nil, length, take, ◌⊎◌, inl, inr, Some, None, Option, Ok, Err, IfOk, IfErr, MatchOption, Result, refl, sym, ap, subst, ◌∙◌, arith}
 use Rattle.std.proofs.lemmas.List.{length-take, take_all}
 use Rattle.std.proofs.lemmas.Slice.Eq.{bytes_eq-Decides}
 use Rattle.std.specs.Option.{option_map}
@@ -208,7 +208,7 @@ asks_none files old new same = ([], asked_nothing old new same, told_all files)
     told_all None = tt
     told_all (Some fs) = tt
 
-whole : List ℕ → Asked
+abbrev whole : List ℕ → Asked
 whole name = record { name = name; most = most_read }
 
 told_manifest : (files : Option Files) → Told files (AreWanted (project_name ∷ []))
@@ -221,15 +221,10 @@ asks_manifest files old new most r is (inl asked) =
     (project_name ∷ [], subst (λ (n : ℕ). AsksFor old new (record { name = project_name; most = n } ∷ [])) is asked, told_manifest files)
 asks_manifest files old new most r is (inr none) = asks_none files old new none.1
 
--- an answer without error came of a request
-pub asked_ok : {T E : Type 0} (old new : Option (List Asked)) (name : List ℕ) (most : ℕ) (r : Result T E) (x : T) → r ≡ Ok x → HasAsked old new name most r → AsksFor old new (record { name = name; most = most } ∷ [])
-asked_ok old new name most r x is (inl asked) = asked
-asked_ok old new name most r x is (inr none) = absurd (subst IsErr is none.0)
-
--- what was made of an answer asked for the same
-pub asked_so : {T U E F : Type 0} (old new : Option (List Asked)) (name : List ℕ) (most : ℕ) (r : Result T E) (q : Result U F) → (IsErr r → IsErr q) → HasAsked old new name most r → HasAsked old new name most q
-asked_so old new name most r q so (inl asked) = inl asked
-asked_so old new name most r q so (inr none) = inr (so none.0, none.1)
+-- what was answered without error was asked for
+pub asked_sure : (old new : Option (List Asked)) (requests : List Asked) → AsksFor old new requests ⊎ ((false ≡ true) × (new ≡ old)) → AsksFor old new requests
+asked_sure old new requests (inl asked) = asked
+asked_sure old new requests (inr none) = let clash : false ≡ true = none.0 in cc
 
 -- the manifest and then the file that it names were asked for
 pub asks_both : {T E : Type 0} (files : Option Files) (old between new : Option (List Asked)) (most : ℕ) (sources : Files) (name : List ℕ) (second : Result T E) → most ≡ most_read
@@ -237,11 +232,11 @@ pub asks_both : {T E : Type 0} (files : Option Files) (old between new : Option 
 asks_both {T} {E} files old between new most sources name second is told (content, at, (manifest, file, named)) one (inl two) = (
   project_name ∷ name ∷ [],
   asked_twice old between new (whole project_name ∷ []) (whole name ∷ [])
-  (subst (λ (n : ℕ). AsksFor old between (record { name = project_name; most = n } ∷ [])) is one) (subst (λ (n : ℕ). AsksFor between new (record { name = name; most = n } ∷ [])) is two),
+      (subst (λ (n : ℕ). AsksFor old between (record { name = project_name; most = n } ∷ [])) is one) (subst (λ (n : ℕ). AsksFor between new (record { name = name; most = n } ∷ [])) is two),
   told_so (HasAdded project_name most [] sources) (AreWanted (project_name ∷ name ∷ [])) files
-  (λ fs added.
+      (λ fs added.
       let (seen, held, cut) = seen_some sources fs project_name content (added_seen most is project_name [] sources fs added) at in
       (refl, (seen, manifest, [], held, subst (λ (z : List ℕ). IsManifestFile z manifest) cut file, named))) told,
 )
 asks_both {T} {E} files old between new most sources name second is told named one (inr none) =
-    asks_manifest {T} {E} files old new most second is (inl (subst (λ (o : Option (List Asked)). AsksFor old o (record { name = project_name; most = most } ∷ [])) (sym none.1) one))
+    asks_manifest files old new most second is (inl (subst (λ (o : Option (List Asked)). AsksFor old o (record { name = project_name; most = most } ∷ [])) (sym none.1) one))

@@ -221,7 +221,15 @@ fn obey<F: Folder, I: Source, O: Sink>(
     match command {
         Command::Check => check(alloc, version, folder, output),
         Command::Up { net } => look_up(alloc, version, Direction::Up, net, folder, input, output),
-        Command::Down { net } => look_up(alloc, version, Direction::Down, net, folder, input, output),
+        Command::Down { net } => look_up(
+            alloc,
+            version,
+            Direction::Down,
+            net,
+            folder,
+            input,
+            output,
+        ),
         Command::Help => said(output, USAGE, 0),
     }
 }

@@ -40,7 +40,8 @@ impl Session {
     fn write_before_read<O: Sink>(&mut self, output: &mut O) -> Result<(), Failed>
         ensures bytes { Gathers (O.held output.old) (O.held output.new) self.old.outbox [] self.new.outbox result }
         ensures ready { OnOk result (MayRead self.new.lines self.new.outbox) }
-        ensures others { self.new ≡ record self.old { outbox = self.new.outbox } }
+        ensures same { self.new.look_up ≡ self.old.look_up }
+        ensures lines { self.new.lines ≡ self.old.lines }
         ensures cause { HasCause (O.faults output.old) (O.faults output.new) result }
     {
         if self.lines.is_ready() {
@@ -69,12 +70,10 @@ impl Session {
         ensures later_output { O.faults output.old ≤ O.faults output.new }
     {
         match self.lines.next(input) {
-            LineEvent::Line => ending_of(self.look_up.reply(
-                alloc,
-                self.lines.text(),
-                &mut self.outbox,
-                output,
-            )),
+            LineEvent::Line => ending_of(
+                self.look_up
+                    .reply(alloc, self.lines.text(), &mut self.outbox, output),
+            ),
             LineEvent::Long => ending_of(self.look_up.reply_long(&mut self.outbox, output)),
             LineEvent::End => Some(Ending::Finished),
             LineEvent::Failed => Some(Ending::ReadFailed),

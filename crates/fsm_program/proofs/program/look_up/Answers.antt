@@ -34,5 +34,5 @@ returns-in-Ok-of-clause-unread g c either =
 pub returns-in-Ok-of-clause-read : goal.returns-in-Ok-of-clause-read
 returns-in-Ok-of-clause-read g c three = inr (c.answered.ensures.read three)
 
-pub returns-clause-ends : goal.returns-clause-ends
-returns-clause-ends g c = no_memory (for_look _) refl tt refl refl refl
+pub returns-in-Err-of-clause-ends : goal.returns-in-Err-of-clause-ends
+returns-in-Err-of-clause-ends g c = no_memory (for_look _) refl tt refl refl refl

@@ -1,10 +1,15 @@
-use Rattle.std.proofs.Common.{List, ℕ, codes, refl, sym, subst, ◌∙◌}
+use Rattle.std.proofs.Common.{List, ℕ, codes, length, refl, sym, ap, subst, ◌∙◌, arith}
 use Rattle.std.specs.Str.{IsUtf8}
 use Rattle.std.proofs.lemmas.Str.{IsUtf8-from_is_utf8, is_utf8-from_IsUtf8}
 use Rattle.fsm_base.specs.Normal.{nfc_of}
 use Rattle.fsm_meaning.specs.Replies.{RepliesToWord, headed, no_memory, no_word, word}
+use Rattle.fsm_program.proofs.LastByte.{length-without_last}
 use Rattle.fsm_program.proofs.Sending.{sends_as}
 use Rattle.fsm_program.proofs.look_up.LookUp.reply.Goals as goal
+
+pub reply_to_word-requires : goal.reply_to_word-requires
+reply_to_word-requires g c =
+    omega (arith, c.requires, ap length (c.in-Ok.ensures.cases.0 ∙ c.without_last.ensures), length-without_last 13 c.args.line.now)
 
 pub returns-in-Ok-reply_to_word-clause-sends : goal.returns-in-Ok-reply_to_word-clause-sends
 returns-in-Ok-reply_to_word-clause-sends g c project shown =

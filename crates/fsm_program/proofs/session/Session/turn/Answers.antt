@@ -4,9 +4,9 @@ use Rattle.fsm_program.proofs.session.Session.turn.Goals as goal
 
 pub returns-in-Ok-clause-turns : goal.returns-in-Ok-clause-turns
 returns-in-Ok-clause-turns g c project budget left0 held0 shown sofar =
-    c.answer_line.ensures.turns project budget left0 held0 shown
-    (sofar_flushed (steps project c.args.self.now.look_up) tt _ _ _ _ _ _ _ _ _ _ sofar c.in-Ok.ensures.bytes)
+    let turns = rw (c.in-Ok.ensures.same, c.in-Ok.ensures.lines) at c.answer_line.ensures.turns in
+    turns project budget left0 held0 shown (sofar_flushed (steps project c.args.self.now.look_up) tt _ _ _ _ _ _ _ _ _ _ sofar c.in-Ok.ensures.bytes)
 
 pub returns-in-Err-clause-turns : goal.returns-in-Err-clause-turns
 returns-in-Err-clause-turns g c project budget left0 held0 shown sofar =
-    flush_failed (steps project c.args.self.now.look_up) tt _ _ _ _ _ _ _ _ _ _ sofar c.in-Err.ensures.bytes
+    let failed = flush_failed (steps project c.args.self.now.look_up) tt _ _ _ _ _ _ _ _ _ _ sofar c.in-Err.ensures.bytes in failed
