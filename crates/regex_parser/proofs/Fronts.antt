@@ -162,18 +162,14 @@ no_side (quoted_token cs ∷ rest) e = refl
 no_side (braced_token cs ∷ rest) e = refl
 no_side (run_token r ∷ rest) e = refl
 
-arrow_same : (o p : Bool) (behind rest : List Token) → Some {A = Bool × List Token} (o, behind) ≡ Some (p, rest) → operator (arrow_operator p) ∷ rest ≡ operator (arrow_operator o) ∷ behind
-arrow_same o p behind rest e =
-    let a : Bool × List Token = (o, behind) in
-    let b : Bool × List Token = (p, rest) in
-    let same : a ≡ b = cc in
-    ap (λ (x : Bool × List Token). operator (arrow_operator x.0) ∷ x.1) (sym same)
+arrow_same : (a b : Bool × List Token) → Some a ≡ Some b → operator (arrow_operator b.0) ∷ b.1 ≡ operator (arrow_operator a.0) ∷ a.1
+arrow_same a b e = let same : a ≡ b = cc in ap (λ (x : Bool × List Token). operator (arrow_operator x.0) ∷ x.1) (sym same)
 
 -- the tokens that an arrow begins
 pub arrow_takes : (tokens : List Token) (optional : Bool) (behind : List Token) → Some (optional, behind) ≡ one_of arrow_of tokens → tokens ≡ operator (arrow_operator optional) ∷ behind
 arrow_takes [] optional behind e = absurd cc
-arrow_takes (operator Optional ∷ rest) optional behind e = arrow_same optional true behind rest e
-arrow_takes (operator Arrow ∷ rest) optional behind e = arrow_same optional false behind rest e
+arrow_takes (operator Optional ∷ rest) optional behind e = arrow_same (optional, behind) (true, rest) e
+arrow_takes (operator Arrow ∷ rest) optional behind e = arrow_same (optional, behind) (false, rest) e
 arrow_takes (operator _ ∷ rest) optional behind e = absurd cc
 arrow_takes (_ ∷ rest) optional behind e = absurd cc
 

@@ -1,15 +1,16 @@
 -- What each function of the parser reads, where so many brackets may be opened: the levels of the grammar by name, so that
 -- a proof about one of them sees no other.
-use Rattle.std.specs.Prelude.{ℕ, Bool, None, Some, List, length}
-use Rattle.regex_ast.specs.Terms.{Term, maybe, only}
+use Rattle.std.specs.Prelude.{ℕ, Bool, None, Some, List, [], ◌∷◌, length}
+use Rattle.regex_ast.specs.Terms.{Term, any, edge, maybe, only}
 use Rattle.regex_ast.specs.declared.expr.Prefix.{Prefix}
 use Rattle.regex_ast.specs.declared.expr.Raw.{Raw}
 use Rattle.regex_ast.specs.declared.expr.Suffix.{Suffix}
 use Rattle.regex_grammar.specs.Rows.{Reader, many, option_at}
-use Rattle.regex_grammar.specs.Grammar.{part, ContextTerm, contexts_by, SidedTerm, sided_by, MappingTerm, mapping_by, GroupTerm, group_by, with_ruling}
+use Rattle.regex_grammar.specs.Grammar.{run_term, quoted_term, braced_term, part, ContextTerm, contexts_by, SidedTerm, sided_by, MappingTerm, mapping_by, GroupTerm, group_by, with_ruling}
 use Rattle.regex_grammar.specs.Reading.{is_level, is_backslash, is_prefix, one_of, backslash_of, prefix_of, suffix_at, primary_at, square_at, bracket_at, negated_at, crossed_at, suffixed_at, prefixed_at, ignored_at, concat_at, chain_at, context_at, contexts_at, sided_at, dots_at, right_at, mapping_at, group_tail_at, group_at, replacement_at, ruling_at, insertion_at, nine_at, steps_at, expression_at}
-use Rattle.regex_tokens.specs.declared.token.Operator.TheVariants.{CloseRound}
+use Rattle.regex_tokens.specs.declared.token.Operator.TheVariants.{CloseRound, Question, Edge}
 use Rattle.regex_tokens.specs.declared.token.Token.{Token}
+use Rattle.regex_tokens.specs.declared.token.Token.TheVariants.{Operator as operator, Quoted as quoted_token, Braced as braced_token, Run as run_token}
 use Rattle.regex_parser.specs.Values.{made}
 
 -- What begins an operand.
@@ -29,9 +30,15 @@ suffixes_at tokens = many (is_level 4) suffix_at (length tokens) tokens
 
 -- Levels 1 to 8.
 
--- level 1 where no bracket may be opened
+-- level 1 without brackets
 unfoldable pub leaf_at : Reader Token (Term Raw)
-leaf_at tokens = primary_at (λ inside. None) tokens
+leaf_at [] = None
+leaf_at (run_token r ∷ rest) = Some (run_term r.text r.escaped, rest)
+leaf_at (quoted_token cs ∷ rest) = Some (quoted_term cs, rest)
+leaf_at (braced_token cs ∷ rest) = Some (braced_term cs, rest)
+leaf_at (operator Question ∷ rest) = Some (any, rest)
+leaf_at (operator Edge ∷ rest) = Some (edge, rest)
+leaf_at (operator _ ∷ rest) = None
 
 unfoldable pub square_within : ℕ → Reader Token (Term Raw)
 square_within depth tokens = square_at (expression_at depth) tokens

@@ -38,11 +38,11 @@ ignored-operands-preserved t c =
 
 pub ignored-returns : goal.ignored-returns
 ignored-returns t c =
-    ignored_read c.args.depth c.args.tokens.now c.in-Some.first.expr c.operands.first.expr c.in-Some.rest.now c.operands.more.items c.operands.rest.now (term c.in_ok-ignoring.field-0.expr) (search rules) c.operands.invariant (search rules) c.in_ok-ignoring.ensures
+    ignored_read c.args.depth c.args.tokens.now c.in-Some.first.expr c.in-Some.first.expr c.in-Some.rest.now c.operands.more.items c.operands.rest.now (term c.in_ok-ignoring.field-0.expr) (search rules) c.operands.invariant (search rules) c.in_ok-ignoring.ensures
 
 pub ignored-returns-in_default-2 : goal.ignored-returns-in_default-2
 ignored-returns-in_default-2 t c =
-    ignored_fails c.args.depth c.args.tokens.now c.in-Some.first.expr c.operands.first.expr c.in-Some.rest.now c.operands.more.items c.operands.rest.now c.in-Some-after.next.now (search rules) c.operands.invariant (search rules) (search rules)
+    ignored_fails c.args.depth c.args.tokens.now c.in-Some.first.expr c.in-Some.first.expr c.in-Some.rest.now c.operands.more.items c.operands.rest.now c.in-Some-after.next.now (search rules) c.operands.invariant (search rules) (search rules)
 
 pub ignored-returns-in_default : goal.ignored-returns-in_default
 ignored-returns-in_default t c =
@@ -67,11 +67,11 @@ concatenation-operands-preserved t c =
 
 pub concatenation-returns : goal.concatenation-returns
 concatenation-returns t c =
-    concat_read c.args.depth c.args.tokens.now c.in-Some.first.expr c.operands.first.expr c.in-Some.rest.now c.operands.more.items c.operands.rest.now (term c.in_ok-side_by_side.field-0.expr) (search rules) c.operands.invariant (search rules) c.in_ok-side_by_side.ensures
+    concat_read c.args.depth c.args.tokens.now c.in-Some.first.expr c.in-Some.first.expr c.in-Some.rest.now c.operands.more.items c.operands.rest.now (term c.in_ok-side_by_side.field-0.expr) (search rules) c.operands.invariant (search rules) c.in_ok-side_by_side.ensures
 
 pub concatenation-returns-in_default-2 : goal.concatenation-returns-in_default-2
 concatenation-returns-in_default-2 t c =
-    concat_fails c.args.depth c.args.tokens.now c.in-Some.first.expr c.operands.first.expr c.in-Some.rest.now c.operands.more.items c.operands.rest.now (search rules) c.operands.invariant (search rules) (search rules)
+    concat_fails c.args.depth c.args.tokens.now c.in-Some.first.expr c.in-Some.first.expr c.in-Some.rest.now c.operands.more.items c.operands.rest.now (search rules) c.operands.invariant (search rules) (search rules)
 
 pub concatenation-returns-in_default : goal.concatenation-returns-in_default
 concatenation-returns-in_default t c =
@@ -96,11 +96,11 @@ chain-links-preserved t c =
 
 pub chain-returns : goal.chain-returns
 chain-returns t c =
-    chain_read c.args.depth c.args.tokens.now c.in-Some.first.expr c.links.first.expr c.in-Some.rest.now c.links.links.items c.links.rest.now (term c.in_ok-with_links.field-0.expr) (search rules) c.links.invariant (search rules) c.in_ok-with_links.ensures
+    chain_read c.args.depth c.args.tokens.now c.in-Some.first.expr c.in-Some.first.expr c.in-Some.rest.now c.links.links.items c.links.rest.now (term c.in_ok-with_links.field-0.expr) (search rules) c.links.invariant (search rules) c.in_ok-with_links.ensures
 
 pub chain-returns-in_default-2 : goal.chain-returns-in_default-2
 chain-returns-in_default-2 t c =
-    chain_fails c.args.depth c.args.tokens.now c.in-Some.first.expr c.links.first.expr c.in-Some.rest.now c.links.links.items c.links.rest.now c.in-Some-split_link.operator c.in-Some-split_link.next.now (search rules) c.links.invariant (search rules) (search rules)
+    chain_fails c.args.depth c.args.tokens.now c.in-Some.first.expr c.in-Some.first.expr c.in-Some.rest.now c.links.links.items c.links.rest.now c.in-Some-split_link.operator c.in-Some-split_link.next.now (search rules) c.links.invariant (search rules) (search rules)
 
 pub chain-returns-in_default : goal.chain-returns-in_default
 chain-returns-in_default t c =
@@ -125,11 +125,11 @@ steps-steps-preserved t c =
 
 pub steps-returns : goal.steps-returns
 steps-returns t c =
-    steps_read c.args.depth c.args.tokens.now c.in-Some.first.expr c.steps.first.expr c.in-Some.rest.now c.steps.found.items c.steps.rest.now (term c.in_ok-with_steps.field-0.expr) (search rules) c.steps.invariant (search rules) c.in_ok-with_steps.ensures
+    steps_read c.args.depth c.args.tokens.now c.in-Some.first.expr c.in-Some.first.expr c.in-Some.rest.now c.steps.found.items c.steps.rest.now (term c.in_ok-with_steps.field-0.expr) (search rules) c.steps.invariant (search rules) c.in_ok-with_steps.ensures
 
 pub steps-returns-in_default-2 : goal.steps-returns-in_default-2
 steps-returns-in_default-2 t c =
-    steps_fails c.args.depth c.args.tokens.now c.in-Some.first.expr c.steps.first.expr c.in-Some.rest.now c.steps.found.items c.steps.rest.now c.in-Some-split_step.operator c.in-Some-split_step.next.now (search rules) c.steps.invariant (search rules) (search rules)
+    steps_fails c.args.depth c.args.tokens.now c.in-Some.first.expr c.in-Some.first.expr c.in-Some.rest.now c.steps.found.items c.steps.rest.now c.in-Some-split_step.operator c.in-Some-split_step.next.now (search rules) c.steps.invariant (search rules) (search rules)
 
 pub steps-returns-in_default : goal.steps-returns-in_default
 steps-returns-in_default t c =
@@ -383,7 +383,7 @@ right_side-returns-in_default-2 t c =
 
 pub right_side-returns-in-Some-after : goal.right_side-returns-in-Some-after
 right_side-returns-in-Some-after t c =
-    let e = right_marked c.args.depth (term c.args.centre.expr) c.args.tokens.now (term c.in-Some-2.result.expr) c.in-Some-2.rest.now c.in-Some-after.behind.now (search rules) (search rules) (search rules) in rw (← e) c.marks.ensures
+    let e = right_marked c.args.depth (term c.args.centre.expr) c.args.tokens.now (term c.in-Some-2.result.expr) c.in-Some-2.rest.now c.in-Some-after.behind.now (search rules) (search rules) (search rules) in rw (← e) c.marks-in-Some-after.ensures
 
 pub right_side-returns : goal.right_side-returns
 right_side-returns t c =
