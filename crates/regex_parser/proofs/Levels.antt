@@ -1,5 +1,5 @@
 -- Levels 1 to 8 and 10 as they are read, by the names of `specs/Levels.antt`.
-use Rattle.std.proofs.Common.{◌≡◌, ℕ, zero, suc, ◌-◌, Bool, true, false, cond, Option, Some, None, List, [], ◌∷◌, ◌++◌, length, map, refl, sym, ap, ◌∙◌, arith}
+use Rattle.std.proofs.Common.{◌≡◌, ℕ, zero, suc, ◌-◌, Bool, true, false, cond, Option, Some, None, List, [], ◌∷◌, length, map, refl, sym, ap, ◌∙◌, arith}
 use Rattle.std.specs.Bool.{⊤}
 use Rattle.std.specs.Option.{option_map, option_and_then}
 use Rattle.regex_ast.specs.Terms.{Term, term, empty, group, maybe, cross}
@@ -15,9 +15,9 @@ use Rattle.regex_tokens.specs.declared.token.Operator.TheVariants.{Slash, Colon,
 use Rattle.regex_tokens.specs.declared.token.Token.{Token}
 use Rattle.regex_tokens.specs.declared.token.Token.TheVariants.{Operator as operator, Quoted as quoted_token, Braced as braced_token, Run as run_token}
 use Rattle.regex_tokens.proofs.Fronts.{after_takes, after_again}
-use Rattle.regex_grammar.specs.Rows.{Reader, begins, many, row_at, option_at}
+use Rattle.regex_grammar.specs.Rows.{Reader, begins, many, option_at}
 use Rattle.regex_grammar.specs.Grammar.{with_backslashes, with_suffixes, with_prefixes, with_lower, ignoring, side_by_side, Linked, with_links, StepForm, with_steps}
-use Rattle.regex_grammar.specs.Reading.{is_level, is_backslash, is_prefix, behind_at, one_of, backslash_of, prefix_of, suffix_at, linked_of, link_at, step_of, step_at, bracket_at, square_by, primary_at, negated_at, crossed_at, suffixed_at, prefixed_at, ignored_at, concat_at, chain_at, nine_at, steps_at, expression_at}
+use Rattle.regex_grammar.specs.Reading.{is_level, is_backslash, behind_at, one_of, backslash_of, suffix_at, linked_of, link_at, step_of, step_at, bracket_at, square_by, primary_at, negated_at, suffixed_at, prefixed_at, ignored_at, concat_at, chain_at, nine_at, steps_at, expression_at}
 use Rattle.regex_grammar.proofs.Exact.{exact_shorter}
 use Rattle.regex_grammar.proofs.Operators.{behind_exact}
 use Rattle.regex_grammar.proofs.Levels5to8.{prefixed_exact, ignored_exact, concat_exact, link_exact, chain_exact}

@@ -10,7 +10,7 @@ use Rattle.regex_ast.specs.declared.expr.Side.{Side}
 use Rattle.regex_ast.specs.declared.expr.Side.TheVariants.{UpUp as up_up}
 use Rattle.regex_grammar.specs.Rows.{Reader, begins, option_at, row_at}
 use Rattle.regex_grammar.specs.Grammar.{part, ContextTerm, contexts_by, in_a_row, SidedTerm, sided_by, RightTerm, right_and_more, MappingTerm, plain_mapping, marking, inserting, mapping_by, marks_term, GroupTerm, group_by, group_tail_by, groups_by, RulingTerm, restriction, replacement_by, with_ruling, insertion_by, arrow_operator}
-use Rattle.regex_grammar.specs.Reading.{is_level, behind_at, one_of, side_of, arrow_of, context_at, context_behind, contexts_at, sided_at, dots_at, right_by, right_from, right_at, mapping_at, group_tail_at, group_at, replacement_at, ruling_at, nine_by, expression_at}
+use Rattle.regex_grammar.specs.Reading.{is_level, behind_at, one_of, side_of, arrow_of, context_at, context_behind, contexts_at, sided_at, dots_at, right_by, right_from, right_at, mapping_at, group_tail_at, group_at, replacement_at, ruling_at, nine_by}
 use Rattle.regex_grammar.proofs.Exact.{exact_shorter}
 use Rattle.regex_grammar.proofs.Operators.{behind_exact}
 use Rattle.regex_grammar.proofs.Levels5to8.{chain_exact}

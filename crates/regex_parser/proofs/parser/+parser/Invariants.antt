@@ -1,5 +1,4 @@
-use Rattle.std.proofs.Common.{◌+◌, ◌*◌, length, map}
-use Rattle.regex_parser.specs.Values.{context_value, mapping_value, group_value}
+use Rattle.std.proofs.Common.{◌+◌, ◌*◌, length}
 use Rattle.regex_parser.proofs.Levels.{IgnoredSoFar, ConcatSoFar, ChainSoFar, StepsSoFar}
 use Rattle.regex_parser.proofs.Rules.{ContextsSoFar, MappingsSoFar, GroupsSoFar}
 use Rattle.regex_parser.proofs.parser.+parser.Given as goal
