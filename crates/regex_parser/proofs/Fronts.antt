@@ -6,14 +6,15 @@ use Rattle.regex_parser.specs.Values.{made}
 use Rattle.regex_ast.specs.Terms.{Term}
 use Rattle.regex_ast.specs.declared.expr.Prefix.{Prefix}
 use Rattle.regex_ast.specs.declared.expr.Raw.{Raw}
+use Rattle.regex_ast.specs.declared.expr.Side.{Side}
 use Rattle.regex_ast.specs.declared.expr.Suffix.{Suffix}
 use Rattle.regex_grammar.specs.Rows.{begins, Reader}
-use Rattle.regex_grammar.specs.Reading.{is_level, is_backslash, is_prefix, behind_at, one_of, backslash_of, prefix_of, suffix_at, power_at, power_of, linked_of, step_of}
-use Rattle.regex_grammar.specs.Grammar.{Linked, StepForm}
+use Rattle.regex_grammar.specs.Reading.{is_level, is_backslash, is_prefix, behind_at, one_of, backslash_of, prefix_of, suffix_at, power_at, power_of, linked_of, step_of, side_of, arrow_of}
+use Rattle.regex_grammar.specs.Grammar.{Linked, StepForm, arrow_operator}
 use Rattle.regex_tokens.proofs.Fronts.{after_takes, after_again}
 use Rattle.regex_tokens.specs.Fronts.{after}
 use Rattle.regex_tokens.specs.declared.token.Operator.{Operator}
-use Rattle.regex_tokens.specs.declared.token.Operator.TheVariants.{Backslash, Tilde, Dollar, Star, Plus, Caret, Upper, Lower, Inverse, Reverse, Bar, Ampersand, Minus, CrossWith, Then, Slash, Comma, GroupComma}
+use Rattle.regex_tokens.specs.declared.token.Operator.TheVariants.{Backslash, Tilde, Dollar, Star, Plus, Caret, Upper, Lower, Inverse, Reverse, Bar, Ampersand, Minus, CrossWith, Then, UpUp, LowUp, UpLow, LowLow, Optional, Arrow, Only, Slash, Colon, Comma, GroupComma}
 use Rattle.regex_tokens.specs.declared.token.Token.{Token}
 use Rattle.regex_tokens.specs.declared.token.Token.TheVariants.{Operator as operator, Quoted as quoted_token, Braced as braced_token, Run as run_token}
 
@@ -117,6 +118,14 @@ no_slash (quoted_token cs ∷ rest) e = refl
 no_slash (braced_token cs ∷ rest) e = refl
 no_slash (run_token r ∷ rest) e = refl
 
+pub no_colon : (tokens : List Token) → None ≡ after Colon tokens → begins (is_level 3) tokens ≡ false
+no_colon [] e = refl
+no_colon (operator Colon ∷ rest) e = let clash : None ≡ Some rest = e ∙ after_again Colon rest in absurd cc
+no_colon (operator _ ∷ rest) e = refl
+no_colon (quoted_token cs ∷ rest) e = refl
+no_colon (braced_token cs ∷ rest) e = refl
+no_colon (run_token r ∷ rest) e = refl
+
 pub no_comma : (tokens : List Token) → None ≡ after Comma tokens → begins (is_level 11) tokens ≡ false
 no_comma [] e = refl
 no_comma (operator Comma ∷ rest) e = let clash : None ≡ Some rest = e ∙ after_again Comma rest in absurd cc
@@ -132,6 +141,47 @@ no_group_comma (operator _ ∷ rest) e = refl
 no_group_comma (quoted_token cs ∷ rest) e = refl
 no_group_comma (braced_token cs ∷ rest) e = refl
 no_group_comma (run_token r ∷ rest) e = refl
+
+pub side_begins : (tokens : List Token) (x : Side × List Token) → one_of side_of tokens ≡ Some x → begins (is_level 12) tokens ≡ true
+side_begins [] x e = absurd cc
+side_begins (operator UpUp ∷ rest) x e = refl
+side_begins (operator LowUp ∷ rest) x e = refl
+side_begins (operator UpLow ∷ rest) x e = refl
+side_begins (operator LowLow ∷ rest) x e = refl
+side_begins (operator _ ∷ rest) x e = absurd cc
+side_begins (_ ∷ rest) x e = absurd cc
+
+pub no_side : (tokens : List Token) → None ≡ one_of side_of tokens → begins (is_level 12) tokens ≡ false
+no_side [] e = refl
+no_side (operator UpUp ∷ rest) e = absurd cc
+no_side (operator LowUp ∷ rest) e = absurd cc
+no_side (operator UpLow ∷ rest) e = absurd cc
+no_side (operator LowLow ∷ rest) e = absurd cc
+no_side (operator _ ∷ rest) e = refl
+no_side (quoted_token cs ∷ rest) e = refl
+no_side (braced_token cs ∷ rest) e = refl
+no_side (run_token r ∷ rest) e = refl
+
+arrow_same : (a b : Bool × List Token) → Some a ≡ Some b → operator (arrow_operator b.0) ∷ b.1 ≡ operator (arrow_operator a.0) ∷ a.1
+arrow_same a b e = let same : a ≡ b = cc in ap (λ (x : Bool × List Token). operator (arrow_operator x.0) ∷ x.1) (sym same)
+
+-- the tokens that an arrow begins
+pub arrow_takes : (tokens : List Token) (optional : Bool) (behind : List Token) → Some (optional, behind) ≡ one_of arrow_of tokens → tokens ≡ operator (arrow_operator optional) ∷ behind
+arrow_takes [] optional behind e = absurd cc
+arrow_takes (operator Optional ∷ rest) optional behind e = arrow_same (optional, behind) (true, rest) e
+arrow_takes (operator Arrow ∷ rest) optional behind e = arrow_same (optional, behind) (false, rest) e
+arrow_takes (operator _ ∷ rest) optional behind e = absurd cc
+arrow_takes (_ ∷ rest) optional behind e = absurd cc
+
+pub no_ruling : (tokens : List Token) → None ≡ after Only tokens → None ≡ one_of arrow_of tokens → begins (is_level 14) tokens ≡ false
+no_ruling [] d e = refl
+no_ruling (operator Only ∷ rest) d e = let clash : None ≡ Some rest = d ∙ after_again Only rest in absurd cc
+no_ruling (operator Optional ∷ rest) d e = absurd cc
+no_ruling (operator Arrow ∷ rest) d e = absurd cc
+no_ruling (operator _ ∷ rest) d e = refl
+no_ruling (quoted_token cs ∷ rest) d e = refl
+no_ruling (braced_token cs ∷ rest) d e = refl
+no_ruling (run_token r ∷ rest) d e = refl
 
 -- what is behind an operator begins with it
 pub after_begins : (o : Operator) (p : Token → Bool) → p (operator o) ≡ true → (tokens rest : List Token) → after o tokens ≡ Some rest → begins p tokens ≡ true

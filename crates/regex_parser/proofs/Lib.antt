@@ -2,6 +2,6 @@ pub mod Numbers
 pub mod Loops
 pub mod Fronts
 pub mod Terms
-pub mod Parsing
 pub mod Rules
+pub mod Levels
 pub mod Complete

@@ -68,6 +68,9 @@ row_fails {K} {T} {U} {V} next join first read tokens t behind us rest begun so_
     ap (option_map (λ (y : List U × List K). (join t y.0, y.1))) (many_fails next read behind us rest so_far here item)
     ∙ sym (ap (option_and_then (λ (x : T × List K). option_map (λ (y : List U × List K). (join x.0 y.0, y.1)) (many next read (length x.1) x.1))) begun)
 
+pub row_none : {K T U V : Type 0} (next : K → Bool) (join : T → List U → V) (first : Reader K T) (read : Reader K U) (tokens : List K) → None ≡ first tokens → None ≡ row_at next join first read tokens
+row_none {K} {T} {U} {V} next join first read tokens none = ap (option_and_then (λ (x : T × List K). option_map (λ (y : List U × List K). (join x.0 y.0, y.1)) (many next read (length x.1) x.1))) none
+
 -- the same where the first item is known by what is made of it
 pub made_row_read : {K T U V S W : Type 0} (next : K → Bool) (join : T → List U → V) (first : Reader K T) (read : Reader K U) (make : V → W) (seen : T → S) (joined : S → List U → W) → ((x : T) (us : List U) → make (join x us) ≡ joined (seen x) us)
     → (tokens : List K) (s : S) (behind : List K) (us : List U) (rest : List K) (w : W)
@@ -84,6 +87,18 @@ pub made_row_fails : {K T U V S W : Type 0} (next : K → Bool) (join : T → Li
 made_row_fails {K} {T} {U} {V} {S} {W} next join first read make seen tokens s behind us rest begun so_far here item = map_some _ (first tokens) (s, behind) (sym begun) (λ x found pair.
     let so_far_there : ManySoFar next read x.1 us rest = subst (λ b. ManySoFar next read b us rest) (sym (ap (λ (p : S × List K). p.1) pair)) so_far in
     ap (option_map (λ (y : V × List K). (make y.0, y.1))) (row_fails next join first read tokens x.0 x.1 us rest found so_far_there here item))
+
+pub made_row_none : {K T U V S W : Type 0} (next : K → Bool) (join : T → List U → V) (first : Reader K T) (read : Reader K U) (make : V → W) (seen : T → S) (tokens : List K)
+    → None ≡ made seen (first tokens) → None ≡ made make (row_at next join first read tokens)
+made_row_none {K} {T} {U} {V} {S} {W} next join first read make seen tokens none = by (first tokens) none
+  where
+    by : (o : Option (T × List K)) → None ≡ made seen o → None ≡ made make (option_and_then (λ (x : T × List K). option_map (λ (y : List U × List K). (join x.0 y.0, y.1)) (many next read (length x.1) x.1)) o)
+    by None e = refl
+    by (Some x) e = absurd cc
+
+-- a first item that was pushed, and others behind it
+pub all_pushed : {X U : Type 0} (value : X → U) (e : X) (none one all : List X) (more : List U) → none ≡ [] → one ≡ none ++ e ∷ [] → map value all ≡ map value one ++ more → map value all ≡ value e ∷ more
+all_pushed value e none one all more blank pushed row = row ∙ ap (λ xs. map value xs ++ more) pushed ∙ ap (λ xs. map value (xs ++ e ∷ []) ++ more) blank
 
 -- Steps that are known by what is made of their answers.
 

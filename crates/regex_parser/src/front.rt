@@ -1,12 +1,13 @@
-ghost use Rattle.std.specs.Prelude.{◌≡◌, ◌+◌, ⊤, Bool, List, IfOk, IsTrue, Some, length};
+ghost use Rattle.std.specs.Prelude.{◌≡◌, ⊤, Bool, List, IfOk, IsTrue, Some};
 ghost use Rattle.std.specs.List.{list_all};
 ghost use Rattle.std.specs.Option.{option_map};
 ghost use Rattle.regex_ast.specs.Terms.{Term};
 ghost use Rattle.regex_ast.specs.declared.expr.Raw.{Raw};
 ghost use Rattle.regex_grammar.specs.Grammar.{is_digit, is_number, power_value, arrow_operator};
-ghost use Rattle.regex_grammar.specs.Reading.{is_level, is_backslash, is_prefix, one_of, backslash_of, prefix_of, linked_of, side_of, arrow_of, step_of, power_at, suffix_at};
-ghost use Rattle.regex_grammar.specs.Rows.{begins, many};
-ghost use Rattle.regex_parser.specs.Values.{made, linked_by, step_by};
+ghost use Rattle.regex_grammar.specs.Reading.{is_level, one_of, backslash_of, prefix_of, linked_of, side_of, arrow_of, step_of, power_at, suffix_at};
+ghost use Rattle.regex_grammar.specs.Rows.{begins};
+ghost use Rattle.regex_parser.specs.Levels.{is_operand, backslashes_at, prefixes_at, suffixes_at};
+ghost use Rattle.regex_parser.specs.Values.{linked_by, step_by};
 
 use regex_ast::{Prefix, Side, Suffix};
 use regex_tokens::{Operator, Token};
@@ -33,8 +34,9 @@ pub enum StepOperator {
 }
 
 /// Whether the first token begins an operand.
+#[tactic(auto, unfolding(crate::specs::Levels::is_operand))]
 pub fn begins_operand(tokens: &[Token]) -> bool
-    ensures { result ≡ begins (is_level 7) tokens.now }
+    ensures { result ≡ begins is_operand tokens.now }
 {
     match tokens.first() {
         None => false,
@@ -112,7 +114,7 @@ pub fn arrow(optional: bool) -> Operator
 
 /// The number of backslashes at the front, and the tokens behind them.
 pub fn backslashes(tokens: &[Token]) -> (usize, &[Token])
-    ensures { made length (many is_backslash (one_of backslash_of) (length tokens.now) tokens.now) ≡ Some (result.0, result.1.now) }
+    ensures { backslashes_at tokens.now ≡ Some (result.0, result.1.now) }
 {
     let mut marks = 0;
     let mut rest = tokens;
@@ -134,7 +136,7 @@ fn split_backslash(tokens: &[Token]) -> Option<&[Token]>
 
 /// The prefixes at the front, and the tokens behind them.
 pub fn prefixes(alloc: Global, tokens: &[Token]) -> Result<(Vec<Prefix>, &[Token]), AllocError>
-    ensures { IfOk result (λ read. many is_prefix (one_of prefix_of) (length tokens.now) tokens.now ≡ Some (read.0.items, read.1.now)) }
+    ensures { IfOk result (λ read. prefixes_at tokens.now ≡ Some (read.0.items, read.1.now)) }
 {
     let mut found = Vec::new(alloc);
     let mut rest = tokens;
@@ -156,11 +158,12 @@ fn split_prefix(tokens: &[Token]) -> Option<(Prefix, &[Token])>
 }
 
 /// The suffixes at the front, and the tokens behind them; `None` where the number of a power is missing.
+#[tactic(auto, unfolding(crate::specs::Levels::suffixes_at))]
 pub fn suffixes(
     alloc: Global,
     tokens: &[Token],
 ) -> Result<Option<(Vec<Suffix>, &[Token])>, AllocError>
-    ensures { IfOk result (λ read. option_map (λ x. (x.0.items, x.1.now)) read ≡ many (is_level 4) suffix_at (length tokens.now) tokens.now) }
+    ensures { IfOk result (λ read. option_map (λ x. (x.0.items, x.1.now)) read ≡ suffixes_at tokens.now) }
 {
     let mut found = Vec::new(alloc);
     let mut rest = tokens;

@@ -7,6 +7,7 @@
 mod build;
 mod front;
 mod leaf;
+mod parsed;
 mod parser;
 mod whole;
 

@@ -1,17 +1,17 @@
-ghost use Rattle.std.specs.Prelude.{◌≡◌, IfOk, map, Some};
+ghost use Rattle.std.specs.Prelude.{◌≡◌, IfOk, map};
 ghost use Rattle.std.specs.Option.{option_map};
-ghost use Rattle.regex_ast.specs.Terms.{term, maybe, only};
-ghost use Rattle.regex_grammar.specs.Grammar.{part, contexts_by, sided_by, mapping_by, group_by, with_ruling};
-ghost use Rattle.regex_grammar.specs.Reading.{is_level, primary_at, square_at, bracket_at, negated_at, crossed_at, suffixed_at, prefixed_at, ignored_at, concat_at, chain_at, context_at, contexts_at, sided_at, dots_at, right_at, mapping_at, group_tail_at, group_at, replacement_at, ruling_at, insertion_at, nine_at, steps_at, expression_at};
-ghost use Rattle.regex_grammar.specs.Rows.{option_at};
-ghost use Rattle.regex_parser.specs.Values.{made, context_value, sided_value, mapping_value, group_value};
+ghost use Rattle.regex_ast.specs.Terms.{term};
+ghost use Rattle.regex_grammar.specs.Reading.{expression_at};
+ghost use Rattle.regex_parser.specs.Levels.{square_within, round_within, primary_within, negated_within, crossed_within, suffixed_within, prefixed_within, ignored_within, concat_within, chain_within, part_within, context_within, contexts_within, sided_within, marks_within, right_within, mapping_within, group_tail_within, group_within, replacement_within, restriction_within, ruling_within, insertion_within, nine_within, steps_within};
+ghost use Rattle.regex_parser.specs.Values.{context_value, sided_value, mapping_value, group_value};
 
 use crate::build;
 use crate::front::{
     arrow, backslashes, begins_operand, prefixes, split_arrow, split_link, split_side, split_step,
     suffixes,
 };
-use crate::leaf::{braced_expr, quoted_expr, run_expr};
+use crate::leaf::leaf;
+use crate::parsed::Parsed;
 use regex_ast::{Context, Expr, Group, Mapping, Raw, Side};
 use regex_tokens::{Operator, Token, after};
 use std::alloc::{AllocError, Global};
@@ -25,8 +25,8 @@ pub fn expression<'a>(
     alloc: Global,
     tokens: &'a [Token],
     depth: u32,
-) -> Result<Read<'a, Expr<Raw>>, AllocError>
-    ensures { IfOk result (λ read. option_map (λ x. (term x.0, x.1.now)) read ≡ expression_at depth tokens.now) }
+) -> Result<Read<'a, Parsed>, AllocError>
+    ensures { IfOk result (λ read. option_map (λ x. (term x.0.expr, x.1.now)) read ≡ expression_at depth tokens.now) }
 {
     if depth == 0 {
         return Ok(None);
@@ -36,22 +36,18 @@ pub fn expression<'a>(
 
 /// Reads level 10. At most `depth` brackets may be open round each token, here and at the levels below.
 #[cycle(parser)]
-fn steps<'a>(
-    alloc: Global,
-    tokens: &'a [Token],
-    depth: u32,
-) -> Result<Read<'a, Expr<Raw>>, AllocError>
-    ensures { IfOk result (λ read. option_map (λ x. (term x.0, x.1.now)) read ≡ steps_at (expression_at depth) tokens.now) }
+fn steps<'a>(alloc: Global, tokens: &'a [Token], depth: u32) -> Result<Read<'a, Parsed>, AllocError>
+    ensures { IfOk result (λ read. option_map (λ x. (term x.0.expr, x.1.now)) read ≡ steps_within depth tokens.now) }
 {
     let Some((first, mut rest)) = nine(alloc, tokens, depth)? else {
         return Ok(None);
     };
     let mut found = Vec::new(alloc);
-    'steps: while let Some((operator, operand)) = split_step(rest) {
-        let Some((expr, behind)) = nine(alloc, operand, depth)? else {
+    'steps: while let Some((operator, next)) = split_step(rest) {
+        let Some((operand, behind)) = nine(alloc, next, depth)? else {
             return Ok(None);
         };
-        found.push(build::step(operator, expr))?;
+        found.push(build::step(operator, operand))?;
         rest = behind;
     }
     Ok(Some((build::with_steps(alloc, first, found)?, rest)))
@@ -59,12 +55,8 @@ fn steps<'a>(
 
 /// Reads level 9.
 #[cycle(parser)]
-fn nine<'a>(
-    alloc: Global,
-    tokens: &'a [Token],
-    depth: u32,
-) -> Result<Read<'a, Expr<Raw>>, AllocError>
-    ensures { IfOk result (λ read. option_map (λ x. (term x.0, x.1.now)) read ≡ nine_at (chain_at (expression_at depth)) tokens.now) }
+fn nine<'a>(alloc: Global, tokens: &'a [Token], depth: u32) -> Result<Read<'a, Parsed>, AllocError>
+    ensures { IfOk result (λ read. option_map (λ x. (term x.0.expr, x.1.now)) read ≡ nine_within depth tokens.now) }
 {
     if let Some(behind) = after(tokens, Operator::Insertion) {
         return insertion(alloc, behind, depth);
@@ -81,8 +73,8 @@ fn insertion<'a>(
     alloc: Global,
     tokens: &'a [Token],
     depth: u32,
-) -> Result<Read<'a, Expr<Raw>>, AllocError>
-    ensures { IfOk result (λ read. option_map (λ x. (term x.0, x.1.now)) read ≡ insertion_at (chain_at (expression_at depth)) tokens.now) }
+) -> Result<Read<'a, Parsed>, AllocError>
+    ensures { IfOk result (λ read. option_map (λ x. (term x.0.expr, x.1.now)) read ≡ insertion_within depth tokens.now) }
 {
     let Some((optional, rest)) = split_arrow(tokens) else {
         return Ok(None);
@@ -101,33 +93,30 @@ fn insertion<'a>(
 #[cycle(parser)]
 fn ruling<'a>(
     alloc: Global,
-    centre: Expr<Raw>,
+    centre: Parsed,
     tokens: &'a [Token],
     depth: u32,
-) -> Result<Read<'a, Expr<Raw>>, AllocError>
-    ensures { IfOk result (λ read. option_map (λ x. (term x.0, x.1.now)) read ≡ made (with_ruling (term centre)) (option_at (is_level 14) (ruling_at (chain_at (expression_at depth))) tokens.now)) }
+) -> Result<Read<'a, Parsed>, AllocError>
+    ensures { IfOk result (λ read. option_map (λ x. (term x.0.expr, x.1.now)) read ≡ ruling_within depth (term centre.expr) tokens.now) }
 {
-    match tokens.split_first() {
-        Some((Token::Operator(Operator::Only), rest)) => restriction(alloc, centre, rest, depth),
-        Some((Token::Operator(Operator::Optional), rest)) => {
-            replacement(alloc, true, centre, rest, depth)
-        }
-        Some((Token::Operator(Operator::Arrow), rest)) => {
-            replacement(alloc, false, centre, rest, depth)
-        }
-        _ => Ok(Some((centre, tokens))),
+    if let Some(rest) = after(tokens, Operator::Only) {
+        return restriction(alloc, centre, rest, depth);
     }
+    if let Some((optional, rest)) = split_arrow(tokens) {
+        return replacement(alloc, optional, centre, rest, depth);
+    }
+    Ok(Some((centre, tokens)))
 }
 
 /// Reads what is behind `=>`.
 #[cycle(parser)]
 fn restriction<'a>(
     alloc: Global,
-    centre: Expr<Raw>,
+    centre: Parsed,
     tokens: &'a [Token],
     depth: u32,
-) -> Result<Read<'a, Expr<Raw>>, AllocError>
-    ensures { IfOk result (λ read. option_map (λ x. (term x.0, x.1.now)) read ≡ made (λ y. only (term centre) (contexts_by y)) (contexts_at (chain_at (expression_at depth)) tokens.now)) }
+) -> Result<Read<'a, Parsed>, AllocError>
+    ensures { IfOk result (λ read. option_map (λ x. (term x.0.expr, x.1.now)) read ≡ restriction_within depth (term centre.expr) tokens.now) }
 {
     let Some((allowed, rest)) = contexts(alloc, tokens, depth)? else {
         return Ok(None);
@@ -140,11 +129,11 @@ fn restriction<'a>(
 fn replacement<'a>(
     alloc: Global,
     optional: bool,
-    centre: Expr<Raw>,
+    centre: Parsed,
     tokens: &'a [Token],
     depth: u32,
-) -> Result<Read<'a, Expr<Raw>>, AllocError>
-    ensures { IfOk result (λ read. option_map (λ x. (term x.0, x.1.now)) read ≡ made (λ y. with_ruling (term centre) (Some y)) (replacement_at optional (chain_at (expression_at depth)) tokens.now)) }
+) -> Result<Read<'a, Parsed>, AllocError>
+    ensures { IfOk result (λ read. option_map (λ x. (term x.0.expr, x.1.now)) read ≡ replacement_within depth optional (term centre.expr) tokens.now) }
 {
     let Some((first, mut rest)) = group_tail(alloc, optional, centre, tokens, depth)? else {
         return Ok(None);
@@ -169,7 +158,7 @@ fn group<'a>(
     tokens: &'a [Token],
     depth: u32,
 ) -> Result<Read<'a, Group<Raw>>, AllocError>
-    ensures { IfOk result (λ read. option_map (λ x. (group_value x.0, x.1.now)) read ≡ group_at optional (chain_at (expression_at depth)) tokens.now) }
+    ensures { IfOk result (λ read. option_map (λ x. (group_value x.0, x.1.now)) read ≡ group_within depth optional tokens.now) }
 {
     let Some((centre, rest)) = chain(alloc, tokens, depth)? else {
         return Ok(None);
@@ -185,11 +174,11 @@ fn group<'a>(
 fn group_tail<'a>(
     alloc: Global,
     optional: bool,
-    centre: Expr<Raw>,
+    centre: Parsed,
     tokens: &'a [Token],
     depth: u32,
 ) -> Result<Read<'a, Group<Raw>>, AllocError>
-    ensures { IfOk result (λ read. option_map (λ x. (group_value x.0, x.1.now)) read ≡ made (group_by (term centre)) (group_tail_at optional (chain_at (expression_at depth)) tokens.now)) }
+    ensures { IfOk result (λ read. option_map (λ x. (group_value x.0, x.1.now)) read ≡ group_tail_within depth optional (term centre.expr) tokens.now) }
 {
     let Some((first, mut rest)) = right_side(alloc, centre, tokens, depth)? else {
         return Ok(None);
@@ -217,7 +206,7 @@ fn mapping<'a>(
     tokens: &'a [Token],
     depth: u32,
 ) -> Result<Read<'a, Mapping<Raw>>, AllocError>
-    ensures { IfOk result (λ read. option_map (λ x. (mapping_value x.0, x.1.now)) read ≡ mapping_at optional (chain_at (expression_at depth)) tokens.now) }
+    ensures { IfOk result (λ read. option_map (λ x. (mapping_value x.0, x.1.now)) read ≡ mapping_within depth optional tokens.now) }
 {
     let Some((centre, rest)) = chain(alloc, tokens, depth)? else {
         return Ok(None);
@@ -232,14 +221,15 @@ fn mapping<'a>(
 #[cycle(parser)]
 fn right_side<'a>(
     alloc: Global,
-    centre: Expr<Raw>,
+    centre: Parsed,
     tokens: &'a [Token],
     depth: u32,
 ) -> Result<Read<'a, Mapping<Raw>>, AllocError>
-    ensures { IfOk result (λ read. option_map (λ x. (mapping_value x.0, x.1.now)) read ≡ made (mapping_by (term centre)) (right_at (chain_at (expression_at depth)) tokens.now)) }
+    ensures { IfOk result (λ read. option_map (λ x. (mapping_value x.0, x.1.now)) read ≡ right_within depth (term centre.expr) tokens.now) }
 {
     if let Some(behind) = after(tokens, Operator::Dots) {
-        return marks(alloc, centre, Expr::Empty, behind, depth);
+        let before = Parsed { expr: Expr::Empty };
+        return marks(alloc, centre, before, behind, depth);
     }
     let Some((result, rest)) = chain(alloc, tokens, depth)? else {
         return Ok(None);
@@ -247,29 +237,24 @@ fn right_side<'a>(
     if let Some(behind) = after(rest, Operator::Dots) {
         return marks(alloc, centre, result, behind, depth);
     }
-    Ok(Some((Mapping::Plain { centre, result }, rest)))
+    Ok(Some((build::plain(centre, result), rest)))
 }
 
 /// Reads what is behind `...`.
 #[cycle(parser)]
 fn marks<'a>(
     alloc: Global,
-    centre: Expr<Raw>,
-    before: Expr<Raw>,
+    centre: Parsed,
+    before: Parsed,
     tokens: &'a [Token],
     depth: u32,
 ) -> Result<Read<'a, Mapping<Raw>>, AllocError>
-    ensures { IfOk result (λ read. option_map (λ x. (mapping_value x.0, x.1.now)) read ≡ made (mapping_by (term centre)) (dots_at (chain_at (expression_at depth)) (term before) tokens.now)) }
+    ensures { IfOk result (λ read. option_map (λ x. (mapping_value x.0, x.1.now)) read ≡ marks_within depth (term centre.expr) (term before.expr) tokens.now) }
 {
     let Some((after, rest)) = chain_or_empty(alloc, tokens, depth)? else {
         return Ok(None);
     };
-    let mapping = Mapping::Markup {
-        centre,
-        before,
-        after,
-    };
-    Ok(Some((mapping, rest)))
+    Ok(Some((build::markup(centre, before, after), rest)))
 }
 
 /// Reads contexts with the operator before them; where there is none, no context is asked for.
@@ -279,7 +264,7 @@ fn sided<'a>(
     tokens: &'a [Token],
     depth: u32,
 ) -> Result<Option<(Side, Vec<Context<Raw>>, &'a [Token])>, AllocError>
-    ensures { IfOk result (λ read. option_map (λ x. (sided_value x.0 x.1.items, x.2.now)) read ≡ made sided_by (option_at (is_level 12) (sided_at (chain_at (expression_at depth))) tokens.now)) }
+    ensures { IfOk result (λ read. option_map (λ x. (sided_value x.0 x.1.items, x.2.now)) read ≡ sided_within depth tokens.now) }
 {
     let Some((side, rest)) = split_side(tokens) else {
         return Ok(Some((Side::UpUp, Vec::new(alloc), tokens)));
@@ -297,7 +282,7 @@ fn contexts<'a>(
     tokens: &'a [Token],
     depth: u32,
 ) -> Result<Read<'a, Vec<Context<Raw>>>, AllocError>
-    ensures { IfOk result (λ read. option_map (λ x. (map context_value x.0.items, x.1.now)) read ≡ contexts_at (chain_at (expression_at depth)) tokens.now) }
+    ensures { IfOk result (λ read. option_map (λ x. (map context_value x.0.items, x.1.now)) read ≡ contexts_within depth tokens.now) }
 {
     let Some((first, mut rest)) = context(alloc, tokens, depth)? else {
         return Ok(None);
@@ -321,7 +306,7 @@ fn context<'a>(
     tokens: &'a [Token],
     depth: u32,
 ) -> Result<Read<'a, Context<Raw>>, AllocError>
-    ensures { IfOk result (λ read. option_map (λ x. (context_value x.0, x.1.now)) read ≡ context_at (chain_at (expression_at depth)) tokens.now) }
+    ensures { IfOk result (λ read. option_map (λ x. (context_value x.0, x.1.now)) read ≡ context_within depth tokens.now) }
 {
     let Some((left, rest)) = chain_or_empty(alloc, tokens, depth)? else {
         return Ok(None);
@@ -332,7 +317,7 @@ fn context<'a>(
     let Some((right, rest)) = chain_or_empty(alloc, behind, depth)? else {
         return Ok(None);
     };
-    Ok(Some((Context { left, right }, rest)))
+    Ok(Some((build::context_of(left, right), rest)))
 }
 
 /// Reads level 8, or nothing where no operand begins.
@@ -341,33 +326,29 @@ fn chain_or_empty<'a>(
     alloc: Global,
     tokens: &'a [Token],
     depth: u32,
-) -> Result<Read<'a, Expr<Raw>>, AllocError>
-    ensures { IfOk result (λ read. option_map (λ x. (term x.0, x.1.now)) read ≡ made part (option_at (is_level 7) (chain_at (expression_at depth)) tokens.now)) }
+) -> Result<Read<'a, Parsed>, AllocError>
+    ensures { IfOk result (λ read. option_map (λ x. (term x.0.expr, x.1.now)) read ≡ part_within depth tokens.now) }
 {
     if !begins_operand(tokens) {
-        return Ok(Some((Expr::Empty, tokens)));
+        return Ok(Some((Parsed { expr: Expr::Empty }, tokens)));
     }
     chain(alloc, tokens, depth)
 }
 
 /// Reads level 8.
 #[cycle(parser)]
-fn chain<'a>(
-    alloc: Global,
-    tokens: &'a [Token],
-    depth: u32,
-) -> Result<Read<'a, Expr<Raw>>, AllocError>
-    ensures { IfOk result (λ read. option_map (λ x. (term x.0, x.1.now)) read ≡ chain_at (expression_at depth) tokens.now) }
+fn chain<'a>(alloc: Global, tokens: &'a [Token], depth: u32) -> Result<Read<'a, Parsed>, AllocError>
+    ensures { IfOk result (λ read. option_map (λ x. (term x.0.expr, x.1.now)) read ≡ chain_within depth tokens.now) }
 {
     let Some((first, mut rest)) = concatenation(alloc, tokens, depth)? else {
         return Ok(None);
     };
     let mut links = Vec::new(alloc);
-    'links: while let Some((operator, operand)) = split_link(rest) {
-        let Some((expr, behind)) = concatenation(alloc, operand, depth)? else {
+    'links: while let Some((operator, next)) = split_link(rest) {
+        let Some((operand, behind)) = concatenation(alloc, next, depth)? else {
             return Ok(None);
         };
-        links.push(build::link(operator, expr))?;
+        links.push(build::link(operator, operand))?;
         rest = behind;
     }
     Ok(Some((build::with_links(alloc, first, links)?, rest)))
@@ -379,18 +360,18 @@ fn concatenation<'a>(
     alloc: Global,
     tokens: &'a [Token],
     depth: u32,
-) -> Result<Read<'a, Expr<Raw>>, AllocError>
-    ensures { IfOk result (λ read. option_map (λ x. (term x.0, x.1.now)) read ≡ concat_at (expression_at depth) tokens.now) }
+) -> Result<Read<'a, Parsed>, AllocError>
+    ensures { IfOk result (λ read. option_map (λ x. (term x.0.expr, x.1.now)) read ≡ concat_within depth tokens.now) }
 {
     let Some((first, mut rest)) = ignored(alloc, tokens, depth)? else {
         return Ok(None);
     };
     let mut more = Vec::new(alloc);
     'operands: while begins_operand(rest) {
-        let Some((expr, behind)) = ignored(alloc, rest, depth)? else {
+        let Some((operand, behind)) = ignored(alloc, rest, depth)? else {
             return Ok(None);
         };
-        more.push(expr)?;
+        more.push(operand.into_expr())?;
         rest = behind;
     }
     Ok(Some((build::side_by_side(first, more)?, rest)))
@@ -402,18 +383,18 @@ fn ignored<'a>(
     alloc: Global,
     tokens: &'a [Token],
     depth: u32,
-) -> Result<Read<'a, Expr<Raw>>, AllocError>
-    ensures { IfOk result (λ read. option_map (λ x. (term x.0, x.1.now)) read ≡ ignored_at (expression_at depth) tokens.now) }
+) -> Result<Read<'a, Parsed>, AllocError>
+    ensures { IfOk result (λ read. option_map (λ x. (term x.0.expr, x.1.now)) read ≡ ignored_within depth tokens.now) }
 {
     let Some((first, mut rest)) = prefixed(alloc, tokens, depth)? else {
         return Ok(None);
     };
     let mut more = Vec::new(alloc);
-    'operands: while let Some(operand) = after(rest, Operator::Slash) {
-        let Some((expr, behind)) = prefixed(alloc, operand, depth)? else {
+    'operands: while let Some(next) = after(rest, Operator::Slash) {
+        let Some((operand, behind)) = prefixed(alloc, next, depth)? else {
             return Ok(None);
         };
-        more.push(expr)?;
+        more.push(operand.into_expr())?;
         rest = behind;
     }
     Ok(Some((build::ignoring(first, more)?, rest)))
@@ -425,8 +406,8 @@ fn prefixed<'a>(
     alloc: Global,
     tokens: &'a [Token],
     depth: u32,
-) -> Result<Read<'a, Expr<Raw>>, AllocError>
-    ensures { IfOk result (λ read. option_map (λ x. (term x.0, x.1.now)) read ≡ prefixed_at (expression_at depth) tokens.now) }
+) -> Result<Read<'a, Parsed>, AllocError>
+    ensures { IfOk result (λ read. option_map (λ x. (term x.0.expr, x.1.now)) read ≡ prefixed_within depth tokens.now) }
 {
     let (marks, rest) = prefixes(alloc, tokens)?;
     let Some((operand, rest)) = suffixed(alloc, rest, depth)? else {
@@ -441,8 +422,8 @@ fn suffixed<'a>(
     alloc: Global,
     tokens: &'a [Token],
     depth: u32,
-) -> Result<Read<'a, Expr<Raw>>, AllocError>
-    ensures { IfOk result (λ read. option_map (λ x. (term x.0, x.1.now)) read ≡ suffixed_at (expression_at depth) tokens.now) }
+) -> Result<Read<'a, Parsed>, AllocError>
+    ensures { IfOk result (λ read. option_map (λ x. (term x.0.expr, x.1.now)) read ≡ suffixed_within depth tokens.now) }
 {
     let Some((operand, rest)) = crossed(alloc, tokens, depth)? else {
         return Ok(None);
@@ -459,8 +440,8 @@ fn crossed<'a>(
     alloc: Global,
     tokens: &'a [Token],
     depth: u32,
-) -> Result<Read<'a, Expr<Raw>>, AllocError>
-    ensures { IfOk result (λ read. option_map (λ x. (term x.0, x.1.now)) read ≡ crossed_at (expression_at depth) tokens.now) }
+) -> Result<Read<'a, Parsed>, AllocError>
+    ensures { IfOk result (λ read. option_map (λ x. (term x.0.expr, x.1.now)) read ≡ crossed_within depth tokens.now) }
 {
     let Some((upper, rest)) = negated(alloc, tokens, depth)? else {
         return Ok(None);
@@ -471,9 +452,7 @@ fn crossed<'a>(
     let Some((lower, rest)) = negated(alloc, behind, depth)? else {
         return Ok(None);
     };
-    let upper = Box::new(alloc, upper)?;
-    let lower = Box::new(alloc, lower)?;
-    Ok(Some((Expr::Cross(upper, lower), rest)))
+    Ok(Some((build::cross(alloc, upper, lower)?, rest)))
 }
 
 /// Reads level 2.
@@ -482,8 +461,8 @@ fn negated<'a>(
     alloc: Global,
     tokens: &'a [Token],
     depth: u32,
-) -> Result<Read<'a, Expr<Raw>>, AllocError>
-    ensures { IfOk result (λ read. option_map (λ x. (term x.0, x.1.now)) read ≡ negated_at (expression_at depth) tokens.now) }
+) -> Result<Read<'a, Parsed>, AllocError>
+    ensures { IfOk result (λ read. option_map (λ x. (term x.0.expr, x.1.now)) read ≡ negated_within depth tokens.now) }
 {
     let (marks, rest) = backslashes(tokens);
     let Some((operand, rest)) = primary(alloc, rest, depth)? else {
@@ -498,19 +477,16 @@ fn primary<'a>(
     alloc: Global,
     tokens: &'a [Token],
     depth: u32,
-) -> Result<Read<'a, Expr<Raw>>, AllocError>
-    ensures { IfOk result (λ read. option_map (λ x. (term x.0, x.1.now)) read ≡ primary_at (expression_at depth) tokens.now) }
+) -> Result<Read<'a, Parsed>, AllocError>
+    ensures { IfOk result (λ read. option_map (λ x. (term x.0.expr, x.1.now)) read ≡ primary_within depth tokens.now) }
 {
-    match tokens.split_first() {
-        Some((Token::Run(run), rest)) => Ok(Some((run_expr(run)?, rest))),
-        Some((Token::Quoted(text), rest)) => Ok(Some((quoted_expr(text)?, rest))),
-        Some((Token::Braced(letters), rest)) => Ok(Some((braced_expr(alloc, letters)?, rest))),
-        Some((Token::Operator(Operator::Question), rest)) => Ok(Some((Expr::Any, rest))),
-        Some((Token::Operator(Operator::Edge), rest)) => Ok(Some((Expr::Edge, rest))),
-        Some((Token::Operator(Operator::OpenSquare), rest)) => square(alloc, rest, depth),
-        Some((Token::Operator(Operator::OpenRound), rest)) => round(alloc, rest, depth),
-        _ => Ok(None),
+    if let Some(rest) = after(tokens, Operator::OpenSquare) {
+        return square(alloc, rest, depth);
     }
+    if let Some(rest) = after(tokens, Operator::OpenRound) {
+        return round(alloc, rest, depth);
+    }
+    leaf(alloc, tokens)
 }
 
 /// Reads what is behind `[`.
@@ -519,11 +495,11 @@ fn square<'a>(
     alloc: Global,
     tokens: &'a [Token],
     depth: u32,
-) -> Result<Read<'a, Expr<Raw>>, AllocError>
-    ensures { IfOk result (λ read. option_map (λ x. (term x.0, x.1.now)) read ≡ square_at (expression_at depth) tokens.now) }
+) -> Result<Read<'a, Parsed>, AllocError>
+    ensures { IfOk result (λ read. option_map (λ x. (term x.0.expr, x.1.now)) read ≡ square_within depth tokens.now) }
 {
     if let Some(rest) = after(tokens, Operator::CloseSquare) {
-        return Ok(Some((Expr::Empty, rest)));
+        return Ok(Some((Parsed { expr: Expr::Empty }, rest)));
     }
     let Some((inner, rest)) = expression(alloc, tokens, depth)? else {
         return Ok(None);
@@ -531,17 +507,13 @@ fn square<'a>(
     let Some(rest) = after(rest, Operator::CloseSquare) else {
         return Ok(None);
     };
-    Ok(Some((Expr::Group(Box::new(alloc, inner)?), rest)))
+    Ok(Some((build::grouped(alloc, inner)?, rest)))
 }
 
 /// Reads what is behind `(`.
 #[cycle(parser)]
-fn round<'a>(
-    alloc: Global,
-    tokens: &'a [Token],
-    depth: u32,
-) -> Result<Read<'a, Expr<Raw>>, AllocError>
-    ensures { IfOk result (λ read. option_map (λ x. (term x.0, x.1.now)) read ≡ bracket_at maybe Operator.CloseRound (expression_at depth) tokens.now) }
+fn round<'a>(alloc: Global, tokens: &'a [Token], depth: u32) -> Result<Read<'a, Parsed>, AllocError>
+    ensures { IfOk result (λ read. option_map (λ x. (term x.0.expr, x.1.now)) read ≡ round_within depth tokens.now) }
 {
     let Some((inner, rest)) = expression(alloc, tokens, depth)? else {
         return Ok(None);
@@ -549,5 +521,5 @@ fn round<'a>(
     let Some(rest) = after(rest, Operator::CloseRound) else {
         return Ok(None);
     };
-    Ok(Some((Expr::Maybe(Box::new(alloc, inner)?), rest)))
+    Ok(Some((build::maybe(alloc, inner)?, rest)))
 }

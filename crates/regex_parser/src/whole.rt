@@ -18,11 +18,11 @@ const MOST_OPEN: u32 = 64;
 pub fn read_tokens(alloc: Global, tokens: &[Token]) -> Result<Option<Expr<Raw>>, AllocError>
     ensures { IfOk result (λ found. IsReading tokens.now (option_map term found)) }
 {
-    let Some((expr, rest)) = expression(alloc, tokens, MOST_OPEN + 1)? else {
+    let Some((parsed, rest)) = expression(alloc, tokens, MOST_OPEN + 1)? else {
         return Ok(None);
     };
     if !rest.is_empty() {
         return Ok(None);
     }
-    Ok(Some(expr))
+    Ok(Some(parsed.into_expr()))
 }

@@ -5,6 +5,7 @@ use Rattle.std.proofs.lemmas.List.{length-append}
 use Rattle.regex_grammar.specs.Reading.{is_backslash, one_of, backslash_of}
 use Rattle.regex_grammar.proofs.Loops.{many_begin, many_ends}
 use Rattle.regex_tokens.specs.declared.token.Token.{Token}
+use Rattle.regex_parser.specs.Levels.{backslashes_at}
 use Rattle.regex_parser.proofs.Fronts.{one_shorter, backslash_begins, no_backslash}
 use Rattle.regex_parser.proofs.Loops.{item_next}
 use Rattle.regex_parser.proofs.front.backslashes.Goals as goal
@@ -31,6 +32,7 @@ marks-smaller c =
     one_shorter backslash_of c.marks.rest.now (tt, c.in-Some.behind.now) item
 
 pub returns : goal.returns
+unfolding backslashes_at
 returns c =
     let none : None ≡ one_of backslash_of c.marks.rest.now = search rules in
     let found = many_ends is_backslash (one_of backslash_of) c.args.tokens.now c.marks.invariant.marks c.marks.rest.now c.marks.invariant.so_far (no_backslash c.marks.rest.now none) in

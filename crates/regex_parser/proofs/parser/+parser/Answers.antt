@@ -1,18 +1,14 @@
-use Rattle.std.proofs.Common.{◌≡◌, ◌∷◌, [], ◌++◌, true, false, None, Some, map, refl, ap, ◌∙◌, rules}
-use Rattle.regex_ast.specs.Terms.{Term, term, rules as rules_term}
-use Rattle.regex_ast.specs.declared.expr.Expr.{Expr}
+use Rattle.std.proofs.Common.{◌≡◌, true, Some, [], ◌∷◌, ◌++◌, map, ap, ◌∙◌, rules}
+use Rattle.regex_ast.specs.Terms.{term}
 use Rattle.regex_ast.specs.declared.expr.Raw.{Raw}
-use Rattle.regex_tokens.specs.Fronts.{after}
-use Rattle.regex_tokens.specs.declared.token.Operator.TheVariants.{Slash, Comma, GroupComma, Underscore, Only as only_operator}
-use Rattle.regex_tokens.specs.declared.token.Token.TheVariants.{Operator as operator}
-use Rattle.regex_grammar.specs.Rows.{begins, option_at}
-use Rattle.regex_grammar.specs.Grammar.{ignoring, side_by_side, with_links, with_steps, part, in_a_row, ContextTerm, sided_by, MappingTerm, mapping_by, right_and_more, GroupTerm, group_by, groups_by, RulingTerm, replacement_by, with_ruling}
-use Rattle.regex_grammar.specs.Reading.{is_level, behind_at, one_of, linked_of, step_of, arrow_of, prefixed_at, ignored_at, concat_at, link_at, chain_at, context_at, sided_at, right_at, mapping_at, group_tail_at, group_at, nine_at, step_at, expression_at}
-use Rattle.regex_parser.specs.Values.{made, linked_by, step_by, link_value, step_value, context_value, sided_value, mapping_value, group_value}
-use Rattle.regex_parser.proofs.Fronts.{link_begins, no_link, step_begins, no_step, no_slash, no_comma, no_group_comma, after_begins, behind_found, behind_fails, formed_found, formed_fails}
-use Rattle.regex_parser.proofs.Loops.{item_pushed, row_begun, more_begin, more_pushed, row_read, row_fails, made_row_read, made_row_fails}
-use Rattle.regex_parser.proofs.Parsing.{expression_none, expression_steps, ignored_shorter, slash_shorter, link_shorter, step_shorter, context_shorter, mapping_shorter, group_shorter, negated_read, insertion_read, ruling_only_at}
-use Rattle.regex_parser.proofs.Rules.{context_read, context_without_left, context_without_place, context_without_right, dots_read, dots_none, mappings_from, maps_at, group_tail_read, group_tail_unsided, group_tail_none}
+use Rattle.regex_ast.specs.declared.expr.Expr.{Expr}
+use Rattle.regex_grammar.specs.Rows.{begins}
+use Rattle.regex_grammar.specs.Grammar.{ContextTerm, MappingTerm}
+use Rattle.regex_parser.specs.Levels.{is_operand, ignored_within}
+use Rattle.regex_parser.specs.Values.{link_value, step_value, context_value, sided_value, mapping_value, group_value}
+use Rattle.regex_parser.proofs.Loops.{item_pushed, row_begun, more_begin, more_pushed}
+use Rattle.regex_parser.proofs.Levels.{expression_none, expression_steps, is_slash, slash_within, slash_read, slash_begins, slash_shorter, ignored_read, ignored_fails, ignored_none, ignored_shorter, concat_read, concat_fails, concat_none, is_link, link_within, link_read, link_here, link_shorter, chain_read, chain_fails, chain_none, is_step, step_within, step_read, step_here, step_shorter, steps_read, steps_fails, steps_none, negated_read, negated_none, crossed_none, crossed_alone, crossed_open, crossed_read, suffixed_read, suffixed_none, suffixed_fails, prefixed_read, prefixed_none, primary_square, primary_round, primary_leaf, square_blank, square_none, square_open, square_read, round_none, round_open, round_read}
+use Rattle.regex_parser.proofs.Rules.{is_comma, is_group_comma, next_context_within, next_mapping_within, next_group_within, next_context_shorter, next_mapping_shorter, next_group_shorter, next_context_read, next_mapping_read, next_group_read, comma_begins, group_comma_begins, contexts_read, contexts_fail, contexts_none, group_tail_found, group_tail_sides, group_tail_fails, group_tail_unbegun, replacement_read, replacement_fails, replacement_none, context_found, context_unbegun, context_unplaced, context_unended, marks_found, marks_none, insertion_read, insertion_none, insertion_fails, insertion_unsided, ruling_only, ruling_arrow, ruling_none, part_blank, part_is, sided_blank, sided_fails, sided_read, right_marks, right_none, right_marked, right_plain, mapping_none, mapping_unarrowed, mapping_is, group_none, group_unarrowed, group_is, restriction_read, restriction_none, nine_inserted, nine_none, nine_ruled}
 use Rattle.regex_parser.proofs.parser.+parser.Goals as goal
 
 pub expression-returns-then-depth-eq0 : goal.expression-returns-then-depth-eq0
@@ -25,314 +21,414 @@ expression-returns t c =
 
 pub ignored-operands-init : goal.ignored-operands-init
 ignored-operands-init t c =
-    row_begun (is_level 6) (behind_at Slash (λ u. u) (prefixed_at (expression_at c.args.depth))) (term {A = Raw}) c.in-Some.rest.now c.in-Some.first c.new-more.result.items c.new-more.ensures.items
+    row_begun is_slash (slash_within c.args.depth) (term {A = Raw}) c.in-Some.rest.now c.in-Some.first.expr c.new-more.result.items c.new-more.ensures.items
 
 pub ignored-operands-smaller : goal.ignored-operands-smaller
 ignored-operands-smaller t c =
-    let front : after Slash c.operands.rest.now ≡ Some c.in-Some-after.operand.now = search rules in
-    let read : (prefixed_at (expression_at c.args.depth)) c.in-Some-after.operand.now ≡ Some (term c.in-Some-2.expr, c.in-Some-2.behind.now) = search rules in
-    let item = behind_found Slash (λ (u : Term Raw). u) (prefixed_at (expression_at c.args.depth)) c.operands.rest.now c.in-Some-after.operand.now (term c.in-Some-2.expr) c.in-Some-2.behind.now (term c.in-Some-2.expr) front read refl in
-    slash_shorter c.args.depth c.operands.rest.now (term c.in-Some-2.expr, c.in-Some-2.behind.now) item
+    slash_shorter c.args.depth c.operands.rest.now (term c.in-Some-2.operand.expr, c.in-Some-2.behind.now) (slash_read c.args.depth c.operands.rest.now c.in-Some-after.next.now (term c.in-Some-2.operand.expr) c.in-Some-2.behind.now (search rules) (search rules))
 
 pub ignored-operands-preserved : goal.ignored-operands-preserved
 ignored-operands-preserved t c =
-    let front : after Slash c.operands.rest.now ≡ Some c.in-Some-after.operand.now = search rules in
-    let here = after_begins Slash (is_level 6) refl c.operands.rest.now c.in-Some-after.operand.now front in
-    let read : (prefixed_at (expression_at c.args.depth)) c.in-Some-after.operand.now ≡ Some (term c.in-Some-2.expr, c.in-Some-2.behind.now) = search rules in
-    let item = behind_found Slash (λ (u : Term Raw). u) (prefixed_at (expression_at c.args.depth)) c.operands.rest.now c.in-Some-after.operand.now (term c.in-Some-2.expr) c.in-Some-2.behind.now (term c.in-Some-2.expr) front read refl in
+    let item : slash_within c.args.depth c.operands.rest.now ≡ Some (term c.in-Some-2.operand.expr, c.in-Some-2.behind.now) = slash_read c.args.depth c.operands.rest.now c.in-Some-after.next.now (term c.in-Some-2.operand.expr) c.in-Some-2.behind.now (search rules) (search rules) in
+    let here : begins is_slash c.operands.rest.now ≡ true = slash_begins c.operands.rest.now c.in-Some-after.next.now (search rules) in
     record {
       kept = c.operands.invariant.kept;
-      so_far = item_pushed (is_level 6) (behind_at Slash (λ u. u) (prefixed_at (expression_at c.args.depth))) (term {A = Raw}) (slash_shorter c.args.depth) c.in-Some.rest.now c.operands.more.items c.push.new.self.items c.operands.rest.now c.in-Some-2.expr c.in-Some-2.behind.now c.operands.invariant.so_far here item c.in_ok-push.ensures.items;
+      so_far = item_pushed is_slash (slash_within c.args.depth) (term {A = Raw}) (slash_shorter c.args.depth) c.in-Some.rest.now c.operands.more.items c.push.new.self.items c.operands.rest.now c.in-Some-2.operand.expr c.in-Some-2.behind.now c.operands.invariant.so_far here item (c.in_ok-push.ensures.items ∙ ap (λ (e : Expr Raw). c.operands.more.items ++ e ∷ []) c.into_expr.ensures);
     }
-
-pub ignored-returns-in_default-2 : goal.ignored-returns-in_default-2
-ignored-returns-in_default-2 t c =
-    let begun : (prefixed_at (expression_at c.args.depth)) c.args.tokens.now ≡ Some (term c.in-Some.first, c.in-Some.rest.now) = search rules in
-    let front : after Slash c.operands.rest.now ≡ Some c.in-Some-after.operand.now = search rules in
-    let here = after_begins Slash (is_level 6) refl c.operands.rest.now c.in-Some-after.operand.now front in
-    let unread : None ≡ (prefixed_at (expression_at c.args.depth)) c.in-Some-after.operand.now = search rules in
-    let none = behind_fails Slash (λ (u : Term Raw). u) (prefixed_at (expression_at c.args.depth)) c.operands.rest.now c.in-Some-after.operand.now front unread in
-    row_fails (is_level 6) ignoring (prefixed_at (expression_at c.args.depth)) (behind_at Slash (λ u. u) (prefixed_at (expression_at c.args.depth))) c.args.tokens.now (term c.in-Some.first) c.in-Some.rest.now (map (term {A = Raw}) c.operands.more.items) c.operands.rest.now begun c.operands.invariant.so_far here none
 
 pub ignored-returns : goal.ignored-returns
 ignored-returns t c =
-    let begun : (prefixed_at (expression_at c.args.depth)) c.args.tokens.now ≡ Some (term c.in-Some.first, c.in-Some.rest.now) = search rules in
-    let none_there : None ≡ after Slash c.operands.rest.now = search rules in
-    let stop = no_slash c.operands.rest.now none_there in
-    row_read (is_level 6) ignoring (prefixed_at (expression_at c.args.depth)) (behind_at Slash (λ u. u) (prefixed_at (expression_at c.args.depth))) c.args.tokens.now (term c.in-Some.first) c.in-Some.rest.now (map (term {A = Raw}) c.operands.more.items) c.operands.rest.now (term c.in_ok-ignoring.field-0) begun c.operands.invariant.so_far stop (c.in_ok-ignoring.ensures ∙ ap (λ (e : Expr Raw). ignoring (term e) (map (term {A = Raw}) c.operands.more.items)) c.operands.invariant.kept)
+    ignored_read c.args.depth c.args.tokens.now c.in-Some.first.expr c.in-Some.first.expr c.in-Some.rest.now c.operands.more.items c.operands.rest.now (term c.in_ok-ignoring.field-0.expr) (search rules) c.operands.invariant (search rules) c.in_ok-ignoring.ensures
+
+pub ignored-returns-in_default-2 : goal.ignored-returns-in_default-2
+ignored-returns-in_default-2 t c =
+    ignored_fails c.args.depth c.args.tokens.now c.in-Some.first.expr c.in-Some.first.expr c.in-Some.rest.now c.operands.more.items c.operands.rest.now c.in-Some-after.next.now (search rules) c.operands.invariant (search rules) (search rules)
+
+pub ignored-returns-in_default : goal.ignored-returns-in_default
+ignored-returns-in_default t c =
+    ignored_none c.args.depth c.args.tokens.now (search rules)
 
 pub concatenation-operands-init : goal.concatenation-operands-init
 concatenation-operands-init t c =
-    row_begun (is_level 7) (ignored_at (expression_at c.args.depth)) (term {A = Raw}) c.in-Some.rest.now c.in-Some.first c.new-more.result.items c.new-more.ensures.items
+    row_begun is_operand (ignored_within c.args.depth) (term {A = Raw}) c.in-Some.rest.now c.in-Some.first.expr c.new-more.result.items c.new-more.ensures.items
 
 pub concatenation-operands-smaller : goal.concatenation-operands-smaller
 concatenation-operands-smaller t c =
-    let here : begins (is_level 7) c.operands.rest.now ≡ true = search rules in
-    let item : (ignored_at (expression_at c.args.depth)) c.operands.rest.now ≡ Some (term c.in-Some-2.expr, c.in-Some-2.behind.now) = search rules in
-    ignored_shorter c.args.depth c.operands.rest.now (term c.in-Some-2.expr, c.in-Some-2.behind.now) item
+    ignored_shorter c.args.depth c.operands.rest.now (term c.in-Some-2.operand.expr, c.in-Some-2.behind.now) ((search rules))
 
 pub concatenation-operands-preserved : goal.concatenation-operands-preserved
 concatenation-operands-preserved t c =
-    let here : begins (is_level 7) c.operands.rest.now ≡ true = search rules in
-    let item : (ignored_at (expression_at c.args.depth)) c.operands.rest.now ≡ Some (term c.in-Some-2.expr, c.in-Some-2.behind.now) = search rules in
+    let item : ignored_within c.args.depth c.operands.rest.now ≡ Some (term c.in-Some-2.operand.expr, c.in-Some-2.behind.now) = (search rules) in
+    let here : begins is_operand c.operands.rest.now ≡ true = (search rules) in
     record {
       kept = c.operands.invariant.kept;
-      so_far = item_pushed (is_level 7) (ignored_at (expression_at c.args.depth)) (term {A = Raw}) (ignored_shorter c.args.depth) c.in-Some.rest.now c.operands.more.items c.push.new.self.items c.operands.rest.now c.in-Some-2.expr c.in-Some-2.behind.now c.operands.invariant.so_far here item c.in_ok-push.ensures.items;
+      so_far = item_pushed is_operand (ignored_within c.args.depth) (term {A = Raw}) (ignored_shorter c.args.depth) c.in-Some.rest.now c.operands.more.items c.push.new.self.items c.operands.rest.now c.in-Some-2.operand.expr c.in-Some-2.behind.now c.operands.invariant.so_far here item (c.in_ok-push.ensures.items ∙ ap (λ (e : Expr Raw). c.operands.more.items ++ e ∷ []) c.into_expr.ensures);
     }
-
-pub concatenation-returns-in_default-2 : goal.concatenation-returns-in_default-2
-concatenation-returns-in_default-2 t c =
-    let begun : (ignored_at (expression_at c.args.depth)) c.args.tokens.now ≡ Some (term c.in-Some.first, c.in-Some.rest.now) = search rules in
-    let here : begins (is_level 7) c.operands.rest.now ≡ true = search rules in
-    let none : None ≡ (ignored_at (expression_at c.args.depth)) c.operands.rest.now = search rules in
-    row_fails (is_level 7) side_by_side (ignored_at (expression_at c.args.depth)) (ignored_at (expression_at c.args.depth)) c.args.tokens.now (term c.in-Some.first) c.in-Some.rest.now (map (term {A = Raw}) c.operands.more.items) c.operands.rest.now begun c.operands.invariant.so_far here none
 
 pub concatenation-returns : goal.concatenation-returns
 concatenation-returns t c =
-    let begun : (ignored_at (expression_at c.args.depth)) c.args.tokens.now ≡ Some (term c.in-Some.first, c.in-Some.rest.now) = search rules in
-    let stop : begins (is_level 7) c.operands.rest.now ≡ false = search rules in
-    row_read (is_level 7) side_by_side (ignored_at (expression_at c.args.depth)) (ignored_at (expression_at c.args.depth)) c.args.tokens.now (term c.in-Some.first) c.in-Some.rest.now (map (term {A = Raw}) c.operands.more.items) c.operands.rest.now (term c.in_ok-side_by_side.field-0) begun c.operands.invariant.so_far stop (c.in_ok-side_by_side.ensures ∙ ap (λ (e : Expr Raw). side_by_side (term e) (map (term {A = Raw}) c.operands.more.items)) c.operands.invariant.kept)
+    concat_read c.args.depth c.args.tokens.now c.in-Some.first.expr c.in-Some.first.expr c.in-Some.rest.now c.operands.more.items c.operands.rest.now (term c.in_ok-side_by_side.field-0.expr) (search rules) c.operands.invariant (search rules) c.in_ok-side_by_side.ensures
+
+pub concatenation-returns-in_default-2 : goal.concatenation-returns-in_default-2
+concatenation-returns-in_default-2 t c =
+    concat_fails c.args.depth c.args.tokens.now c.in-Some.first.expr c.in-Some.first.expr c.in-Some.rest.now c.operands.more.items c.operands.rest.now (search rules) c.operands.invariant (search rules) (search rules)
+
+pub concatenation-returns-in_default : goal.concatenation-returns-in_default
+concatenation-returns-in_default t c =
+    concat_none c.args.depth c.args.tokens.now (search rules)
 
 pub chain-links-init : goal.chain-links-init
 chain-links-init t c =
-    row_begun (is_level 8) (link_at (concat_at (expression_at c.args.depth))) (link_value {A = Raw}) c.in-Some.rest.now c.in-Some.first c.new-links.result.items c.new-links.ensures.items
+    row_begun is_link (link_within c.args.depth) (link_value {A = Raw}) c.in-Some.rest.now c.in-Some.first.expr c.new-links.result.items c.new-links.ensures.items
 
 pub chain-links-smaller : goal.chain-links-smaller
 chain-links-smaller t c =
-    let front : one_of (linked_of {T = Term Raw}) c.links.rest.now ≡ Some (linked_by c.in-Some-split_link.operator, c.in-Some-split_link.operand.now) = search rules in
-    let read : (concat_at (expression_at c.args.depth)) c.in-Some-split_link.operand.now ≡ Some (term c.in-Some-2.expr, c.in-Some-2.behind.now) = search rules in
-    let item = formed_found (linked_of {T = Term Raw}) (concat_at (expression_at c.args.depth)) c.links.rest.now (linked_by c.in-Some-split_link.operator) c.in-Some-split_link.operand.now (term c.in-Some-2.expr) c.in-Some-2.behind.now (link_value c.link.result) front read c.link.ensures in
-    link_shorter c.args.depth c.links.rest.now (link_value c.link.result, c.in-Some-2.behind.now) item
+    link_shorter c.args.depth c.links.rest.now (link_value c.link.result, c.in-Some-2.behind.now) (link_read c.args.depth c.links.rest.now c.in-Some-split_link.operator c.in-Some-split_link.next.now (term c.in-Some-2.operand.expr) c.in-Some-2.behind.now (link_value c.link.result) (search rules) (search rules) c.link.ensures)
 
 pub chain-links-preserved : goal.chain-links-preserved
 chain-links-preserved t c =
-    let front : one_of (linked_of {T = Term Raw}) c.links.rest.now ≡ Some (linked_by c.in-Some-split_link.operator, c.in-Some-split_link.operand.now) = search rules in
-    let here = link_begins c.links.rest.now (linked_by c.in-Some-split_link.operator, c.in-Some-split_link.operand.now) front in
-    let read : (concat_at (expression_at c.args.depth)) c.in-Some-split_link.operand.now ≡ Some (term c.in-Some-2.expr, c.in-Some-2.behind.now) = search rules in
-    let item = formed_found (linked_of {T = Term Raw}) (concat_at (expression_at c.args.depth)) c.links.rest.now (linked_by c.in-Some-split_link.operator) c.in-Some-split_link.operand.now (term c.in-Some-2.expr) c.in-Some-2.behind.now (link_value c.link.result) front read c.link.ensures in
+    let item : link_within c.args.depth c.links.rest.now ≡ Some (link_value c.link.result, c.in-Some-2.behind.now) = link_read c.args.depth c.links.rest.now c.in-Some-split_link.operator c.in-Some-split_link.next.now (term c.in-Some-2.operand.expr) c.in-Some-2.behind.now (link_value c.link.result) (search rules) (search rules) c.link.ensures in
+    let here : begins is_link c.links.rest.now ≡ true = link_here c.links.rest.now c.in-Some-split_link.operator c.in-Some-split_link.next.now (search rules) in
     record {
       kept = c.links.invariant.kept;
-      so_far = item_pushed (is_level 8) (link_at (concat_at (expression_at c.args.depth))) (link_value {A = Raw}) (link_shorter c.args.depth) c.in-Some.rest.now c.links.links.items c.push.new.self.items c.links.rest.now c.link.result c.in-Some-2.behind.now c.links.invariant.so_far here item c.in_ok-push.ensures.items;
+      so_far = item_pushed is_link (link_within c.args.depth) (link_value {A = Raw}) (link_shorter c.args.depth) c.in-Some.rest.now c.links.links.items c.push.new.self.items c.links.rest.now c.link.result c.in-Some-2.behind.now c.links.invariant.so_far here item c.in_ok-push.ensures.items;
     }
-
-pub chain-returns-in_default-2 : goal.chain-returns-in_default-2
-chain-returns-in_default-2 t c =
-    let begun : (concat_at (expression_at c.args.depth)) c.args.tokens.now ≡ Some (term c.in-Some.first, c.in-Some.rest.now) = search rules in
-    let front : one_of (linked_of {T = Term Raw}) c.links.rest.now ≡ Some (linked_by c.in-Some-split_link.operator, c.in-Some-split_link.operand.now) = search rules in
-    let here = link_begins c.links.rest.now (linked_by c.in-Some-split_link.operator, c.in-Some-split_link.operand.now) front in
-    let unread : None ≡ (concat_at (expression_at c.args.depth)) c.in-Some-split_link.operand.now = search rules in
-    let none = formed_fails (linked_of {T = Term Raw}) (concat_at (expression_at c.args.depth)) c.links.rest.now (linked_by c.in-Some-split_link.operator) c.in-Some-split_link.operand.now front unread in
-    row_fails (is_level 8) with_links (concat_at (expression_at c.args.depth)) (link_at (concat_at (expression_at c.args.depth))) c.args.tokens.now (term c.in-Some.first) c.in-Some.rest.now (map (link_value {A = Raw}) c.links.links.items) c.links.rest.now begun c.links.invariant.so_far here none
 
 pub chain-returns : goal.chain-returns
 chain-returns t c =
-    let begun : (concat_at (expression_at c.args.depth)) c.args.tokens.now ≡ Some (term c.in-Some.first, c.in-Some.rest.now) = search rules in
-    let none_there : None ≡ one_of (linked_of {T = Term Raw}) c.links.rest.now = search rules in
-    let stop = no_link c.links.rest.now none_there in
-    row_read (is_level 8) with_links (concat_at (expression_at c.args.depth)) (link_at (concat_at (expression_at c.args.depth))) c.args.tokens.now (term c.in-Some.first) c.in-Some.rest.now (map (link_value {A = Raw}) c.links.links.items) c.links.rest.now (term c.in_ok-with_links.field-0) begun c.links.invariant.so_far stop (c.in_ok-with_links.ensures ∙ ap (λ (e : Expr Raw). with_links (term e) (map (link_value {A = Raw}) c.links.links.items)) c.links.invariant.kept)
+    chain_read c.args.depth c.args.tokens.now c.in-Some.first.expr c.in-Some.first.expr c.in-Some.rest.now c.links.links.items c.links.rest.now (term c.in_ok-with_links.field-0.expr) (search rules) c.links.invariant (search rules) c.in_ok-with_links.ensures
+
+pub chain-returns-in_default-2 : goal.chain-returns-in_default-2
+chain-returns-in_default-2 t c =
+    chain_fails c.args.depth c.args.tokens.now c.in-Some.first.expr c.in-Some.first.expr c.in-Some.rest.now c.links.links.items c.links.rest.now c.in-Some-split_link.operator c.in-Some-split_link.next.now (search rules) c.links.invariant (search rules) (search rules)
+
+pub chain-returns-in_default : goal.chain-returns-in_default
+chain-returns-in_default t c =
+    chain_none c.args.depth c.args.tokens.now (search rules)
 
 pub steps-steps-init : goal.steps-steps-init
 steps-steps-init t c =
-    row_begun (is_level 15) (step_at (nine_at (chain_at (expression_at c.args.depth)))) (step_value {A = Raw}) c.in-Some.rest.now c.in-Some.first c.new-found.result.items c.new-found.ensures.items
+    row_begun is_step (step_within c.args.depth) (step_value {A = Raw}) c.in-Some.rest.now c.in-Some.first.expr c.new-found.result.items c.new-found.ensures.items
 
 pub steps-steps-smaller : goal.steps-steps-smaller
 steps-steps-smaller t c =
-    let front : one_of (step_of {T = Term Raw}) c.steps.rest.now ≡ Some (step_by c.in-Some-split_step.operator, c.in-Some-split_step.operand.now) = search rules in
-    let read : (nine_at (chain_at (expression_at c.args.depth))) c.in-Some-split_step.operand.now ≡ Some (term c.in-Some-2.expr, c.in-Some-2.behind.now) = search rules in
-    let item = formed_found (step_of {T = Term Raw}) (nine_at (chain_at (expression_at c.args.depth))) c.steps.rest.now (step_by c.in-Some-split_step.operator) c.in-Some-split_step.operand.now (term c.in-Some-2.expr) c.in-Some-2.behind.now (step_value c.step.result) front read c.step.ensures in
-    step_shorter c.args.depth c.steps.rest.now (step_value c.step.result, c.in-Some-2.behind.now) item
+    step_shorter c.args.depth c.steps.rest.now (step_value c.step.result, c.in-Some-2.behind.now) (step_read c.args.depth c.steps.rest.now c.in-Some-split_step.operator c.in-Some-split_step.next.now (term c.in-Some-2.operand.expr) c.in-Some-2.behind.now (step_value c.step.result) (search rules) (search rules) c.step.ensures)
 
 pub steps-steps-preserved : goal.steps-steps-preserved
 steps-steps-preserved t c =
-    let front : one_of (step_of {T = Term Raw}) c.steps.rest.now ≡ Some (step_by c.in-Some-split_step.operator, c.in-Some-split_step.operand.now) = search rules in
-    let here = step_begins c.steps.rest.now (step_by c.in-Some-split_step.operator, c.in-Some-split_step.operand.now) front in
-    let read : (nine_at (chain_at (expression_at c.args.depth))) c.in-Some-split_step.operand.now ≡ Some (term c.in-Some-2.expr, c.in-Some-2.behind.now) = search rules in
-    let item = formed_found (step_of {T = Term Raw}) (nine_at (chain_at (expression_at c.args.depth))) c.steps.rest.now (step_by c.in-Some-split_step.operator) c.in-Some-split_step.operand.now (term c.in-Some-2.expr) c.in-Some-2.behind.now (step_value c.step.result) front read c.step.ensures in
+    let item : step_within c.args.depth c.steps.rest.now ≡ Some (step_value c.step.result, c.in-Some-2.behind.now) = step_read c.args.depth c.steps.rest.now c.in-Some-split_step.operator c.in-Some-split_step.next.now (term c.in-Some-2.operand.expr) c.in-Some-2.behind.now (step_value c.step.result) (search rules) (search rules) c.step.ensures in
+    let here : begins is_step c.steps.rest.now ≡ true = step_here c.steps.rest.now c.in-Some-split_step.operator c.in-Some-split_step.next.now (search rules) in
     record {
       kept = c.steps.invariant.kept;
-      so_far = item_pushed (is_level 15) (step_at (nine_at (chain_at (expression_at c.args.depth)))) (step_value {A = Raw}) (step_shorter c.args.depth) c.in-Some.rest.now c.steps.found.items c.push.new.self.items c.steps.rest.now c.step.result c.in-Some-2.behind.now c.steps.invariant.so_far here item c.in_ok-push.ensures.items;
+      so_far = item_pushed is_step (step_within c.args.depth) (step_value {A = Raw}) (step_shorter c.args.depth) c.in-Some.rest.now c.steps.found.items c.push.new.self.items c.steps.rest.now c.step.result c.in-Some-2.behind.now c.steps.invariant.so_far here item c.in_ok-push.ensures.items;
     }
-
-pub steps-returns-in_default-2 : goal.steps-returns-in_default-2
-steps-returns-in_default-2 t c =
-    let begun : (nine_at (chain_at (expression_at c.args.depth))) c.args.tokens.now ≡ Some (term c.in-Some.first, c.in-Some.rest.now) = search rules in
-    let front : one_of (step_of {T = Term Raw}) c.steps.rest.now ≡ Some (step_by c.in-Some-split_step.operator, c.in-Some-split_step.operand.now) = search rules in
-    let here = step_begins c.steps.rest.now (step_by c.in-Some-split_step.operator, c.in-Some-split_step.operand.now) front in
-    let unread : None ≡ (nine_at (chain_at (expression_at c.args.depth))) c.in-Some-split_step.operand.now = search rules in
-    let none = formed_fails (step_of {T = Term Raw}) (nine_at (chain_at (expression_at c.args.depth))) c.steps.rest.now (step_by c.in-Some-split_step.operator) c.in-Some-split_step.operand.now front unread in
-    row_fails (is_level 15) with_steps (nine_at (chain_at (expression_at c.args.depth))) (step_at (nine_at (chain_at (expression_at c.args.depth)))) c.args.tokens.now (term c.in-Some.first) c.in-Some.rest.now (map (step_value {A = Raw}) c.steps.found.items) c.steps.rest.now begun c.steps.invariant.so_far here none
 
 pub steps-returns : goal.steps-returns
 steps-returns t c =
-    let begun : (nine_at (chain_at (expression_at c.args.depth))) c.args.tokens.now ≡ Some (term c.in-Some.first, c.in-Some.rest.now) = search rules in
-    let none_there : None ≡ one_of (step_of {T = Term Raw}) c.steps.rest.now = search rules in
-    let stop = no_step c.steps.rest.now none_there in
-    row_read (is_level 15) with_steps (nine_at (chain_at (expression_at c.args.depth))) (step_at (nine_at (chain_at (expression_at c.args.depth)))) c.args.tokens.now (term c.in-Some.first) c.in-Some.rest.now (map (step_value {A = Raw}) c.steps.found.items) c.steps.rest.now (term c.in_ok-with_steps.field-0) begun c.steps.invariant.so_far stop (c.in_ok-with_steps.ensures ∙ ap (λ (e : Expr Raw). with_steps (term e) (map (step_value {A = Raw}) c.steps.found.items)) c.steps.invariant.kept)
+    steps_read c.args.depth c.args.tokens.now c.in-Some.first.expr c.in-Some.first.expr c.in-Some.rest.now c.steps.found.items c.steps.rest.now (term c.in_ok-with_steps.field-0.expr) (search rules) c.steps.invariant (search rules) c.in_ok-with_steps.ensures
+
+pub steps-returns-in_default-2 : goal.steps-returns-in_default-2
+steps-returns-in_default-2 t c =
+    steps_fails c.args.depth c.args.tokens.now c.in-Some.first.expr c.in-Some.first.expr c.in-Some.rest.now c.steps.found.items c.steps.rest.now c.in-Some-split_step.operator c.in-Some-split_step.next.now (search rules) c.steps.invariant (search rules) (search rules)
+
+pub steps-returns-in_default : goal.steps-returns-in_default
+steps-returns-in_default t c =
+    steps_none c.args.depth c.args.tokens.now (search rules)
 
 pub contexts-contexts-init : goal.contexts-contexts-init
 contexts-contexts-init t c =
-    more_begin (is_level 11) (behind_at Comma (λ u. u) (context_at (chain_at (expression_at c.args.depth)))) c.in-Some.rest.now (map (context_value {A = Raw}) c.push.new.self.items)
+    more_begin is_comma (next_context_within c.args.depth) c.in-Some.rest.now (map (context_value {A = Raw}) c.push.new.self.items)
 
 pub contexts-contexts-smaller : goal.contexts-contexts-smaller
 contexts-contexts-smaller t c =
-    let front : after Comma c.contexts.rest.now ≡ Some c.in-Some-after.next.now = search rules in
-    let read : (context_at (chain_at (expression_at c.args.depth))) c.in-Some-after.next.now ≡ Some (context_value c.in-Some-2.context, c.in-Some-2.behind.now) = search rules in
-    let item = behind_found Comma (λ (u : ContextTerm Raw). u) (context_at (chain_at (expression_at c.args.depth))) c.contexts.rest.now c.in-Some-after.next.now (context_value c.in-Some-2.context) c.in-Some-2.behind.now (context_value c.in-Some-2.context) front read refl in
-    context_shorter c.args.depth c.contexts.rest.now (context_value c.in-Some-2.context, c.in-Some-2.behind.now) item
+    next_context_shorter c.args.depth c.contexts.rest.now (context_value c.in-Some-2.context, c.in-Some-2.behind.now) (next_context_read c.args.depth c.contexts.rest.now c.in-Some-after.next.now (context_value c.in-Some-2.context) c.in-Some-2.behind.now (search rules) (search rules))
 
 pub contexts-contexts-preserved : goal.contexts-contexts-preserved
 contexts-contexts-preserved t c =
-    let front : after Comma c.contexts.rest.now ≡ Some c.in-Some-after.next.now = search rules in
-    let here = after_begins Comma (is_level 11) refl c.contexts.rest.now c.in-Some-after.next.now front in
-    let read : (context_at (chain_at (expression_at c.args.depth))) c.in-Some-after.next.now ≡ Some (context_value c.in-Some-2.context, c.in-Some-2.behind.now) = search rules in
-    let item = behind_found Comma (λ (u : ContextTerm Raw). u) (context_at (chain_at (expression_at c.args.depth))) c.contexts.rest.now c.in-Some-after.next.now (context_value c.in-Some-2.context) c.in-Some-2.behind.now (context_value c.in-Some-2.context) front read refl in
-    more_pushed (is_level 11) (behind_at Comma (λ u. u) (context_at (chain_at (expression_at c.args.depth)))) (context_value {A = Raw}) (context_shorter c.args.depth) c.in-Some.rest.now (map (context_value {A = Raw}) c.push.new.self.items) c.contexts.found.items c.push-in-Some-after.new.self.items c.contexts.rest.now c.in-Some-2.context c.in-Some-2.behind.now c.contexts.invariant here item c.in_ok-push-2.ensures.items
-
-pub contexts-returns-in_default-2 : goal.contexts-returns-in_default-2
-contexts-returns-in_default-2 t c =
-    let begun : context_at (chain_at (expression_at c.args.depth)) c.args.tokens.now ≡ Some (context_value c.in-Some.first, c.in-Some.rest.now) = search rules in
-    let front : after Comma c.contexts.rest.now ≡ Some c.in-Some-after.next.now = search rules in
-    let here = after_begins Comma (is_level 11) refl c.contexts.rest.now c.in-Some-after.next.now front in
-    let unread : None ≡ (context_at (chain_at (expression_at c.args.depth))) c.in-Some-after.next.now = search rules in
-    let none = behind_fails Comma (λ (u : ContextTerm Raw). u) (context_at (chain_at (expression_at c.args.depth))) c.contexts.rest.now c.in-Some-after.next.now front unread in
-    row_fails (is_level 11) in_a_row (context_at (chain_at (expression_at c.args.depth))) (behind_at Comma (λ u. u) (context_at (chain_at (expression_at c.args.depth)))) c.args.tokens.now (context_value c.in-Some.first) c.in-Some.rest.now c.contexts.invariant.more c.contexts.rest.now begun c.contexts.invariant.so_far here none
-
-pub contexts-returns : goal.contexts-returns
-contexts-returns t c =
-    let begun : context_at (chain_at (expression_at c.args.depth)) c.args.tokens.now ≡ Some (context_value c.in-Some.first, c.in-Some.rest.now) = search rules in
-    let none_there : None ≡ after Comma c.contexts.rest.now = search rules in
-    let stop = no_comma c.contexts.rest.now none_there in
-    let one : map (context_value {A = Raw}) c.push.new.self.items ≡ context_value c.in-Some.first ∷ [] = ap (map (context_value {A = Raw})) c.in_ok-push.ensures.items ∙ ap (λ cs. map (context_value {A = Raw}) (cs ++ c.in-Some.first ∷ [])) c.new-found.ensures.items in
-    row_read (is_level 11) in_a_row (context_at (chain_at (expression_at c.args.depth))) (behind_at Comma (λ u. u) (context_at (chain_at (expression_at c.args.depth)))) c.args.tokens.now (context_value c.in-Some.first) c.in-Some.rest.now c.contexts.invariant.more c.contexts.rest.now _ begun c.contexts.invariant.so_far stop (c.contexts.invariant.pushed ∙ ap (λ us. us ++ c.contexts.invariant.more) one)
+    let item : next_context_within c.args.depth c.contexts.rest.now ≡ Some (context_value c.in-Some-2.context, c.in-Some-2.behind.now) = next_context_read c.args.depth c.contexts.rest.now c.in-Some-after.next.now (context_value c.in-Some-2.context) c.in-Some-2.behind.now (search rules) (search rules) in
+    let here : begins is_comma c.contexts.rest.now ≡ true = comma_begins c.contexts.rest.now c.in-Some-after.next.now (search rules) in
+    more_pushed is_comma (next_context_within c.args.depth) (context_value {A = Raw}) (next_context_shorter c.args.depth) c.in-Some.rest.now (map (context_value {A = Raw}) c.push.new.self.items) c.contexts.found.items c.push-in-Some-after.new.self.items c.contexts.rest.now c.in-Some-2.context c.in-Some-2.behind.now c.contexts.invariant here item c.in_ok-push-2.ensures.items
 
 pub group_tail-mappings-init : goal.group_tail-mappings-init
 group_tail-mappings-init t c =
-    more_begin (is_level 11) (behind_at Comma (λ u. u) (mapping_at c.args.optional (chain_at (expression_at c.args.depth)))) c.in-Some.rest.now (map (mapping_value {A = Raw}) c.push.new.self.items)
+    more_begin is_comma (next_mapping_within c.args.depth c.args.optional) c.in-Some.rest.now (map (mapping_value {A = Raw}) c.push.new.self.items)
 
 pub group_tail-mappings-smaller : goal.group_tail-mappings-smaller
 group_tail-mappings-smaller t c =
-    let front : after Comma c.mappings.rest.now ≡ Some c.in-Some-after.next.now = search rules in
-    let read : (mapping_at c.args.optional (chain_at (expression_at c.args.depth))) c.in-Some-after.next.now ≡ Some (mapping_value c.in-Some-2.map, c.in-Some-2.behind.now) = search rules in
-    let item = behind_found Comma (λ (u : MappingTerm Raw). u) (mapping_at c.args.optional (chain_at (expression_at c.args.depth))) c.mappings.rest.now c.in-Some-after.next.now (mapping_value c.in-Some-2.map) c.in-Some-2.behind.now (mapping_value c.in-Some-2.map) front read refl in
-    mapping_shorter c.args.optional c.args.depth c.mappings.rest.now (mapping_value c.in-Some-2.map, c.in-Some-2.behind.now) item
+    next_mapping_shorter c.args.depth c.args.optional c.mappings.rest.now (mapping_value c.in-Some-2.map, c.in-Some-2.behind.now) (next_mapping_read c.args.depth c.args.optional c.mappings.rest.now c.in-Some-after.next.now (mapping_value c.in-Some-2.map) c.in-Some-2.behind.now (search rules) (search rules))
 
 pub group_tail-mappings-preserved : goal.group_tail-mappings-preserved
 group_tail-mappings-preserved t c =
-    let front : after Comma c.mappings.rest.now ≡ Some c.in-Some-after.next.now = search rules in
-    let here = after_begins Comma (is_level 11) refl c.mappings.rest.now c.in-Some-after.next.now front in
-    let read : (mapping_at c.args.optional (chain_at (expression_at c.args.depth))) c.in-Some-after.next.now ≡ Some (mapping_value c.in-Some-2.map, c.in-Some-2.behind.now) = search rules in
-    let item = behind_found Comma (λ (u : MappingTerm Raw). u) (mapping_at c.args.optional (chain_at (expression_at c.args.depth))) c.mappings.rest.now c.in-Some-after.next.now (mapping_value c.in-Some-2.map) c.in-Some-2.behind.now (mapping_value c.in-Some-2.map) front read refl in
-    more_pushed (is_level 11) (behind_at Comma (λ u. u) (mapping_at c.args.optional (chain_at (expression_at c.args.depth)))) (mapping_value {A = Raw}) (mapping_shorter c.args.optional c.args.depth) c.in-Some.rest.now (map (mapping_value {A = Raw}) c.push.new.self.items) c.mappings.maps.items c.push-in-Some-after.new.self.items c.mappings.rest.now c.in-Some-2.map c.in-Some-2.behind.now c.mappings.invariant here item c.in_ok-push-2.ensures.items
+    let item : next_mapping_within c.args.depth c.args.optional c.mappings.rest.now ≡ Some (mapping_value c.in-Some-2.map, c.in-Some-2.behind.now) = next_mapping_read c.args.depth c.args.optional c.mappings.rest.now c.in-Some-after.next.now (mapping_value c.in-Some-2.map) c.in-Some-2.behind.now (search rules) (search rules) in
+    let here : begins is_comma c.mappings.rest.now ≡ true = comma_begins c.mappings.rest.now c.in-Some-after.next.now (search rules) in
+    more_pushed is_comma (next_mapping_within c.args.depth c.args.optional) (mapping_value {A = Raw}) (next_mapping_shorter c.args.depth c.args.optional) c.in-Some.rest.now (map (mapping_value {A = Raw}) c.push.new.self.items) c.mappings.maps.items c.push-in-Some-after.new.self.items c.mappings.rest.now c.in-Some-2.map c.in-Some-2.behind.now c.mappings.invariant here item c.in_ok-push-2.ensures.items
 
 pub replacement-groups-init : goal.replacement-groups-init
 replacement-groups-init t c =
-    more_begin (is_level 13) (behind_at GroupComma (λ u. u) (group_at c.args.optional (chain_at (expression_at c.args.depth)))) c.in-Some.rest.now (map (group_value {A = Raw}) c.push.new.self.items)
+    more_begin is_group_comma (next_group_within c.args.depth c.args.optional) c.in-Some.rest.now (map (group_value {A = Raw}) c.push.new.self.items)
 
 pub replacement-groups-smaller : goal.replacement-groups-smaller
 replacement-groups-smaller t c =
-    let front : after GroupComma c.groups.rest.now ≡ Some c.in-Some-after.next.now = search rules in
-    let read : (group_at c.args.optional (chain_at (expression_at c.args.depth))) c.in-Some-after.next.now ≡ Some (group_value c.in-Some-2.group, c.in-Some-2.behind.now) = search rules in
-    let item = behind_found GroupComma (λ (u : GroupTerm Raw). u) (group_at c.args.optional (chain_at (expression_at c.args.depth))) c.groups.rest.now c.in-Some-after.next.now (group_value c.in-Some-2.group) c.in-Some-2.behind.now (group_value c.in-Some-2.group) front read refl in
-    group_shorter c.args.optional c.args.depth c.groups.rest.now (group_value c.in-Some-2.group, c.in-Some-2.behind.now) item
+    next_group_shorter c.args.depth c.args.optional c.groups.rest.now (group_value c.in-Some-2.group, c.in-Some-2.behind.now) (next_group_read c.args.depth c.args.optional c.groups.rest.now c.in-Some-after.next.now (group_value c.in-Some-2.group) c.in-Some-2.behind.now (search rules) (search rules))
 
 pub replacement-groups-preserved : goal.replacement-groups-preserved
 replacement-groups-preserved t c =
-    let front : after GroupComma c.groups.rest.now ≡ Some c.in-Some-after.next.now = search rules in
-    let here = after_begins GroupComma (is_level 13) refl c.groups.rest.now c.in-Some-after.next.now front in
-    let read : (group_at c.args.optional (chain_at (expression_at c.args.depth))) c.in-Some-after.next.now ≡ Some (group_value c.in-Some-2.group, c.in-Some-2.behind.now) = search rules in
-    let item = behind_found GroupComma (λ (u : GroupTerm Raw). u) (group_at c.args.optional (chain_at (expression_at c.args.depth))) c.groups.rest.now c.in-Some-after.next.now (group_value c.in-Some-2.group) c.in-Some-2.behind.now (group_value c.in-Some-2.group) front read refl in
-    more_pushed (is_level 13) (behind_at GroupComma (λ u. u) (group_at c.args.optional (chain_at (expression_at c.args.depth)))) (group_value {A = Raw}) (group_shorter c.args.optional c.args.depth) c.in-Some.rest.now (map (group_value {A = Raw}) c.push.new.self.items) c.groups.groups.items c.push-in-Some-after.new.self.items c.groups.rest.now c.in-Some-2.group c.in-Some-2.behind.now c.groups.invariant here item c.in_ok-push-2.ensures.items
+    let item : next_group_within c.args.depth c.args.optional c.groups.rest.now ≡ Some (group_value c.in-Some-2.group, c.in-Some-2.behind.now) = next_group_read c.args.depth c.args.optional c.groups.rest.now c.in-Some-after.next.now (group_value c.in-Some-2.group) c.in-Some-2.behind.now (search rules) (search rules) in
+    let here : begins is_group_comma c.groups.rest.now ≡ true = group_comma_begins c.groups.rest.now c.in-Some-after.next.now (search rules) in
+    more_pushed is_group_comma (next_group_within c.args.depth c.args.optional) (group_value {A = Raw}) (next_group_shorter c.args.depth c.args.optional) c.in-Some.rest.now (map (group_value {A = Raw}) c.push.new.self.items) c.groups.groups.items c.push-in-Some-after.new.self.items c.groups.rest.now c.in-Some-2.group c.in-Some-2.behind.now c.groups.invariant here item c.in_ok-push-2.ensures.items
 
-pub group_tail-returns-in_default-2 : goal.group_tail-returns-in_default-2
-group_tail-returns-in_default-2 t c =
-    let begun : Some (mapping_value c.in-Some.first, c.in-Some.rest.now) ≡ made (mapping_by (term c.args.centre)) (right_at (chain_at (expression_at c.args.depth)) c.args.tokens.now) = search rules in
-    let front : after Comma c.mappings.rest.now ≡ Some c.in-Some-after.next.now = search rules in
-    let here = after_begins Comma (is_level 11) refl c.mappings.rest.now c.in-Some-after.next.now front in
-    let unread : None ≡ (mapping_at c.args.optional (chain_at (expression_at c.args.depth))) c.in-Some-after.next.now = search rules in
-    let none = behind_fails Comma (λ (u : MappingTerm Raw). u) (mapping_at c.args.optional (chain_at (expression_at c.args.depth))) c.mappings.rest.now c.in-Some-after.next.now front unread in
-    group_tail_none c.args.optional (chain_at (expression_at c.args.depth)) (term c.args.centre) c.args.tokens.now (made_row_fails (is_level 11) right_and_more (right_at (chain_at (expression_at c.args.depth))) (behind_at Comma (λ u. u) (mapping_at c.args.optional (chain_at (expression_at c.args.depth)))) (mappings_from (term c.args.centre)) (mapping_by (term c.args.centre)) c.args.tokens.now (mapping_value c.in-Some.first) c.in-Some.rest.now c.mappings.invariant.more c.mappings.rest.now begun c.mappings.invariant.so_far here none)
+pub contexts-returns : goal.contexts-returns
+contexts-returns t c =
+    contexts_read c.args.depth c.args.tokens.now c.in-Some.first c.in-Some.rest.now c.new-found.result.items c.push.new.self.items c.contexts.found.items c.contexts.rest.now (search rules) c.new-found.ensures.items c.in_ok-push.ensures.items c.contexts.invariant (search rules)
 
-pub group_tail-returns-in_default-3 : goal.group_tail-returns-in_default-3
-group_tail-returns-in_default-3 t c =
-    let begun : Some (mapping_value c.in-Some.first, c.in-Some.rest.now) ≡ made (mapping_by (term c.args.centre)) (right_at (chain_at (expression_at c.args.depth)) c.args.tokens.now) = search rules in
-    let none_there : None ≡ after Comma c.mappings.rest.now = search rules in
-    let stop = no_comma c.mappings.rest.now none_there in
-    let one : map (mapping_value {A = Raw}) c.push.new.self.items ≡ mapping_value c.in-Some.first ∷ [] = ap (map (mapping_value {A = Raw})) c.in_ok-push.ensures.items ∙ ap (λ ms. map (mapping_value {A = Raw}) (ms ++ c.in-Some.first ∷ [])) c.new-maps.ensures.items in
-    let row : Some (map (mapping_value {A = Raw}) c.mappings.maps.items, c.mappings.rest.now) ≡ made (mappings_from (term c.args.centre)) (maps_at c.args.optional (chain_at (expression_at c.args.depth)) c.args.tokens.now) = made_row_read (is_level 11) right_and_more (right_at (chain_at (expression_at c.args.depth))) (behind_at Comma (λ u. u) (mapping_at c.args.optional (chain_at (expression_at c.args.depth)))) (mappings_from (term c.args.centre)) (mapping_by (term c.args.centre)) (λ (m : MappingTerm Raw) ms. m ∷ ms) (λ x ms. refl) c.args.tokens.now (mapping_value c.in-Some.first) c.in-Some.rest.now c.mappings.invariant.more c.mappings.rest.now (map (mapping_value {A = Raw}) c.mappings.maps.items) begun c.mappings.invariant.so_far stop (c.mappings.invariant.pushed ∙ ap (λ ms. ms ++ c.mappings.invariant.more) one) in
-    let unsided : None ≡ made sided_by (option_at (is_level 12) (sided_at (chain_at (expression_at c.args.depth))) c.mappings.rest.now) = search rules in
-    group_tail_unsided c.args.optional (chain_at (expression_at c.args.depth)) (term c.args.centre) c.args.tokens.now (map (mapping_value {A = Raw}) c.mappings.maps.items) c.mappings.rest.now row unsided
+pub contexts-returns-in_default-2 : goal.contexts-returns-in_default-2
+contexts-returns-in_default-2 t c =
+    contexts_fail c.args.depth c.args.tokens.now c.in-Some.first c.in-Some.rest.now c.push.new.self.items c.contexts.found.items c.contexts.rest.now c.in-Some-after.next.now (search rules) c.contexts.invariant (search rules) (search rules)
+
+pub contexts-returns-in_default : goal.contexts-returns-in_default
+contexts-returns-in_default t c =
+    contexts_none c.args.depth c.args.tokens.now (search rules)
 
 pub group_tail-returns : goal.group_tail-returns
 group_tail-returns t c =
-    let begun : Some (mapping_value c.in-Some.first, c.in-Some.rest.now) ≡ made (mapping_by (term c.args.centre)) (right_at (chain_at (expression_at c.args.depth)) c.args.tokens.now) = search rules in
-    let none_there : None ≡ after Comma c.mappings.rest.now = search rules in
-    let stop = no_comma c.mappings.rest.now none_there in
-    let one : map (mapping_value {A = Raw}) c.push.new.self.items ≡ mapping_value c.in-Some.first ∷ [] = ap (map (mapping_value {A = Raw})) c.in_ok-push.ensures.items ∙ ap (λ ms. map (mapping_value {A = Raw}) (ms ++ c.in-Some.first ∷ [])) c.new-maps.ensures.items in
-    let row : Some (map (mapping_value {A = Raw}) c.mappings.maps.items, c.mappings.rest.now) ≡ made (mappings_from (term c.args.centre)) (maps_at c.args.optional (chain_at (expression_at c.args.depth)) c.args.tokens.now) = made_row_read (is_level 11) right_and_more (right_at (chain_at (expression_at c.args.depth))) (behind_at Comma (λ u. u) (mapping_at c.args.optional (chain_at (expression_at c.args.depth)))) (mappings_from (term c.args.centre)) (mapping_by (term c.args.centre)) (λ (m : MappingTerm Raw) ms. m ∷ ms) (λ x ms. refl) c.args.tokens.now (mapping_value c.in-Some.first) c.in-Some.rest.now c.mappings.invariant.more c.mappings.rest.now (map (mapping_value {A = Raw}) c.mappings.maps.items) begun c.mappings.invariant.so_far stop (c.mappings.invariant.pushed ∙ ap (λ ms. ms ++ c.mappings.invariant.more) one) in
-    let sides : Some ((sided_value c.in-Some-3.side c.in-Some-3.contexts.items), c.in-Some-3.rest.now) ≡ made sided_by (option_at (is_level 12) (sided_at (chain_at (expression_at c.args.depth))) c.mappings.rest.now) = search rules in
-    group_tail_read c.args.optional (chain_at (expression_at c.args.depth)) (term c.args.centre) c.args.tokens.now (map (mapping_value {A = Raw}) c.mappings.maps.items) c.mappings.rest.now (sided_value c.in-Some-3.side c.in-Some-3.contexts.items) c.in-Some-3.rest.now (group_value c.group.result) row sides c.group.ensures
+    group_tail_found c.args.depth c.args.optional (term c.args.centre.expr) c.args.tokens.now c.in-Some.first c.in-Some.rest.now c.new-maps.result.items c.push.new.self.items c.mappings.maps.items c.mappings.rest.now (sided_value c.in-Some-3.side c.in-Some-3.contexts.items) c.in-Some-3.rest.now (group_value c.group.result) (search rules) c.new-maps.ensures.items c.in_ok-push.ensures.items c.mappings.invariant (search rules) (search rules) c.group.ensures
 
-pub replacement-returns-in_default-2 : goal.replacement-returns-in_default-2
-replacement-returns-in_default-2 t c =
-    let begun : Some (group_value c.in-Some.first, c.in-Some.rest.now) ≡ made (group_by (term c.args.centre)) (group_tail_at c.args.optional (chain_at (expression_at c.args.depth)) c.args.tokens.now) = search rules in
-    let front : after GroupComma c.groups.rest.now ≡ Some c.in-Some-after.next.now = search rules in
-    let here = after_begins GroupComma (is_level 13) refl c.groups.rest.now c.in-Some-after.next.now front in
-    let unread : None ≡ (group_at c.args.optional (chain_at (expression_at c.args.depth))) c.in-Some-after.next.now = search rules in
-    let none = behind_fails GroupComma (λ (u : GroupTerm Raw). u) (group_at c.args.optional (chain_at (expression_at c.args.depth))) c.groups.rest.now c.in-Some-after.next.now front unread in
-    made_row_fails (is_level 13) (replacement_by c.args.optional) (group_tail_at c.args.optional (chain_at (expression_at c.args.depth))) (behind_at GroupComma (λ u. u) (group_at c.args.optional (chain_at (expression_at c.args.depth)))) (λ (y : RulingTerm Raw). with_ruling (term c.args.centre) (Some y)) (group_by (term c.args.centre)) c.args.tokens.now (group_value c.in-Some.first) c.in-Some.rest.now c.groups.invariant.more c.groups.rest.now begun c.groups.invariant.so_far here none
+pub group_tail-returns-in_default-3 : goal.group_tail-returns-in_default-3
+group_tail-returns-in_default-3 t c =
+    group_tail_sides c.args.depth c.args.optional (term c.args.centre.expr) c.args.tokens.now c.in-Some.first c.in-Some.rest.now c.new-maps.result.items c.push.new.self.items c.mappings.maps.items c.mappings.rest.now (search rules) c.new-maps.ensures.items c.in_ok-push.ensures.items c.mappings.invariant (search rules) (search rules)
+
+pub group_tail-returns-in_default-2 : goal.group_tail-returns-in_default-2
+group_tail-returns-in_default-2 t c =
+    group_tail_fails c.args.depth c.args.optional (term c.args.centre.expr) c.args.tokens.now c.in-Some.first c.in-Some.rest.now c.push.new.self.items c.mappings.maps.items c.mappings.rest.now c.in-Some-after.next.now (search rules) c.mappings.invariant (search rules) (search rules)
+
+pub group_tail-returns-in_default : goal.group_tail-returns-in_default
+group_tail-returns-in_default t c =
+    group_tail_unbegun c.args.depth c.args.optional (term c.args.centre.expr) c.args.tokens.now (search rules)
 
 pub replacement-returns : goal.replacement-returns
 replacement-returns t c =
-    let begun : Some (group_value c.in-Some.first, c.in-Some.rest.now) ≡ made (group_by (term c.args.centre)) (group_tail_at c.args.optional (chain_at (expression_at c.args.depth)) c.args.tokens.now) = search rules in
-    let none_there : None ≡ after GroupComma c.groups.rest.now = search rules in
-    let stop = no_group_comma c.groups.rest.now none_there in
-    let one : map (group_value {A = Raw}) c.push.new.self.items ≡ group_value c.in-Some.first ∷ [] = ap (map (group_value {A = Raw})) c.in_ok-push.ensures.items ∙ ap (λ gs. map (group_value {A = Raw}) (gs ++ c.in-Some.first ∷ [])) c.new-groups.ensures.items in
-    let all = c.groups.invariant.pushed ∙ ap (λ gs. gs ++ c.groups.invariant.more) one in
-    made_row_read (is_level 13) (replacement_by c.args.optional) (group_tail_at c.args.optional (chain_at (expression_at c.args.depth))) (behind_at GroupComma (λ u. u) (group_at c.args.optional (chain_at (expression_at c.args.depth)))) (λ (y : RulingTerm Raw). with_ruling (term c.args.centre) (Some y)) (group_by (term c.args.centre)) (λ (g : GroupTerm Raw) gs. rules_term c.args.optional (groups_by (g ∷ gs))) (λ x gs. refl) c.args.tokens.now (group_value c.in-Some.first) c.in-Some.rest.now c.groups.invariant.more c.groups.rest.now (term c.rules.result) begun c.groups.invariant.so_far stop (c.rules.ensures ∙ ap (λ gs. rules_term c.args.optional (groups_by gs)) all)
+    replacement_read c.args.depth c.args.optional (term c.args.centre.expr) c.args.tokens.now c.in-Some.first c.in-Some.rest.now c.new-groups.result.items c.push.new.self.items c.groups.groups.items c.groups.rest.now (term c.rules.result.expr) (search rules) c.new-groups.ensures.items c.in_ok-push.ensures.items c.groups.invariant (search rules) c.rules.ensures
+
+pub replacement-returns-in_default-2 : goal.replacement-returns-in_default-2
+replacement-returns-in_default-2 t c =
+    replacement_fails c.args.depth c.args.optional (term c.args.centre.expr) c.args.tokens.now c.in-Some.first c.in-Some.rest.now c.push.new.self.items c.groups.groups.items c.groups.rest.now c.in-Some-after.next.now (search rules) c.groups.invariant (search rules) (search rules)
+
+pub replacement-returns-in_default : goal.replacement-returns-in_default
+replacement-returns-in_default t c =
+    replacement_none c.args.depth c.args.optional (term c.args.centre.expr) c.args.tokens.now (search rules)
 
 pub context-returns : goal.context-returns
 context-returns t c =
-    let left : Some (term c.in-Some.left, c.in-Some.rest.now) ≡ made part (option_at (is_level 7) (chain_at (expression_at c.args.depth)) c.args.tokens.now) = search rules in
-    let front : after Underscore c.in-Some.rest.now ≡ Some c.in-Some-after.behind.now = search rules in
-    let right : Some (term c.in-Some-2.right, c.in-Some-2.rest.now) ≡ made part (option_at (is_level 7) (chain_at (expression_at c.args.depth)) c.in-Some-after.behind.now) = search rules in
-    context_read (chain_at (expression_at c.args.depth)) c.args.tokens.now (term c.in-Some.left) c.in-Some.rest.now c.in-Some-after.behind.now (term c.in-Some-2.right) c.in-Some-2.rest.now left front right
+    ap (λ (v : ContextTerm Raw). Some (v, c.in-Some-2.rest.now)) c.context_of.ensures ∙ context_found c.args.depth c.args.tokens.now (term c.in-Some.left.expr) c.in-Some.rest.now c.in-Some-after.behind.now (term c.in-Some-2.right.expr) c.in-Some-2.rest.now (search rules) (search rules) (search rules)
 
 pub context-returns-in_default : goal.context-returns-in_default
 context-returns-in_default t c =
-    context_without_left (chain_at (expression_at c.args.depth)) c.args.tokens.now (search rules)
+    context_unbegun c.args.depth c.args.tokens.now (search rules)
 
 pub context-returns-in_default-after : goal.context-returns-in_default-after
 context-returns-in_default-after t c =
-    let left : Some (term c.in-Some.left, c.in-Some.rest.now) ≡ made part (option_at (is_level 7) (chain_at (expression_at c.args.depth)) c.args.tokens.now) = search rules in
-    context_without_place (chain_at (expression_at c.args.depth)) c.args.tokens.now (term c.in-Some.left) c.in-Some.rest.now left (search rules)
+    context_unplaced c.args.depth c.args.tokens.now (term c.in-Some.left.expr) c.in-Some.rest.now (search rules) (search rules)
 
 pub context-returns-in_default-2 : goal.context-returns-in_default-2
 context-returns-in_default-2 t c =
-    let left : Some (term c.in-Some.left, c.in-Some.rest.now) ≡ made part (option_at (is_level 7) (chain_at (expression_at c.args.depth)) c.args.tokens.now) = search rules in
-    let front : after Underscore c.in-Some.rest.now ≡ Some c.in-Some-after.behind.now = search rules in
-    context_without_right (chain_at (expression_at c.args.depth)) c.args.tokens.now (term c.in-Some.left) c.in-Some.rest.now c.in-Some-after.behind.now left front (search rules)
+    context_unended c.args.depth c.args.tokens.now (term c.in-Some.left.expr) c.in-Some.rest.now c.in-Some-after.behind.now (search rules) (search rules) (search rules)
 
 pub marks-returns : goal.marks-returns
 marks-returns t c =
-    dots_read (chain_at (expression_at c.args.depth)) (term c.args.centre) (term c.args.before) (term c.in-Some.after) c.args.tokens.now c.in-Some.rest.now (search rules)
+    ap (λ (v : MappingTerm Raw). Some (v, c.in-Some.rest.now)) c.markup.ensures ∙ marks_found c.args.depth (term c.args.centre.expr) (term c.args.before.expr) (term c.in-Some.after.expr) c.args.tokens.now c.in-Some.rest.now (search rules)
 
 pub marks-returns-in_default : goal.marks-returns-in_default
 marks-returns-in_default t c =
-    dots_none (chain_at (expression_at c.args.depth)) (term c.args.centre) (term c.args.before) c.args.tokens.now (search rules)
+    marks_none c.args.depth (term c.args.centre.expr) (term c.args.before.expr) c.args.tokens.now (search rules)
 
 pub insertion-returns : goal.insertion-returns
 insertion-returns t c =
-    let front : Some (c.in-Some.optional, c.in-Some.rest.now) ≡ one_of arrow_of c.args.tokens.now = search rules in
-    let item : Some (term c.in-Some-2.inserted, c.in-Some-2.rest.now) ≡ chain_at (expression_at c.args.depth) c.in-Some.rest.now = search rules in
-    let sides : Some (sided_value c.in-Some-3.side c.in-Some-3.contexts.items, c.in-Some-3.rest.now) ≡ made sided_by (option_at (is_level 12) (sided_at (chain_at (expression_at c.args.depth))) c.in-Some-2.rest.now) = search rules in
-    insertion_read (chain_at (expression_at c.args.depth)) c.args.tokens.now c.in-Some.optional c.in-Some.rest.now (term c.in-Some-2.inserted) c.in-Some-2.rest.now (sided_value c.in-Some-3.side c.in-Some-3.contexts.items) c.in-Some-3.rest.now (term c.in_ok-rules.rules) front item sides c.in_ok-rules.ensures
+    insertion_read c.args.depth c.args.tokens.now c.in-Some.optional c.in-Some.rest.now (term c.in-Some-2.inserted.expr) c.in-Some-2.rest.now (sided_value c.in-Some-3.side c.in-Some-3.contexts.items) c.in-Some-3.rest.now (term c.in_ok-rules.rules.expr) (search rules) (search rules) (search rules) c.in_ok-rules.ensures
 
-pub ruling-returns-in-Some-Operator-Only-default : goal.ruling-returns-in-Some-Operator-Only-default
-ruling-returns-in-Some-Operator-Only-default t c =
-    let spelled : c.args.tokens.now ≡ operator only_operator ∷ c.in-Some-Operator-Only-default.rest.now = search rules in
-    let same = ruling_only_at (chain_at (expression_at c.args.depth)) (term c.args.centre) c.args.tokens.now c.in-Some-Operator-Only-default.rest.now spelled in
-    rw (← same) c.restriction.ensures
+pub insertion-returns-in_default : goal.insertion-returns-in_default
+insertion-returns-in_default t c =
+    insertion_none c.args.depth c.args.tokens.now (search rules)
+
+pub insertion-returns-in_default-2 : goal.insertion-returns-in_default-2
+insertion-returns-in_default-2 t c =
+    insertion_fails c.args.depth c.args.tokens.now c.in-Some.optional c.in-Some.rest.now (search rules) (search rules)
+
+pub insertion-returns-in_default-3 : goal.insertion-returns-in_default-3
+insertion-returns-in_default-3 t c =
+    insertion_unsided c.args.depth c.args.tokens.now c.in-Some.optional c.in-Some.rest.now (term c.in-Some-2.inserted.expr) c.in-Some-2.rest.now (search rules) (search rules) (search rules)
+
+pub ruling-returns-in-Some : goal.ruling-returns-in-Some
+ruling-returns-in-Some t c =
+    let e = ruling_only c.args.depth (term c.args.centre.expr) c.args.tokens.now c.in-Some.rest.now (search rules) in rw (← e) c.restriction.ensures
+
+pub ruling-returns-in-Some-split_arrow : goal.ruling-returns-in-Some-split_arrow
+ruling-returns-in-Some-split_arrow t c =
+    let e = ruling_arrow c.args.depth (term c.args.centre.expr) c.args.tokens.now c.in-Some-split_arrow.optional c.in-Some-split_arrow.rest.now (search rules) in rw (← e) c.replacement.ensures
+
+pub ruling-returns : goal.ruling-returns
+ruling-returns t c =
+    ruling_none c.args.depth (term c.args.centre.expr) c.args.tokens.now (search rules) (search rules)
 
 pub negated-returns : goal.negated-returns
 negated-returns t c =
-    negated_read (expression_at c.args.depth) c.args.tokens.now c.backslashes-marks.result.0 c.backslashes-marks.result.1.now (term c.in-Some.operand) c.in-Some.rest.now (term c.in_ok-with_backslashes.field-0) c.backslashes-marks.ensures (search rules) c.in_ok-with_backslashes.ensures
+    negated_read c.args.depth c.args.tokens.now c.backslashes-marks.result.0 c.backslashes-marks.result.1.now (term c.in-Some.operand.expr) c.in-Some.rest.now (term c.in_ok-with_backslashes.field-0.expr) c.backslashes-marks.ensures (search rules) c.in_ok-with_backslashes.ensures
+
+pub negated-returns-in_default : goal.negated-returns-in_default
+negated-returns-in_default t c =
+    negated_none c.args.depth c.args.tokens.now c.backslashes-marks.result.0 c.backslashes-marks.result.1.now c.backslashes-marks.ensures (search rules)
+
+pub crossed-returns-in_default : goal.crossed-returns-in_default
+crossed-returns-in_default t c =
+    crossed_none c.args.depth c.args.tokens.now (search rules)
+
+pub crossed-returns-in_default-after : goal.crossed-returns-in_default-after
+crossed-returns-in_default-after t c =
+    crossed_alone c.args.depth c.args.tokens.now (term c.in-Some.upper.expr) c.in-Some.rest.now (search rules) (search rules)
+
+pub crossed-returns-in_default-2 : goal.crossed-returns-in_default-2
+crossed-returns-in_default-2 t c =
+    crossed_open c.args.depth c.args.tokens.now (term c.in-Some.upper.expr) c.in-Some.rest.now c.in-Some-after.behind.now (search rules) (search rules) (search rules)
+
+pub crossed-returns : goal.crossed-returns
+crossed-returns t c =
+    crossed_read c.args.depth c.args.tokens.now (term c.in-Some.upper.expr) c.in-Some.rest.now c.in-Some-after.behind.now (term c.in-Some-2.lower.expr) c.in-Some-2.rest.now (term c.in_ok-cross.field-0.expr) (search rules) (search rules) (search rules) c.in_ok-cross.ensures
+
+pub suffixed-returns : goal.suffixed-returns
+suffixed-returns t c =
+    suffixed_read c.args.depth c.args.tokens.now (term c.in-Some.operand.expr) c.in-Some.rest.now c.in-Some-2.marks.items c.in-Some-2.rest.now (term c.in_ok-with_suffixes.field-0.expr) (search rules) (search rules) c.in_ok-with_suffixes.ensures
+
+pub suffixed-returns-in_default : goal.suffixed-returns-in_default
+suffixed-returns-in_default t c =
+    suffixed_none c.args.depth c.args.tokens.now (search rules)
+
+pub suffixed-returns-in_default-2 : goal.suffixed-returns-in_default-2
+suffixed-returns-in_default-2 t c =
+    suffixed_fails c.args.depth c.args.tokens.now (term c.in-Some.operand.expr) c.in-Some.rest.now (search rules) (search rules)
+
+pub prefixed-returns : goal.prefixed-returns
+prefixed-returns t c =
+    prefixed_read c.args.depth c.args.tokens.now c.in_ok-marks.marks.items c.in_ok-marks.rest.now (term c.in-Some.operand.expr) c.in-Some.rest.now (term c.in_ok-with_prefixes.field-0.expr) (search rules) (search rules) c.in_ok-with_prefixes.ensures
+
+pub prefixed-returns-in_default : goal.prefixed-returns-in_default
+prefixed-returns-in_default t c =
+    prefixed_none c.args.depth c.args.tokens.now c.in_ok-marks.marks.items c.in_ok-marks.rest.now (search rules) (search rules)
+
+pub primary-returns-in-Some : goal.primary-returns-in-Some
+primary-returns-in-Some t c =
+    let e = primary_square c.args.depth c.args.tokens.now c.in-Some.rest.now (search rules) in rw (← e) c.square.ensures
+
+pub primary-returns-in-Some-after : goal.primary-returns-in-Some-after
+primary-returns-in-Some-after t c =
+    let e = primary_round c.args.depth c.args.tokens.now c.in-Some-after.rest.now (search rules) in rw (← e) c.round.ensures
+
+pub primary-returns : goal.primary-returns
+primary-returns t c =
+    let e = primary_leaf c.args.depth c.args.tokens.now (search rules) (search rules) in rw (← e) c.leaf.ensures
+
+pub square-returns-in-Some : goal.square-returns-in-Some
+square-returns-in-Some t c =
+    square_blank c.args.depth c.args.tokens.now c.in-Some.rest.now (search rules)
+
+pub square-returns-in_default-2 : goal.square-returns-in_default-2
+square-returns-in_default-2 t c =
+    square_none c.args.depth c.args.tokens.now (search rules) (search rules)
+
+pub square-returns-in_default-after : goal.square-returns-in_default-after
+square-returns-in_default-after t c =
+    square_open c.args.depth c.args.tokens.now (term c.in-Some-2.inner.expr) c.in-Some-2.rest.now (search rules) (search rules) (search rules)
+
+pub square-returns : goal.square-returns
+square-returns t c =
+    square_read c.args.depth c.args.tokens.now (term c.in-Some-2.inner.expr) c.in-Some-2.rest.now c.in-Some-after.rest.now (term c.in_ok-grouped.field-0.expr) (search rules) (search rules) (search rules) c.in_ok-grouped.ensures
+
+pub round-returns-in_default : goal.round-returns-in_default
+round-returns-in_default t c =
+    round_none c.args.depth c.args.tokens.now (search rules)
+
+pub round-returns-in_default-after : goal.round-returns-in_default-after
+round-returns-in_default-after t c =
+    round_open c.args.depth c.args.tokens.now (term c.in-Some.inner.expr) c.in-Some.rest.now (search rules) (search rules)
+
+pub round-returns : goal.round-returns
+round-returns t c =
+    round_read c.args.depth c.args.tokens.now (term c.in-Some.inner.expr) c.in-Some.rest.now c.in-Some-after.rest.now (term c.in_ok-maybe.field-0.expr) (search rules) (search rules) c.in_ok-maybe.ensures
+
+pub chain_or_empty-returns-then-not-begins_operand : goal.chain_or_empty-returns-then-not-begins_operand
+chain_or_empty-returns-then-not-begins_operand t c =
+    part_blank c.args.depth c.args.tokens.now (search rules)
+
+pub chain_or_empty-returns : goal.chain_or_empty-returns
+chain_or_empty-returns t c =
+    let e = part_is c.args.depth c.args.tokens.now (search rules) in rw (← e) c.chain.ensures
+
+pub sided-returns-in_default : goal.sided-returns-in_default
+sided-returns-in_default t c =
+    sided_blank c.args.depth c.args.tokens.now c.new.result.items (search rules) c.new.ensures.items
+
+pub sided-returns-in_default-2 : goal.sided-returns-in_default-2
+sided-returns-in_default-2 t c =
+    sided_fails c.args.depth c.args.tokens.now c.in-Some.side c.in-Some.rest.now (search rules) (search rules)
+
+pub sided-returns : goal.sided-returns
+sided-returns t c =
+    sided_read c.args.depth c.args.tokens.now c.in-Some.side c.in-Some.rest.now c.in-Some-2.contexts.items c.in-Some-2.rest.now (search rules) (search rules)
+
+pub right_side-returns-in-Some : goal.right_side-returns-in-Some
+right_side-returns-in-Some t c =
+    let e = right_marks c.args.depth (term c.args.centre.expr) c.args.tokens.now c.in-Some.behind.now (search rules) in rw (← e) c.marks.ensures
+
+pub right_side-returns-in_default-2 : goal.right_side-returns-in_default-2
+right_side-returns-in_default-2 t c =
+    right_none c.args.depth (term c.args.centre.expr) c.args.tokens.now (search rules) (search rules)
+
+pub right_side-returns-in-Some-after : goal.right_side-returns-in-Some-after
+right_side-returns-in-Some-after t c =
+    let e = right_marked c.args.depth (term c.args.centre.expr) c.args.tokens.now (term c.in-Some-2.result.expr) c.in-Some-2.rest.now c.in-Some-after.behind.now (search rules) (search rules) (search rules) in rw (← e) c.marks-in-Some-after.ensures
+
+pub right_side-returns : goal.right_side-returns
+right_side-returns t c =
+    ap (λ (v : MappingTerm Raw). Some (v, c.in-Some-2.rest.now)) c.plain.ensures ∙ right_plain c.args.depth (term c.args.centre.expr) c.args.tokens.now (term c.in-Some-2.result.expr) c.in-Some-2.rest.now (search rules) (search rules) (search rules)
+
+pub mapping-returns-in_default : goal.mapping-returns-in_default
+mapping-returns-in_default t c =
+    mapping_none c.args.depth c.args.optional c.args.tokens.now (search rules)
+
+pub mapping-returns-in_default-after : goal.mapping-returns-in_default-after
+mapping-returns-in_default-after t c =
+    mapping_unarrowed c.args.depth c.args.optional c.args.tokens.now (term c.in-Some.centre.expr) c.in-Some.rest.now c.arrow.result (search rules) c.arrow.ensures (search rules)
+
+pub mapping-returns : goal.mapping-returns
+mapping-returns t c =
+    let e = mapping_is c.args.depth c.args.optional c.args.tokens.now (term c.in-Some.centre.expr) c.in-Some.rest.now c.arrow.result c.in-Some-after.behind.now (search rules) c.arrow.ensures (search rules) in rw (← e) c.right_side.ensures
+
+pub group-returns-in_default : goal.group-returns-in_default
+group-returns-in_default t c =
+    group_none c.args.depth c.args.optional c.args.tokens.now (search rules)
+
+pub group-returns-in_default-after : goal.group-returns-in_default-after
+group-returns-in_default-after t c =
+    group_unarrowed c.args.depth c.args.optional c.args.tokens.now (term c.in-Some.centre.expr) c.in-Some.rest.now c.arrow.result (search rules) c.arrow.ensures (search rules)
+
+pub group-returns : goal.group-returns
+group-returns t c =
+    let e = group_is c.args.depth c.args.optional c.args.tokens.now (term c.in-Some.centre.expr) c.in-Some.rest.now c.arrow.result c.in-Some-after.behind.now (search rules) c.arrow.ensures (search rules) in rw (← e) c.group_tail.ensures
+
+pub restriction-returns : goal.restriction-returns
+restriction-returns t c =
+    restriction_read c.args.depth (term c.args.centre.expr) c.args.tokens.now c.in-Some.allowed.items c.in-Some.rest.now (term c.in_ok-restriction.field-0.expr) (search rules) c.in_ok-restriction.ensures
+
+pub restriction-returns-in_default : goal.restriction-returns-in_default
+restriction-returns-in_default t c =
+    restriction_none c.args.depth (term c.args.centre.expr) c.args.tokens.now (search rules)
+
+pub nine-returns-in-Some : goal.nine-returns-in-Some
+nine-returns-in-Some t c =
+    let e = nine_inserted c.args.depth c.args.tokens.now c.in-Some.behind.now (search rules) in rw (← e) c.insertion.ensures
+
+pub nine-returns-in_default-2 : goal.nine-returns-in_default-2
+nine-returns-in_default-2 t c =
+    nine_none c.args.depth c.args.tokens.now (search rules) (search rules)
+
+pub nine-returns : goal.nine-returns
+nine-returns t c =
+    let e = nine_ruled c.args.depth c.args.tokens.now (term c.in-Some-2.centre.expr) c.in-Some-2.rest.now (search rules) (search rules) in rw (← e) c.ruling.ensures

@@ -1,9 +1,6 @@
-use Rattle.std.proofs.Common.{◌+◌, ◌*◌, length, map}
-use Rattle.regex_ast.specs.Terms.{term}
-use Rattle.regex_grammar.specs.Reading.{is_level, behind_at, prefixed_at, ignored_at, concat_at, link_at, chain_at, context_at, mapping_at, group_at, nine_at, step_at, expression_at}
-use Rattle.regex_tokens.specs.declared.token.Operator.TheVariants.{Slash, Comma, GroupComma}
-use Rattle.regex_parser.specs.Values.{link_value, step_value, context_value, mapping_value, group_value}
-use Rattle.regex_parser.proofs.Loops.{RowSoFar, MoreSoFar}
+use Rattle.std.proofs.Common.{◌+◌, ◌*◌, length}
+use Rattle.regex_parser.proofs.Levels.{IgnoredSoFar, ConcatSoFar, ChainSoFar, StepsSoFar}
+use Rattle.regex_parser.proofs.Rules.{ContextsSoFar, MappingsSoFar, GroupsSoFar}
 use Rattle.regex_parser.proofs.parser.+parser.Given as goal
 
 -- by the brackets that may be opened, and then by the levels
@@ -86,43 +83,43 @@ abbrev pub decreases-steps : goal.decreases-steps
 decreases-steps l = 25 * l.depth + 24
 
 abbrev pub invariant-ignored-operands : goal.invariant-ignored-operands
-invariant-ignored-operands l = RowSoFar (is_level 6) (behind_at Slash (λ t. t) (prefixed_at (expression_at l.depth))) l.initial.rest l.initial.first l.first (map term l.more.items) l.rest
+invariant-ignored-operands l = IgnoredSoFar l.depth l.initial.rest l.initial.first.expr l.first.expr l.more.items l.rest
 
 abbrev pub decreases-ignored-operands : goal.decreases-ignored-operands
 decreases-ignored-operands l = length l.rest
 
 abbrev pub invariant-concatenation-operands : goal.invariant-concatenation-operands
-invariant-concatenation-operands l = RowSoFar (is_level 7) (ignored_at (expression_at l.depth)) l.initial.rest l.initial.first l.first (map term l.more.items) l.rest
+invariant-concatenation-operands l = ConcatSoFar l.depth l.initial.rest l.initial.first.expr l.first.expr l.more.items l.rest
 
 abbrev pub decreases-concatenation-operands : goal.decreases-concatenation-operands
 decreases-concatenation-operands l = length l.rest
 
 abbrev pub invariant-chain-links : goal.invariant-chain-links
-invariant-chain-links l = RowSoFar (is_level 8) (link_at (concat_at (expression_at l.depth))) l.initial.rest l.initial.first l.first (map link_value l.links.items) l.rest
+invariant-chain-links l = ChainSoFar l.depth l.initial.rest l.initial.first.expr l.first.expr l.links.items l.rest
 
 abbrev pub decreases-chain-links : goal.decreases-chain-links
 decreases-chain-links l = length l.rest
 
 abbrev pub invariant-steps-steps : goal.invariant-steps-steps
-invariant-steps-steps l = RowSoFar (is_level 15) (step_at (nine_at (chain_at (expression_at l.depth)))) l.initial.rest l.initial.first l.first (map step_value l.found.items) l.rest
+invariant-steps-steps l = StepsSoFar l.depth l.initial.rest l.initial.first.expr l.first.expr l.found.items l.rest
 
 abbrev pub decreases-steps-steps : goal.decreases-steps-steps
 decreases-steps-steps l = length l.rest
 
 abbrev pub invariant-contexts-contexts : goal.invariant-contexts-contexts
-invariant-contexts-contexts l = MoreSoFar (is_level 11) (behind_at Comma (λ c. c) (context_at (chain_at (expression_at l.depth)))) l.initial.rest (map context_value l.initial.found.items) (map context_value l.found.items) l.rest
+invariant-contexts-contexts l = ContextsSoFar l.depth l.initial.rest l.initial.found.items l.found.items l.rest
 
 abbrev pub decreases-contexts-contexts : goal.decreases-contexts-contexts
 decreases-contexts-contexts l = length l.rest
 
 abbrev pub invariant-group_tail-mappings : goal.invariant-group_tail-mappings
-invariant-group_tail-mappings l = MoreSoFar (is_level 11) (behind_at Comma (λ m. m) (mapping_at l.optional (chain_at (expression_at l.depth)))) l.initial.rest (map mapping_value l.initial.maps.items) (map mapping_value l.maps.items) l.rest
+invariant-group_tail-mappings l = MappingsSoFar l.depth l.optional l.initial.rest l.initial.maps.items l.maps.items l.rest
 
 abbrev pub decreases-group_tail-mappings : goal.decreases-group_tail-mappings
 decreases-group_tail-mappings l = length l.rest
 
 abbrev pub invariant-replacement-groups : goal.invariant-replacement-groups
-invariant-replacement-groups l = MoreSoFar (is_level 13) (behind_at GroupComma (λ g. g) (group_at l.optional (chain_at (expression_at l.depth)))) l.initial.rest (map group_value l.initial.groups.items) (map group_value l.groups.items) l.rest
+invariant-replacement-groups l = GroupsSoFar l.depth l.optional l.initial.rest l.initial.groups.items l.groups.items l.rest
 
 abbrev pub decreases-replacement-groups : goal.decreases-replacement-groups
 decreases-replacement-groups l = length l.rest
