@@ -1,11 +1,44 @@
 -- A homomorphism of complete automata keeps the language.
-use Rattle.std.proofs.Common.{◌≡◌, ℕ, ◌+◌, ◌*◌, ◌<◌, ◌↔◌, List, Option, Some, length, subst, sym, arith, ◌∙◌}
+use Rattle.std.proofs.Common.{◌≡◌, ℕ, ◌+◌, ◌*◌, ◌<◌, ◌≤◌, ◌⊎◌, ◌↔◌, List, Option, Some, true, false, not, Bool, IsTrue, length, get_or, refl, subst, sym, inl, inr, arith, ◌∙◌}
+use Rattle.std.proofs.lemmas.Bool.{cases_lt}
+use mathlib.Core.Bool.{beq}
 use Rattle.std.specs.List.{slice_get}
 use Rattle.std.proofs.lemmas.Option.{slice_get_within, slice_get-get_or}
 use Rattle.std.proofs.lemmas.Nat.{mul-add-lt}
 use Rattle.fsm_words.proofs.Places.{same_at}
 use Rattle.fsa.specs.Complete.{Complete, IsComplete, AcceptsFrom, Accepts, stop, read, next_state}
 use Rattle.fsa_minimal.specs.Images.{AreImages}
+
+-- the letters before a bound lead a state to states that become those to which they lead the image
+abbrev pub GoesOnBelow : {L : Type 0} → Complete L → Complete L → List (Option ℕ) → ℕ → ℕ → ℕ → Type 0
+GoesOnBelow a b images s i bound = (place to : ℕ) → place < bound → next_state a s place ≡ Some to
+    → (u : ℕ) × (slice_get images to ≡ Some (Some u)) × (next_state b i place ≡ Some u)
+
+pub GoesOnBelow-more : {L : Type 0} (a b : Complete L) (images : List (Option ℕ)) (s i bound t u : ℕ) → next_state a s bound ≡ Some t → slice_get images t ≡ Some (Some u) → next_state b i bound ≡ Some u → GoesOnBelow a b images s i bound → GoesOnBelow a b images s i (bound + 1)
+GoesOnBelow-more a b images s i bound t u goes is image_goes below place to l go =
+    elim (cases_lt place bound) [
+      | inl old ↦ below place to old go
+      | inr past ↦
+          let this : place ≡ bound = omega arith in
+          let same : t ≡ to = same_at a.next (s * length a.letters + bound) t to goes (subst (λ k. next_state a s k ≡ Some to) this go) in
+          (u, subst (λ v. slice_get images v ≡ Some (Some u)) same is, subst (λ k. next_state b i k ≡ Some u) (sym this) image_goes)
+    ]
+
+pub same_bools : (p q : Bool) → not (beq p q) ≡ false → p ≡ q
+same_bools true true e = refl
+same_bools true false e = absurd (cc)
+same_bools false true e = absurd (cc)
+same_bools false false e = refl
+
+-- two places hold the same flag, where both are set or both aren't
+pub same_flags : (xs ys : List Bool) (s i : ℕ) (p q : Bool) → s < length xs → i < length ys → (IsTrue p ↔ (slice_get xs s ≡ Some true)) → (IsTrue q ↔ (slice_get ys i ≡ Some true)) → p ≡ q → slice_get xs s ≡ slice_get ys i
+same_flags xs ys s i p q there_s there_i is_p is_q same = go (get_or xs s false) (get_or ys i false) (slice_get-get_or xs s false there_s) (slice_get-get_or ys i false there_i)
+  where
+    go : (x y : Bool) → slice_get xs s ≡ Some x → slice_get ys i ≡ Some y → slice_get xs s ≡ slice_get ys i
+    go true true at_s at_i = at_s ∙ sym at_i
+    go false false at_s at_i = at_s ∙ sym at_i
+    go true false at_s at_i = let set : slice_get ys i ≡ Some true = is_q.0 (subst IsTrue same (is_p.1 at_s)) in let clash : Some false ≡ Some true = sym at_i ∙ set in absurd (cc)
+    go false true at_s at_i = let set : slice_get xs s ≡ Some true = is_p.0 (subst IsTrue (sym same) (is_q.1 at_i)) in let clash : Some false ≡ Some true = sym at_s ∙ set in absurd (cc)
 
 -- the letter at a place leads from a state that is there to some state
 pub leads_somewhere : {L : Type 0} (d : Complete L) → IsComplete d → (s k : ℕ) → s < length d.finals → k < length d.letters → (t : ℕ) × (next_state d s k ≡ Some t)

@@ -1,4 +1,4 @@
-ghost use Rattle.std.specs.Prelude.{◌≡◌, ◌<◌, ℕ, Some, IsTrue, length, slice_get};
+ghost use Rattle.std.specs.Prelude.{◌≡◌, ◌<◌, ℕ, Some, IfSome, IsTrue, length, slice_get};
 ghost use Rattle.fsa_minimal.specs.Images.{GoesOnAs, AreImages};
 
 use fsa::Dfa;
@@ -11,7 +11,7 @@ pub fn are_images<L: Letter>(a: &Dfa<L>, b: &Dfa<L>, images: &[Option<usize>]) -
     requires { b.now.letters ≡ a.now.letters }
     ensures { IsTrue result → AreImages a.now b.now images.now }
 {
-    if images.first().copied() != Some(Some(0)) {
+    if image_of(images, 0) != Some(0) {
         return false;
     }
     for (state, image) in images.iter().enumerate() {
@@ -55,10 +55,19 @@ fn goes_on_as<L: Letter>(
         return false;
     }
     for place in 0..a.letters().len() {
-        let to = images.get(a.next(state, place)).copied();
-        if to != Some(Some(b.next(image, place))) {
+        let Some(to) = image_of(images, a.next(state, place)) else {
+            return false;
+        };
+        if to != b.next(image, place) {
             return false;
         }
     }
     true
+}
+
+/// What a state becomes, or None where it becomes none.
+fn image_of(images: &[Option<usize>], state: usize) -> Option<usize>
+    ensures { IfSome result (λ image. slice_get images.now state ≡ Some (Some image)) }
+{
+    *images.get(state)?
 }

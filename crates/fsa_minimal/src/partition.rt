@@ -100,7 +100,7 @@ impl Partition {
         Ok(members)
     }
 
-    /// Marks a state.
+    /// Marks a state, but not one that is alone in its class, which can't be split.
     pub fn mark(&mut self, state: usize) -> Result<(), AllocError>
         requires { state < length self.old.states.items }
         ensures { OnOk result (length self.new.states.items ≡ length self.old.states.items) }
@@ -109,7 +109,7 @@ impl Partition {
         let class = self.classes[number];
         let place = self.places[state];
         let is_marked = place < class.middle || place >= class.end;
-        if is_marked {
+        if is_marked || class.len() == 1 {
             return Ok(());
         }
         if class.middle == class.start {

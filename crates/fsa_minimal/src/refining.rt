@@ -16,7 +16,8 @@ pub fn refined<L: Letter>(alloc: Global, a: &Dfa<L>) -> Result<Partition, AllocE
     let inverses = inverses_of(alloc, a)?;
     let mut partition = by_finals(alloc, a)?;
     for splitter in 0..a.states() {
-        if splitter >= partition.len() {
+        let is_done = splitter >= partition.len() || partition.len() == a.states();
+        if is_done {
             break;
         }
         let members = partition.members(alloc, splitter)?;
