@@ -21,15 +21,15 @@ module _ {L : Type 0} (edges : List (Edge L)) where
   abbrev pub IsNext : ℕ → ℕ → Type 0
   IsNext p q = Contains edges (record { from = p; letter = None; to = q })
 
-  -- the edges that leave a state, as `Rows::out` gives them
-  pub target_next : (out : List (Edge L)) (p : ℕ) → ((e : Edge L) → Contains out e ↔ (Contains edges e × (e.from ≡ p))) → (q : ℕ) → IsTarget out None q → IsNext p q
+  -- the silent edges that leave a state, as `Rows::silent_out` gives them
+  pub target_next : (out : List (Edge L)) (p : ℕ) → ((e : Edge L) → Contains out e ↔ (Contains edges e × (e.from ≡ p) × (e.letter ≡ None))) → (q : ℕ) → IsTarget out None q → IsNext p q
   target_next out p is q (e, held, letter, to) =
       let r = (is e).0 held in
       let P : ℕ → Option L → ℕ → Type 0 = λ a b c. Contains edges (record { from = a; letter = b; to = c }) in
       subst (λ a. P a None q) r.1 (subst (λ b. P e.from b q) letter (subst (λ c. P e.from e.letter c) to r.0))
 
-  pub next_target : (out : List (Edge L)) (p : ℕ) → ((e : Edge L) → Contains out e ↔ (Contains edges e × (e.from ≡ p))) → (q : ℕ) → IsNext p q → IsTarget out None q
-  next_target out p is q held = (record { from = p; letter = None; to = q }, (is (record { from = p; letter = None; to = q })).1 (held, refl), refl, refl)
+  pub next_target : (out : List (Edge L)) (p : ℕ) → ((e : Edge L) → Contains out e ↔ (Contains edges e × (e.from ≡ p) × (e.letter ≡ None))) → (q : ℕ) → IsNext p q → IsTarget out None q
+  next_target out p is q held = (record { from = p; letter = None; to = q }, (is (record { from = p; letter = None; to = q })).1 (held, refl, refl), refl, refl)
 
 -- the states before a place were looked at
 pub record IsClosing {L : Type 0} (edges : List (Edge L)) (start now : Marks) (place : ℕ) : Type 0 where

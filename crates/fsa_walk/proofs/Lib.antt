@@ -6,3 +6,4 @@ pub mod TargetsLemmas
 pub mod Numbered
 pub mod Exploring
 pub mod Built
+pub mod SilentEdges

@@ -3,3 +3,4 @@ pub mod Reaches
 pub mod Marking
 pub mod Targets
 pub mod Explored
+pub mod Silent

@@ -39,8 +39,8 @@ fn is_same<L: Letter>(a: Option<L>, b: Option<L>) -> bool
     }
 }
 
-/// Adds the states that a path of silent edges reaches from those that are there. Each state's edges are looked
-/// at once.
+/// Adds the states that a path of silent edges reaches from those that are there. Each state's silent edges are
+/// looked at once, and no others.
 pub fn close<L: Letter>(rows: &Rows<L>, states: &mut Marked) -> Result<(), AllocError>
     requires { AreWithin rows.now states.old.bound }
     ensures ok { OnOk result (Adds states.old states.new (IsReached rows.now states.old.found)) }
@@ -49,7 +49,7 @@ pub fn close<L: Letter>(rows: &Rows<L>, states: &mut Marked) -> Result<(), Alloc
     let mut next = 0;
     while next < states.found().len() {
         let state = states.found()[next];
-        add_targets(rows.out(state), None, states)?;
+        add_targets(rows.silent_out(state), None, states)?;
         next += 1;
     }
     Ok(())

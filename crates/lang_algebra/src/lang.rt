@@ -10,13 +10,15 @@ use crate::ignoring::ignoring;
 use crate::live::live_part;
 use crate::one_letter::one_letter;
 use fsa::{Dfa, Fsa};
+use fsa_minimal::minimal;
 use fsa_subset::determine;
 use fsm_base::Letter;
 use std::alloc::{AllocError, Global};
 use std::marker::Model;
 
 /// A language over a list of letters, each of which stands once. Contracts see a complete deterministic automaton
-/// over the letters, in their order, whose words are those of the language.
+/// over the letters, in their order, whose words are those of the language. Each operation makes it small again, so
+/// that useless states don't add up.
 #[derive(Debug, Drop)]
 pub struct Lang<L> {
     dfa: Dfa<L>,
@@ -40,7 +42,15 @@ impl<L: Letter> Lang<L> {
         ensures { IfOk result (IsLang letters.now (language.Accepts a.now)) }
     {
         let dfa = determine(alloc, &live_part(alloc, a)?, letters)?;
-        Ok(Lang::of_dfa(dfa))
+        Lang::of_small(alloc, &dfa)
+    }
+
+    /// The language of a complete automaton, as a small one.
+    fn of_small(alloc: Global, dfa: &Dfa<L>) -> Result<Lang<L>, AllocError>
+        ensures { IfOk result (IsLang dfa.now.letters (Accepts dfa.now)) }
+    {
+        let small = minimal(alloc, dfa)?;
+        Ok(Lang::of_dfa(small))
     }
 
     /// The language of a complete automaton.
@@ -109,7 +119,7 @@ impl<L: Letter> Lang<L> {
         ensures { IfOk result (IsLang self.now.letters (λ w. Accepts self.now w × Accepts other.now w)) }
     {
         let dfa = fsa_product::both(alloc, &self.dfa, &other.dfa)?;
-        Ok(Lang::of_dfa(dfa))
+        Lang::of_small(alloc, &dfa)
     }
 
     /// The words of this language that aren't in the other. The languages have the same letters.
@@ -118,7 +128,7 @@ impl<L: Letter> Lang<L> {
         ensures { IfOk result (IsLang self.now.letters (λ w. Accepts self.now w × ¬ Accepts other.now w)) }
     {
         let dfa = fsa_product::minus(alloc, &self.dfa, &other.dfa)?;
-        Ok(Lang::of_dfa(dfa))
+        Lang::of_small(alloc, &dfa)
     }
 
     /// The words that join any number of words of the language, the empty word among them.
@@ -129,7 +139,7 @@ impl<L: Letter> Lang<L> {
         Lang::of(alloc, self.letters(), &repeated)
     }
 
-    /// The words over the letters that aren't in the language.
+    /// The words over the letters that aren't in the language. The automaton has the same states.
     pub fn complement(&self, alloc: Global) -> Result<Lang<L>, AllocError>
         ensures { IfOk result (IsLang self.now.letters (λ w. IsOver self.now.letters w × ¬ Accepts self.now w)) }
     {

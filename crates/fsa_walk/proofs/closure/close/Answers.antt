@@ -7,7 +7,7 @@ use Rattle.fsa_walk.specs.Targets.{IsTarget}
 use Rattle.fsa_walk.proofs.closure.close.Goals as goal
 
 pub add_targets-requires : goal.add_targets-requires
-add_targets-requires g c = λ e h. rw c.loop-next.invariant.grows.bound (c.requires e ((c.out.ensures e).0 h).0)
+add_targets-requires g c = λ e h. rw c.loop-next.invariant.grows.bound (c.requires e ((c.silent_out.ensures e).0 h).0)
 
 pub returns-in_err-add_targets-clause-err : goal.returns-in_err-add_targets-clause-err
 returns-in_err-add_targets-clause-err g c =
@@ -18,8 +18,8 @@ returns-in_err-add_targets-clause-err g c =
     ap (λ ks. get_or ks c.loop-next.next 0) c.found-in-loop-next.ensures.found ∙ get_or_default c.loop-next.states.found c.loop-next.next 0 state inside in
     rw p.1
     (closing_grows c.args.rows.now c.args.states.now c.loop-next.states c.loop-next.next c.loop-next.invariant state inside at c.add_targets.new.states
-    (Grows-weaker c.loop-next.states c.add_targets.new.states (IsTarget c.out.result.now None) (IsNext c.args.rows.now state)
-    (target_next c.args.rows.now c.out.result.now state c.out.ensures) c.in_err-add_targets.ensures.err))
+    (Grows-weaker c.loop-next.states c.add_targets.new.states (IsTarget c.silent_out.result.now None) (IsNext c.args.rows.now state)
+    (target_next c.args.rows.now c.silent_out.result.now state c.silent_out.ensures) c.in_err-add_targets.ensures.err))
 
 pub loop-next-preserved : goal.loop-next-preserved
 loop-next-preserved g c =
@@ -28,8 +28,8 @@ loop-next-preserved g c =
     let at : state ≡ get_or c.loop-next.states.found c.loop-next.next state =
     ap (λ ks. get_or ks c.loop-next.next 0) c.found-in-loop-next.ensures.found ∙ get_or_default c.loop-next.states.found c.loop-next.next 0 state inside in
     closing_more c.args.rows.now c.args.states.now c.loop-next.states c.loop-next.next c.loop-next.invariant state inside at c.add_targets.new.states
-    (Adds-same c.loop-next.states c.add_targets.new.states (IsTarget c.out.result.now None) (IsNext c.args.rows.now state)
-    (target_next c.args.rows.now c.out.result.now state c.out.ensures) (next_target c.args.rows.now c.out.result.now state c.out.ensures) c.in_ok-add_targets.ensures.ok)
+    (Adds-same c.loop-next.states c.add_targets.new.states (IsTarget c.silent_out.result.now None) (IsNext c.args.rows.now state)
+    (target_next c.args.rows.now c.silent_out.result.now state c.silent_out.ensures) (next_target c.args.rows.now c.silent_out.result.now state c.silent_out.ensures) c.in_ok-add_targets.ensures.ok)
 
 pub returns-clause-ok : goal.returns-clause-ok
 returns-clause-ok g c =

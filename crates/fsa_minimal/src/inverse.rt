@@ -1,0 +1,44 @@
+ghost use Rattle.std.specs.Prelude.{◌≡◌, ◌<◌, ℕ, All, IfOk, Some, length, slice_get};
+
+use crate::columns::places_apart;
+use fsa::Dfa;
+use fsm_base::Letter;
+use std::alloc::{AllocError, Global};
+
+/// Which states lead to a state at one letter, as a chain from the last one back.
+#[derive(Debug, Drop)]
+pub struct Inverse {
+    /// For each state, the last state that leads to it.
+    pub last: Vec<Option<usize>>,
+    /// For each state, the one before it that leads to the same state.
+    pub before: Vec<Option<usize>>,
+    ghost last_within: { (t s : ℕ) → slice_get last.items t ≡ Some (Some s) → s < length before.items },
+    ghost descending: { (t s : ℕ) → slice_get before.items t ≡ Some (Some s) → s < t },
+}
+
+/// An inverse for each class of letters that act alike.
+pub fn inverses_of<L: Letter>(alloc: Global, a: &Dfa<L>) -> Result<Vec<Inverse>, AllocError>
+    ensures { IfOk result (λ inverses. All (λ inverse. (length inverse.last.items ≡ length a.now.finals) × (length inverse.before.items ≡ length a.now.finals)) inverses.items) }
+{
+    let mut inverses = Vec::new(alloc);
+    for place in &places_apart(alloc, a)? {
+        inverses.push(inverse_at(alloc, a, *place)?)?;
+    }
+    Ok(inverses)
+}
+
+/// The inverse at the letter at a place.
+fn inverse_at<L: Letter>(alloc: Global, a: &Dfa<L>, place: usize) -> Result<Inverse, AllocError>
+    requires { place < length a.now.letters }
+    ensures last { IfOk result (λ inverse. length inverse.last.items ≡ length a.now.finals) }
+    ensures before { IfOk result (λ inverse. length inverse.before.items ≡ length a.now.finals) }
+{
+    let mut last = vec![in alloc; None; a.states()]?;
+    let mut before = Vec::with_capacity(alloc, a.states())?;
+    for state in 0..a.states() {
+        let to = a.next(state, place);
+        before.push(last[to])?;
+        last[to] = Some(state);
+    }
+    Ok(Inverse { last, before })
+}
