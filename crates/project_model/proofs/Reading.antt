@@ -1,17 +1,19 @@
 -- From the content of files to what they say together.
-use Rattle.std.proofs.Common.{◌≡◌, ◌==◌, ◌+◌, ◌<◌, ◌≤◌, ℕ, Bool, true, false, not, cond, ◌&&◌, List, [], ◌∷◌, ◌++◌, length, map, All, Contains, Option, Some, None, Result, Ok, Err, refl, sym, ap, subst, ◌∙◌, arith}
+use Rattle.std.proofs.Common.{◌≡◌, ◌==◌, ◌+◌, ◌*◌, ◌-◌, ◌^◌, ◌<◌, ◌≤◌, count_by, ℕ, Bool, true, false, not, cond, ◌&&◌, List, [], ◌∷◌, ◌++◌, length, map, All, Contains, Option, Some, None, Result, Ok, Err, refl, sym, ap, subst, ◌∙◌, arith}
 use Rattle.std.proofs.lemmas.List.Elements.{All-cons, All-nil}
 use Rattle.std.specs.List.{list_all}
+use Rattle.std.proofs.lemmas.List.Sums.{count_by-le-length}
 use Rattle.std.specs.Option.{option_map}
 use Rattle.fsm_io.specs.Folders.{Files, file_of}
+use Rattle.fsm_base.specs.Normal.{most_growth}
 use Rattle.fsm_base.specs.Symbols.{IsSymbol}
 use Rattle.fsm_base.specs.declared.letters.Sym.{Sym}
 use Rattle.regex_ast.specs.declared.fault.Fault.{Fault}
 use Rattle.regex_ast.specs.declared.fault.Why.TheVariants as why
-use Rattle.project_manifest.specs.Manifests.{IsBehind, IsManifest, IsSomeManifest, ManifestView, Saying, is_symbol_word, lines_from, takes_nothing, text_of}
+use Rattle.project_manifest.specs.Manifests.{IsBehind, IsManifest, IsSomeManifest, ManifestView, Saying, is_symbol_word, lines_from, lines_of, takes_nothing, text_of}
 use Rattle.project_model.specs.Planned.{IsPlanIn, IsPlanWith}
 use Rattle.project_model.specs.Plans.{PlanView}
-use Rattle.project_model.specs.Reads.{ContentSays, no_text, FilesSay, no_manifest, HasNoText, large, not_utf8, control, HasText, IsManifestFile, IsWhyNoManifest, IsWhyNoTextOf}
+use Rattle.project_model.specs.Reads.{ContentSays, no_text, FilesSay, no_manifest, HasNoText, large, not_utf8, control, HasText, most_bytes, IsManifestFile, IsWhyNoManifest, IsWhyNoTextOf}
 use Rattle.project_model.specs.Together.{IsRefusal, fault, project_name}
 use Rattle.project_model.specs.Written.{Planned}
 use Rattle.project_model.specs.declared.plan_error.PlanError.{PlanError}
@@ -48,6 +50,15 @@ lines_few line (b ∷ bs) = by (b == 10) (lines_few [] bs) (lines_few (line ++ b
         → length (cond e (line ∷ lines_from [] bs) (lines_from (line ++ b ∷ []) bs)) ≤ length (b ∷ bs) + 1
     by true ends goes = omega (arith, ends)
     by false ends goes = omega (arith, goes)
+
+-- a file's text has fewer lines than 32 bits count
+pub text_short : (text : List ℕ) → length text ≤ most_growth * most_bytes → length (lines_of text) < 4294967295
+unfolding most_bytes
+text_short text short = omega (arith, lines_few [] text, short)
+
+pub newlines_short : (text : List ℕ) → length text ≤ most_growth * most_bytes → count_by (λ b. b == 10) text + 1 < 2 ^ 32 - 1
+unfolding most_bytes
+newlines_short text short = omega (arith, count_by-le-length (λ b. b == 10) text, short)
 
 -- the symbols of a manifest aren't empty
 and_first : (a b : Bool) → (a && b) ≡ true → a ≡ true

@@ -1,5 +1,5 @@
-ghost use Rattle.std.specs.Prelude.{◌≡◌, ◌<◌, ◌≤◌, List, ℕ, All, Err, IfErr, IfOk, OnErr, length, take};
-ghost use Rattle.fsm_base.specs.Normal.{IsWhyNoText, source_text};
+ghost use Rattle.std.specs.Prelude.{◌≡◌, ◌*◌, ◌≤◌, List, ℕ, All, Err, IfErr, IfOk, OnErr, length, take};
+ghost use Rattle.fsm_base.specs.Normal.{IsWhyNoText, most_growth, source_text};
 ghost use Rattle.fsm_base.specs.Symbols.{IsSymbol};
 ghost use Rattle.project_manifest.specs.Manifests.{IsManifestRead, IsSomeManifest};
 ghost use Rattle.project_model.specs.Planned.{IsPlanIn};
@@ -13,14 +13,10 @@ use fsm_base::{SymbolTable, Text, TextError, normal};
 use project_manifest::{Manifest, read_manifest};
 use regex_ast::{ReadError, Why};
 use regex_reader::read_xfst;
-use std::alloc::{AllocError, Global};
+use std::alloc::Global;
 
 /// The most bytes of a file.
 const MOST_BYTES: usize = 1_048_576;
-
-/// More bytes than a file's text has. Normalization Form C makes a text three times as long at most (Unicode Standard
-/// Annex 15, section 3).
-const MOST_TEXT: usize = 4 * MOST_BYTES;
 
 /// That bytes are no text.
 fn no_text(alloc: Global, name: &str, error: TextError) -> PlanError
@@ -37,6 +33,7 @@ fn no_text(alloc: Global, name: &str, error: TextError) -> PlanError
 #[tactic(auto, unfolding(crate::specs::Reads::most_bytes))]
 fn text_of_file(alloc: Global, name: &str, bytes: &[u8]) -> Result<Text, PlanError>
     ensures text { IfOk result (λ text. HasText bytes.now text) }
+    ensures short { IfOk result (λ text. length text ≤ most_growth * most_bytes) }
     ensures error { IfErr result (IsWhyNoTextOf name.now bytes.now) }
 {
     if bytes.len() > MOST_BYTES {
@@ -82,10 +79,6 @@ pub fn manifest_of(alloc: Global, bytes: &[u8]) -> Result<Manifest, PlanError>
         Ok(text) => text,
         Err(error) => return Err(no_manifest(alloc, error)),
     };
-    // This never comes, since no file's text is so long.
-    if text.as_str().len() > MOST_TEXT {
-        return Err(PlanError::Memory(AllocError));
-    }
     match read_manifest(alloc, text.as_str()) {
         Ok(manifest) => Ok(manifest),
         Err(error) => Err(unread(alloc, error)),
@@ -100,15 +93,12 @@ fn plan_of_text(
     further: &[Text],
     table: &mut SymbolTable,
 ) -> Result<Plan, PlanError>
+    requires short { length text.now ≤ most_growth * most_bytes }
     requires symbols { All IsSymbol further.now }
     requires room { length table.old ≤ 16776192 }
     ensures plan { IsPlanIn (TextSays name.now text.now further.now table.old) table.old table.new result }
     ensures front { take (length table.old) table.new ≡ table.old }
 {
-    // This never comes, since no file's text is so long.
-    if text.len() > MOST_TEXT {
-        return Err(PlanError::Memory(AllocError));
-    }
     match read_xfst(alloc, text) {
         Ok(defines) => plan_of_statements(alloc, name, &defines, further, table),
         Err(ReadError::Fault { line, why }) => Err(refused(alloc, name, line, why)),

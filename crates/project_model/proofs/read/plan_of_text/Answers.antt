@@ -3,8 +3,11 @@ use Rattle.regex_reader.specs.Files.{statement_of}
 use Rattle.project_model.specs.Planned.{StatementsSay}
 use Rattle.project_model.specs.Reads.{TextSays, read, unread}
 use Rattle.project_model.specs.Together.{fault}
-use Rattle.project_model.proofs.Reading.{plan_from, refused_plan}
+use Rattle.project_model.proofs.Reading.{newlines_short, plan_from, refused_plan}
 use Rattle.project_model.proofs.read.plan_of_text.Goals as goal
+
+pub read_xfst-requires : goal.read_xfst-requires
+read_xfst-requires c = newlines_short c.args.text.now c.requires.short
 
 pub returns-in-Ok-clause-plan : goal.returns-in-Ok-clause-plan
 returns-in-Ok-clause-plan c =
