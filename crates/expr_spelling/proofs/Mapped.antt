@@ -3,7 +3,7 @@ use Rattle.std.proofs.Common.{◌≡◌, Bool, refl, ap}
 use Rattle.std.proofs.lemmas.List.{map-id}
 use Rattle.regex_ast.specs.Terms.{Term, Terms, Links, Contexts, Steps, empty, any, edge, atom, letters, group, maybe, not_one, cross, suffixed, prefixed, ignore, concat, chain, only, rules, steps, no_term, then_term, no_link, or, and, less, no_context, between, no_step, cross_with, then}
 use Rattle.expr_forms.specs.Built.{IsBuilt, AreBuilt, LinksAreBuilt, ContextsAreBuilt, StepsAreBuilt}
-use Rattle.expr_spelling.specs.Mapped.{mapped, mapped_each, mapped_links, mapped_contexts, mapped_steps}
+use Rattle.expr_parts.specs.Mapped.{mapped, mapped_each, mapped_links, mapped_contexts, mapped_steps}
 
 module _ {A : Type 0} (spells : A → Bool) where
   abbrev itself : A → A

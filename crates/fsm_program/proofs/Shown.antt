@@ -21,7 +21,7 @@ use Rattle.regex_ast.specs.declared.expr.Raw.{Raw}
 use Rattle.expr_meaning.specs.Leaves.{stands_for}
 use Rattle.expr_meaning.specs.Meaning.{Relates}
 use Rattle.expr_spelling.specs.Laws.{IsSpelled}
-use Rattle.expr_spelling.specs.Mapped.{mapped}
+use Rattle.expr_parts.specs.Mapped.{mapped}
 use Rattle.expr_spelling.proofs.Leaves.{symbols_spelled}
 use Rattle.expr_spelling.proofs.Spelling.{spelling}
 use Rattle.fsm_meaning.specs.Projects.{Defines, Definition as Meant, Meaning, is_symbol, names_of, stands_for as written_for, symbol_of}
