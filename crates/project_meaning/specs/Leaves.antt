@@ -96,13 +96,15 @@ expressions_of (xfst e) = e ∷ []
 expressions_of (lexc lexicons) = flat_map expressions_in (forms_in lexicons)
 expressions_of (twolc grammar) = []
 
--- the name that a leaf is, and the symbol, if it is one
+-- the name that a leaf is, if it is one
 abbrev pub name_in : Leaf → List (List ℕ)
 name_in (named text) = text ∷ []
 name_in (symbol text) = []
 
+-- the symbol that a leaf is, if it is one; an empty text is none
 abbrev pub symbol_in : Leaf → List (List ℕ)
-symbol_in (symbol text) = text ∷ []
+symbol_in (symbol []) = []
+symbol_in (symbol (b ∷ bs)) = (b ∷ bs) ∷ []
 symbol_in (named text) = []
 
 -- the names that a body refers to
