@@ -9,7 +9,8 @@ use Rattle.regex_ast.specs.declared.fault.Fault.{Fault}
 use Rattle.regex_ast.specs.declared.fault.Why.TheVariants as why
 use Rattle.regex_ast.specs.Terms.{Term}
 use Rattle.regex_reader.specs.Files.{Statement, FaultAt}
-use Rattle.fsm_meaning.specs.Projects.{alphabet_of, with_texts}
+use Rattle.project_meaning.specs.Projects.{with_texts}
+use Rattle.project_model.specs.Raws.{alphabet_of}
 use Rattle.expr_forms.specs.Atoms.{is_symbol, one, symbols}
 use Rattle.expr_forms.specs.Built.{IsBuilt}
 use Rattle.expr_forms.specs.Kinds.{Fits}

@@ -9,6 +9,7 @@ use Rattle.project_manifest.specs.Manifests.{project_name}
 use Rattle.project_meaning.specs.Forms.{body_weight, weight_in}
 use Rattle.project_meaning.specs.Projects.{Definition, Project, HasNoCycle, IsClosed}
 use Rattle.project_sources.specs.Sources.{Readers}
+use Rattle.project_sources.specs.Edits.{Edit, Holding, Apply}
 use Rattle.project_sources.specs.Faults.{Row, read_rows, rows, empty_centre, in_said, fault, HasFault, FirstFault, SourcesSay}
 
 -- sources have at most one first fault, whichever rows are told
@@ -45,3 +46,7 @@ abbrev pub CentresComeLast : Readers → Type 0
 CentresComeLast readers =
     (files : Files) (found : Fault) → FirstFault readers files rows found
     ↔ (FirstFault readers files read_rows found ⊎ (((other : Fault) → FirstFault readers files read_rows other → ⊥) × HasFault readers files (in_said empty_centre) found))
+
+-- edits make one thing of what is held, or have one fault
+abbrev pub OneOutcome : Type 0
+OneOutcome = (change : List Edit) (held : Holding) (a b : Result Holding Fault) → Apply change held a → Apply change held b → a ≡ b

@@ -1,5 +1,5 @@
 ghost use Rattle.project_sources.specs.Faults.{rows, rows_so_far};
-ghost use Rattle.project_sources.specs.Laws.{CentresComeLast, NoFilesNoProject, OneAnswer, OneFault, ProjectsAreSound, unbuilt};
+ghost use Rattle.project_sources.specs.Laws.{CentresComeLast, NoFilesNoProject, OneAnswer, OneFault, OneOutcome, ProjectsAreSound, unbuilt};
 
 /// Sources have at most one first fault.
 pub fn one_fault()
@@ -26,4 +26,9 @@ pub fn no_files_no_project()
 /// An empty centre is the fault where none is read before.
 pub fn centres_come_last()
     ensures { CentresComeLast unbuilt }
+{}
+
+/// Edits make one thing of what is held, or have one fault.
+pub fn one_outcome()
+    ensures { OneOutcome }
 {}

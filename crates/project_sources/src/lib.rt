@@ -8,8 +8,9 @@
 //! - [`projects_are_sound`]: without a fault names end, and weigh little.
 //! - [`no_files_no_project`]: without files the manifest is missing.
 //! - [`centres_come_last`]: an empty centre is the fault where none is read before.
+//! - [`one_outcome`]: edits make one thing of what is held, or have one fault.
 #![tactic(auto)]
 
 mod laws;
 
-pub use laws::{centres_come_last, no_files_no_project, one_answer, one_fault, projects_are_sound};
+pub use laws::{centres_come_last, no_files_no_project, one_answer, one_fault, one_outcome, projects_are_sound};
