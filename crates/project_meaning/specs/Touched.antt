@@ -1,5 +1,5 @@
 -- The names that a change touches: those whose network may be another one than before.
-use Rattle.std.specs.Prelude.{◌≡◌, ◌↔◌, ℕ, List, Contains, IsTrue}
+use Rattle.std.specs.Prelude.{◌↔◌, ℕ, List, Contains, IsTrue}
 use Rattle.project_meaning.specs.Leaves.{names_in, body_uses_alphabet}
 use Rattle.project_meaning.specs.Projects.{Definition, Project}
 

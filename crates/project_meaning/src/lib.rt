@@ -13,5 +13,6 @@
 mod laws;
 
 pub use laws::{
-    depth_is_enough, kinds_unfold, names_may_come_later, names_unfold, nothing_touched, weights_unfold,
+    depth_is_enough, kinds_unfold, names_may_come_later, names_unfold, nothing_touched,
+    weights_unfold,
 };

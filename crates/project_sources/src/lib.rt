@@ -13,4 +13,6 @@
 
 mod laws;
 
-pub use laws::{centres_come_last, no_files_no_project, one_answer, one_fault, one_outcome, projects_are_sound};
+pub use laws::{
+    centres_come_last, no_files_no_project, one_answer, one_fault, one_outcome, projects_are_sound,
+};
