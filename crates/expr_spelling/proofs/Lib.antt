@@ -4,7 +4,6 @@ mod Pairs
 mod Edges
 mod Sides
 mod Carrying
-mod Mapped
 pub mod Spelling
 pub mod Leaves
 pub mod Alphabets

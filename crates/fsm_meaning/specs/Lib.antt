@@ -1,3 +1,2 @@
-pub mod Projects
 pub mod Replies
 pub mod Transcripts

@@ -6,7 +6,8 @@ use Rattle.std.specs.Str.{is_utf8}
 use Rattle.fsm_base.specs.Normal.{nfc_of}
 use Rattle.fsm_base.specs.Cut.{cut}
 use Rattle.fsm_words.specs.Answers.{Texts, Found, strings, more, loop, Answers}
-use Rattle.fsm_meaning.specs.Projects.{Project, Defines, Meaning}
+use Rattle.project_meaning.specs.Projects.{Project, Defines}
+use Rattle.project_meaning.specs.Meaning.{Meaning}
 use Rattle.fsm_meaning.specs.declared.direction.Direction.{Direction}
 use Rattle.fsm_meaning.specs.declared.direction.Direction.TheVariants.{Up, Down}
 

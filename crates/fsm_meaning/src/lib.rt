@@ -1,5 +1,5 @@
-//! What the sources mean and what a look-up line is answered: definitions over words, texts and files, which the
-//! contracts of the crates above cite. Read `specs/Projects.antt`, `Replies.antt` and `Transcripts.antt`, in this order.
+//! What a look-up line is answered, by what a project's names mean, and what an output gets for an input: definitions,
+//! which the contracts of the crates above cite. Read `specs/Replies.antt` and `Transcripts.antt`, in this order.
 //!
 //! - [`Direction`]: which words a look-up gives.
 //! - [`Ending`]: how the answering of an input ended, of which transcripts speak.

@@ -7,7 +7,7 @@ use Rattle.fsm_io.specs.Reading.{LinesView, at_start}
 use Rattle.regex_ast.specs.declared.fault.Fault.{Fault}
 use Rattle.fsm_meaning.specs.declared.ending.Ending.{Ending}
 use Rattle.fsm_meaning.specs.declared.ending.Ending.TheVariants.{Finished, WriteFailed, ReadFailed, Spent}
-use Rattle.fsm_meaning.specs.Projects.{Project}
+use Rattle.project_meaning.specs.Projects.{Project}
 use Rattle.fsm_meaning.specs.Replies.{Replies}
 use Rattle.project_model.specs.Reads.{FilesSay}
 use Rattle.project_model.specs.Written.{Planned, project_in}

@@ -12,7 +12,7 @@ use Rattle.fsm_meaning.specs.declared.direction.Direction.{Direction}
 use Rattle.fsm_meaning.specs.declared.direction.Direction.TheVariants.{Up, Down}
 use Rattle.fsa.specs.Automaton.{Automaton}
 use Rattle.fsm_base.specs.declared.letters.Pair.{Pair}
-use Rattle.fsm_meaning.specs.Projects.{Project}
+use Rattle.project_meaning.specs.Projects.{Project}
 use Rattle.fsm_meaning.specs.Replies.{RepliesToWord, answered, no_net, no_symbol, Related, answer_bytes, headed}
 use Rattle.fst_relation.specs.Relation.{IsRelated}
 use Rattle.fst_relation.proofs.Used.{upper_used, lower_used}

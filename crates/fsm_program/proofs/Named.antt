@@ -11,10 +11,11 @@ use Rattle.fsm_base.specs.declared.letters.Sym.{Sym}
 use Rattle.fsm_words.specs.Words.{IsDistinct}
 use Rattle.fsm_words.proofs.Members.{Contains-map, Contains-map_cases}
 use Rattle.regex_ast.specs.declared.fault.Fault.{Fault}
-use Rattle.fsm_meaning.specs.Projects.{Definition as Meant}
+use Rattle.project_meaning.specs.Projects.{Definition as Meant, Defines}
 use Rattle.project_model.specs.Planned.{IsPlanWith, entry_of, numbers_in, resolved}
 use Rattle.project_model.specs.Plans.{IsPlan, IsSoundOver, PlanView}
-use Rattle.project_model.specs.Written.{Planned, names_in, project_in}
+use Rattle.project_model.specs.Raws.{Definition as Stated}
+use Rattle.project_model.specs.Written.{Planned, definitions_in, meant_in, names_in, project_in}
 use Rattle.project_model.specs.declared.definition.Definition.{Definition}
 use Rattle.fsm_program.specs.Loaded.{AreNames, IsLoadedFrom, IsPlannedAs, LoadedView}
 use Rattle.fsm_program.proofs.Ordered.{in_order_from_sorted}
@@ -22,12 +23,23 @@ use Rattle.fsm_program.proofs.Shown.{names_differ}
 use Rattle.project_model.proofs.Alphabets.{symbols_of-listed}
 use Rattle.fsm_program.proofs.Spelled.{whole, whole_texts, with_different}
 
+-- the names that are planned are those that the project defines
+defined_there : (planned : Planned) (name : List ℕ) → Defines (project_in planned) name → Contains (names_in planned) name
+defined_there planned name (e, among, named) =
+    let (d, there, is) = Contains-map_cases (meant_in (names_in planned)) (definitions_in planned) e among in
+    subst (Contains (names_in planned)) (ap (λ (x : Meant). x.name) is ∙ named) (Contains-map (λ (x : Stated). x.name) (definitions_in planned) d there)
+
+defined_back : (planned : Planned) (name : List ℕ) → Contains (names_in planned) name → Defines (project_in planned) name
+defined_back planned name among =
+    let (d, there, is) = Contains-map_cases (λ (x : Stated). x.name) (definitions_in planned) name among in
+    (meant_in (names_in planned) d, Contains-map (meant_in (names_in planned)) (definitions_in planned) d there, is)
+
 -- names, sorted
 pub names_are : (planned : Planned) (loaded : LoadedView) → IsLoadedFrom planned loaded → (found sorted : List (List ℕ)) → found ≡ names_in planned → IsPermutation found sorted → IsSorted (slice_cmp nat_cmp) sorted → AreNames (project_in planned) sorted
 names_are planned loaded from found sorted found_is moved up = record {
   all = λ name. (
-    λ (d, among, is). Contains-permutation found sorted name moved (subst (λ (ns : List (List ℕ)). Contains ns name) (sym found_is) (subst (Contains (names_in planned)) is (Contains-map (λ (d : Meant). d.name) (project_in planned).definitions d among))),
-    λ among. Contains-map_cases (λ (d : Meant). d.name) (project_in planned).definitions name (subst (λ (ns : List (List ℕ)). Contains ns name) found_is (Contains-permutation sorted found name (IsPermutation-sym found sorted moved) among)),
+    λ defined. Contains-permutation found sorted name moved (subst (λ (ns : List (List ℕ)). Contains ns name) (sym found_is) (defined_there planned name defined)),
+    λ among. defined_back planned name (subst (λ (ns : List (List ℕ)). Contains ns name) found_is (Contains-permutation sorted found name (IsPermutation-sym found sorted moved) among)),
   );
   in_order = in_order_from_sorted found sorted (subst IsDistinct (sym found_is) (names_differ planned loaded from)) moved up;
 }

@@ -7,7 +7,7 @@ use Rattle.regex_ast.specs.declared.fault.Fault.{Fault}
 use Rattle.regex_ast.specs.declared.fault.Why.TheVariants as why
 use Rattle.regex_reader.specs.Files.{FaultAt}
 use Rattle.regex_reader.proofs.Once as Once
-use Rattle.fsm_meaning.specs.Projects.{Project}
+use Rattle.project_meaning.specs.Projects.{Project}
 use Rattle.project_manifest.specs.Manifests.{ManifestView}
 use Rattle.project_model.specs.Planned.{StatementsSay}
 use Rattle.project_model.specs.Reads.{ContentSays, no_text, has_text, FilesSay, no_project, no_manifest, manifest_says, HasNoText, large, not_utf8, control, HasText, IsManifestFile, ManifestSays, no_file, says, TextSays, unread, read, most_bytes}

@@ -10,7 +10,7 @@ use Rattle.fsm_base.specs.Symbols.{number_of, with_text}
 use Rattle.fsm_base.specs.declared.letters.Sym.{Sym}
 use Rattle.fsm_words.specs.Words.{IsDistinct}
 use Rattle.fsm_words.proofs.Members.{Contains-head, Contains-tail, Contains-map}
-use Rattle.fsm_meaning.specs.Projects.{with_texts}
+use Rattle.project_meaning.specs.Projects.{with_texts}
 use Rattle.project_model.specs.Planned.{numbers_in}
 use Rattle.project_model.proofs.Alphabets.{at_number, cases_bool, texts_of-numbers}
 use Rattle.fsm_program.proofs.Together.{twice}

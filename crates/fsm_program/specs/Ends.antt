@@ -7,7 +7,7 @@ use Rattle.fsm_io.specs.Folders.{Told}
 use Rattle.fsm_meaning.specs.declared.ending.Ending.{Ending}
 use Rattle.fsm_meaning.specs.declared.ending.Ending.TheVariants.{Finished, WriteFailed, ReadFailed, Spent}
 use Rattle.fsm_base.specs.Normal.{nfc_of}
-use Rattle.fsm_meaning.specs.Projects.{Project}
+use Rattle.project_meaning.specs.Projects.{Project}
 use Rattle.fsm_meaning.specs.declared.direction.Direction.{Direction}
 use Rattle.fsm_meaning.specs.declared.direction.Direction.TheVariants.{Up, Down}
 use Rattle.fsm_meaning.specs.Replies.{Replies, line_of}

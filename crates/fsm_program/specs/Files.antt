@@ -3,7 +3,7 @@ use Rattle.std.specs.Prelude.{◌≡◌, ◌++◌, ℕ, List, [], ◌∷◌, map
 use Rattle.fsm_io.specs.Causes.{Rose}
 use Rattle.fsm_io.specs.Folders.{Asked, AsksFor, Files, file_of, Told}
 use Rattle.regex_ast.specs.declared.fault.Fault.{Fault}
-use Rattle.fsm_meaning.specs.Projects.{Project}
+use Rattle.project_meaning.specs.Projects.{Project}
 use Rattle.project_manifest.specs.Manifests.{ManifestView}
 use Rattle.project_model.specs.Reads.{FilesSay, IsManifestFile}
 use Rattle.project_model.specs.Together.{project_name}

@@ -3,7 +3,7 @@ use Rattle.std.specs.Prelude.{◌≡◌, ◌↔◌, ℕ, List, All, Contains, ma
 use Rattle.fsm_base.specs.Alphabet.{IsAlphabet, listed, symbols_of, texts_of}
 use Rattle.fsm_base.specs.declared.letters.Sym.{Sym}
 use Rattle.fsm_words.specs.Answers.{IsInOrder}
-use Rattle.fsm_meaning.specs.Projects.{Project, Defines}
+use Rattle.project_meaning.specs.Projects.{Project, Defines}
 use Rattle.project_model.specs.Planned.{entry_of, numbers_in, resolved}
 use Rattle.project_model.specs.Plans.{IsPlan, PlanView}
 use Rattle.project_model.specs.Written.{IsWrittenOver, Planned, names_in}

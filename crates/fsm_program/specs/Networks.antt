@@ -5,7 +5,8 @@ use Rattle.fsm_base.specs.declared.letters.Pair.{Pair}
 use Rattle.fsm_base.specs.Alphabet.{IsAlphabet, texts_of, spelled}
 use Rattle.fsa.specs.Automaton.{Automaton}
 use Rattle.fst_relation.specs.Relation.{IsRelated}
-use Rattle.fsm_meaning.specs.Projects.{Project, Defines, Meaning}
+use Rattle.project_meaning.specs.Projects.{Project, Defines}
+use Rattle.project_meaning.specs.Meaning.{Meaning}
 use Rattle.fsm_meaning.specs.declared.direction.Direction.{Direction}
 use Rattle.fsm_meaning.specs.declared.direction.Direction.TheVariants.{Up, Down}
 use Rattle.lookup.specs.Answering.{IsOverAlphabet, UpperTexts, LowerTexts}

@@ -3,7 +3,7 @@ ghost use Rattle.fsm_base.specs.Normal.{nfc_of};
 ghost use Rattle.fsm_io.specs.Causes.{HasCause};
 ghost use Rattle.fsm_io.specs.Lines.{most_line};
 ghost use Rattle.fsm_io.specs.Sinks.{Gathers};
-ghost use Rattle.fsm_meaning.specs.Projects.{Project};
+ghost use Rattle.project_meaning.specs.Projects.{Project};
 ghost use Rattle.fsm_meaning.specs.Replies.{Replies, RepliesToWord, headed};
 ghost use Rattle.reply_text.specs.Heads.{head_word};
 ghost use Rattle.fsm_program.specs.Networks.{Shows};

@@ -1,7 +1,7 @@
 ghost use Rattle.std.specs.Prelude.{◌≡◌, ◌<◌, ◌-◌, ◌^◌, length, IfOk, IfSome};
 ghost use Rattle.std.specs.Option.{option_map};
 ghost use Rattle.lookup.specs.Answering.{IsOverAlphabet};
-ghost use Rattle.fsm_meaning.specs.Projects.{Project as Meant};
+ghost use Rattle.project_meaning.specs.Projects.{Project as Meant};
 ghost use Rattle.fsm_meaning.specs.Replies.{RepliesToWord};
 ghost use Rattle.project_model.specs.Written.{Planned, project_in};
 ghost use Rattle.fsm_program.specs.Loaded.{IsLoadedFrom};

@@ -5,7 +5,7 @@ ghost use Rattle.fsm_io.specs.Causes.{Rose};
 ghost use Rattle.fsm_io.specs.Folders.{Files, IsTold, Told};
 ghost use Rattle.fsm_io.specs.Reading.{at_start};
 ghost use Rattle.regex_ast.specs.declared.fault.Fault.{Fault};
-ghost use Rattle.fsm_meaning.specs.Projects.{Project as Meant};
+ghost use Rattle.project_meaning.specs.Projects.{Project as Meant};
 ghost use Rattle.fsm_meaning.specs.Replies.{Replies};
 ghost use Rattle.fsm_meaning.specs.Transcripts.{HasAnswered, WithoutState, first_version};
 ghost use Rattle.project_model.specs.Written.{Planned, project_in};

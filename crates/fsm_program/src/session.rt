@@ -2,7 +2,7 @@ ghost use Rattle.std.specs.Prelude.{◌≡◌, ◌<◌, ◌≤◌, ℕ, [], List
 ghost use Rattle.fsm_io.specs.Causes.{HasCause, Rose};
 ghost use Rattle.fsm_io.specs.Reading.{at_start, size_of};
 ghost use Rattle.fsm_io.specs.Sinks.{Gathers};
-ghost use Rattle.fsm_meaning.specs.Projects.{Project};
+ghost use Rattle.project_meaning.specs.Projects.{Project};
 ghost use Rattle.fsm_meaning.specs.Transcripts.{HasAnswered};
 ghost use Rattle.fsm_program.specs.Networks.{Shows};
 ghost use Rattle.fsm_program.specs.Steps.{steps};

@@ -13,7 +13,7 @@ use Rattle.fsm_words.proofs.Places.{Contains-from_slice_get}
 use Rattle.fsm_base.specs.declared.letters.Sym.{Sym}
 use Rattle.fsm_base.specs.Alphabet.{listed, symbols_of, texts_of, text_of}
 use Rattle.fsm_base.specs.Symbols.{number_of, with_text}
-use Rattle.fsm_meaning.specs.Projects.{with_texts}
+use Rattle.project_meaning.specs.Projects.{with_texts}
 use Rattle.project_model.specs.Planned.{numbers_in}
 use Rattle.project_model.proofs.Gathering.{with_texts_behind}
 use Rattle.project_model.proofs.Texts.{any_from_has, number_held, text_with}

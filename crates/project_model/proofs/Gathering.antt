@@ -9,7 +9,8 @@ use Rattle.regex_ast.specs.declared.expr.Raw.{Raw}
 use Rattle.regex_ast.specs.Terms.{Term, Terms, Links, Contexts, Steps, Mappings, Groups, empty, any, edge, atom, letters, group, maybe, not_one, cross, suffixed, prefixed, ignore, concat, chain, only, rules, steps, no_term, then_term, no_link, or, and, less, no_context, between, no_step, cross_with, then, no_mapping, plain, markup, insert, no_group, then_group}
 use Rattle.fsm_base.specs.Symbols.{with_text}
 use Rattle.expr_parts.specs.Leaves.{listed, listed_each, listed_links, listed_contexts, listed_steps, listed_mappings, listed_groups}
-use Rattle.fsm_meaning.specs.Projects.{is_symbol, symbol_of, symbol_beside, with_texts}
+use Rattle.project_meaning.specs.Projects.{with_texts}
+use Rattle.project_model.specs.Raws.{is_symbol, symbol_of, symbol_beside}
 use Rattle.project_model.specs.Gathered.{gathered}
 use Rattle.project_model.specs.Together.{most_symbols}
 

@@ -8,7 +8,7 @@ use Rattle.regex_ast.specs.declared.expr.Raw.{Raw}
 use Rattle.regex_ast.specs.declared.expr.Define.{Define}
 use Rattle.regex_ast.specs.declared.fault.Why.TheVariants as why
 use Rattle.regex_reader.specs.Files.{FaultAt, Statement, statement_of}
-use Rattle.fsm_meaning.specs.Projects.{Definition, names_of}
+use Rattle.project_model.specs.Raws.{Definition, names_of}
 use Rattle.project_model.specs.Together.{HaveNames, IsRefusal, IsWhyNoNames, NameFault, again, too_many, defined_by, definitions_of, definition_of, fault, most_names}
 use Rattle.project_model.specs.declared.plan_error.PlanError.{PlanError}
 use Rattle.project_model.specs.declared.plan_error.PlanError.TheVariants.{Refused, Memory}

@@ -7,7 +7,8 @@ use Rattle.std.specs.Option.{option_map}
 use Rattle.fsm_base.specs.Symbols.{IsSymbol, IsTable, number_of, with_text}
 use Rattle.fsm_base.specs.declared.letters.Sym.{Sym}
 use Rattle.fsm_words.specs.Words.{IsDistinct}
-use Rattle.fsm_meaning.specs.Projects.{names_of, symbols_of_all, with_texts}
+use Rattle.project_meaning.specs.Projects.{with_texts}
+use Rattle.project_model.specs.Raws.{names_of, symbols_of_all}
 use Rattle.project_model.specs.Gathered.{gathered}
 use Rattle.project_model.specs.Planned.{DefinitionsSay, unsound, planned, Entry, EntryMeets, FirstFailing, entry_in, entry_of, alphabet_with, resolved, EntriesSay, StatementsSay, names, sized, IsPlanIn, IsPlanOf, IsPlanWith, IsUnsound, entries_of, numbers_in}
 use Rattle.project_model.specs.Plans.{IsPlan, IsSoundOver}

@@ -13,8 +13,8 @@ use Rattle.regex_reader.specs.Files.{Statement}
 use Rattle.expr_forms.specs.Atoms.{symbols, is_symbol as is_a_symbol}
 use Rattle.expr_forms.specs.Built.{IsBuilt}
 use Rattle.expr_forms.specs.Kinds.{Fits}
-use Rattle.expr_spelling.specs.Mapped.{mapped}
-use Rattle.fsm_meaning.specs.Projects.{is_symbol, names_of, symbol_beside, symbol_of, symbols_beside, symbols_of_all}
+use Rattle.expr_parts.specs.Mapped.{mapped}
+use Rattle.project_model.specs.Raws.{is_symbol, names_of, symbol_beside, symbol_of, symbols_beside, symbols_of_all}
 use Rattle.project_model.specs.Planned.{Entry, EntryMeets, EntriesSay, relation, heavy, unbuilt, sound, entry_in, entry_of, numbers_in, resolved}
 use Rattle.project_model.specs.Plans.{IsSoundOver}
 use Rattle.project_model.specs.Resolved.{atom_of}

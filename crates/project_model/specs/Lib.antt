@@ -1,6 +1,7 @@
 pub mod Gathered
 pub mod Planned
 pub mod Plans
+pub mod Raws
 pub mod Reads
 pub mod Resolved
 pub mod Sound

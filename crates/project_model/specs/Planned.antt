@@ -9,12 +9,13 @@ use Rattle.regex_ast.specs.declared.fault.Fault.{Fault}
 use Rattle.regex_ast.specs.declared.fault.Why.TheVariants as why
 use Rattle.regex_ast.specs.Terms.{Term}
 use Rattle.regex_reader.specs.Files.{Statement, FaultAt}
-use Rattle.fsm_meaning.specs.Projects.{alphabet_of, with_texts}
+use Rattle.project_meaning.specs.Projects.{with_texts}
+use Rattle.project_model.specs.Raws.{alphabet_of}
 use Rattle.expr_forms.specs.Atoms.{is_symbol, one, symbols}
 use Rattle.expr_forms.specs.Built.{IsBuilt}
 use Rattle.expr_forms.specs.Kinds.{Fits}
 use Rattle.expr_forms.specs.Weights.{most_weight, weight_of}
-use Rattle.expr_spelling.specs.Mapped.{mapped}
+use Rattle.expr_parts.specs.Mapped.{mapped}
 use Rattle.project_model.specs.Plans.{PlanView, body_term}
 use Rattle.project_model.specs.Resolved.{atom_of}
 use Rattle.project_model.specs.Together.{HaveNames, NameFault, defined_by, definitions_of, fault, most_symbols, project_name}

@@ -5,7 +5,12 @@ use Rattle.std.specs.Str.{bytes_eq}
 use Rattle.regex_ast.specs.declared.expr.Raw.{Raw}
 use Rattle.regex_ast.specs.Terms.{Term}
 use Rattle.regex_reader.specs.Files.{Statement}
-use Rattle.fsm_meaning.specs.Projects.{Definition, Project, is_symbol, names_of, symbol_of}
+use Rattle.expr_parts.specs.Mapped.{mapped}
+use Rattle.project_meaning.specs.Leaves.{leaf_of}
+use Rattle.project_meaning.specs.Projects.{Definition, Project}
+use Rattle.project_meaning.specs.Trees.{xfst}
+use Rattle.project_model.specs.Raws.{is_symbol, names_of, symbol_of}
+use Rattle.project_model.specs.Raws as raws
 use Rattle.expr_forms.specs.Built.{IsBuilt}
 
 -- a definition: its name, the line and the file of its statement, and what it stands for
@@ -25,14 +30,22 @@ pub record Planned : Type 0 where
   pub alphabet : List (List ℕ)
 
 -- the same without lines and files
-abbrev pub definition_in : Written → Definition
+abbrev pub definition_in : Written → raws.Definition
 definition_in w = record { name = w.name; term = w.term }
 
-abbrev pub project_in : Planned → Project
-project_in planned = record { alphabet = planned.alphabet; definitions = map definition_in planned.definitions }
+abbrev pub definitions_in : Planned → List raws.Definition
+definitions_in planned = map definition_in planned.definitions
 
 abbrev pub names_in : Planned → List (List ℕ)
-names_in planned = names_of (project_in planned).definitions
+names_in planned = names_of (definitions_in planned)
+
+-- a definition of the project, where these names are defined
+abbrev pub meant_in : List (List ℕ) → raws.Definition → Definition
+meant_in names d = record { name = d.name; body = xfst (mapped (leaf_of names) d.term) }
+
+-- the project that is planned
+abbrev pub project_in : Planned → Project
+project_in planned = record { alphabet = planned.alphabet; definitions = map (meant_in (names_in planned)) (definitions_in planned) }
 
 -- whether a leaf is a symbol, where these names are defined, and stands in this alphabet
 abbrev pub stands_in : List (List ℕ) → List (List ℕ) → Raw → Bool

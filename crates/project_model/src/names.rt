@@ -3,7 +3,7 @@ ghost use Rattle.std.specs.List.{list_any};
 ghost use Rattle.std.specs.Str.{bytes_eq};
 ghost use Rattle.fsm_base.specs.Symbols.{number_of, with_text};
 ghost use Rattle.fsm_words.specs.Words.{IsDistinct};
-ghost use Rattle.fsm_meaning.specs.Projects.{is_symbol};
+ghost use Rattle.project_model.specs.Raws.{is_symbol};
 ghost use Rattle.regex_reader.specs.Files.{statement_of};
 ghost use Rattle.project_model.specs.Together.{HaveNames, IsWhyNoNames, defined_by, most_names};
 

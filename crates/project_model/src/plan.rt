@@ -2,7 +2,8 @@ ghost use Rattle.std.specs.Prelude.{◌≡◌, ◌≤◌, ◌+◌, ◌++◌, ◌
 ghost use Rattle.fsm_base.specs.Symbols.{IsSymbol};
 ghost use Rattle.fsm_words.specs.Words.{IsDistinct};
 ghost use Rattle.regex_reader.specs.Files.{statement_of};
-ghost use Rattle.fsm_meaning.specs.Projects.{symbols_of_all, with_texts};
+ghost use Rattle.project_meaning.specs.Projects.{with_texts};
+ghost use Rattle.project_model.specs.Raws.{symbols_of_all};
 ghost use Rattle.project_model.specs.Gathered.{gathered};
 ghost use Rattle.project_model.specs.Planned.{DefinitionsSay, EntriesSay, IsPlanIn, IsPlanOf, IsUnsound, entry_in, entry_of, numbers_in};
 ghost use Rattle.project_model.specs.Plans.{IsPlan};

@@ -2,7 +2,7 @@ ghost use Rattle.std.specs.Prelude.{◌≡◌, ◌≤◌, ◌+◌, [], length, m
 ghost use Rattle.std.specs.List.{flat_map};
 ghost use Rattle.regex_reader.specs.Files.{statement_of};
 ghost use Rattle.expr_parts.specs.Leaves.{seen};
-ghost use Rattle.fsm_meaning.specs.Projects.{symbol_of, symbol_beside, symbols_of_all};
+ghost use Rattle.project_model.specs.Raws.{symbol_of, symbol_beside, symbols_of_all};
 ghost use Rattle.project_model.specs.Gathered.{gathered};
 ghost use Rattle.project_model.specs.Together.{definitions_of, most_symbols};
 

@@ -3,7 +3,7 @@ use Rattle.std.specs.List.{list_any}
 use Rattle.std.specs.Str.{bytes_eq}
 use Rattle.regex_reader.specs.Files.{statement_of}
 use Rattle.std.proofs.lemmas.List.{length-map}
-use Rattle.fsm_meaning.specs.Projects.{Definition}
+use Rattle.project_model.specs.Raws.{Definition}
 use Rattle.project_model.specs.Together.{definition_of, definitions_of, most_names}
 use Rattle.project_model.proofs.NameSteps.{names_more, names_length, still_formed, why_again, why_too_many, not_false, not_true}
 use Rattle.project_model.proofs.Texts.{with_text-new}

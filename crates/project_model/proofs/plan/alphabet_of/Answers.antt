@@ -1,6 +1,6 @@
 use Rattle.std.proofs.Common.{[], map, sym, ap, ◌∙◌}
 use Rattle.regex_reader.specs.Files.{statement_of}
-use Rattle.fsm_meaning.specs.Projects.{symbols_of_all}
+use Rattle.project_model.specs.Raws.{symbols_of_all}
 use Rattle.project_model.specs.Gathered.{gathered}
 use Rattle.project_model.specs.Together.{definitions_of}
 use Rattle.project_model.proofs.Gathering.{gathered-append, still_short}

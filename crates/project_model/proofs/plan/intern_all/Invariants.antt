@@ -1,5 +1,5 @@
 use Rattle.std.proofs.Common.{◌≡◌, ◌+◌, ◌≤◌, length, take}
-use Rattle.fsm_meaning.specs.Projects.{with_texts}
+use Rattle.project_meaning.specs.Projects.{with_texts}
 use Rattle.project_model.proofs.plan.intern_all.Given as goal
 
 -- the symbols so far are in the table

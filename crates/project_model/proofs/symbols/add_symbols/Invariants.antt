@@ -1,6 +1,6 @@
 use Rattle.std.proofs.Common.{◌≡◌, ◌+◌, ◌≤◌, length, drop}
 use Rattle.std.specs.List.{flat_map}
-use Rattle.fsm_meaning.specs.Projects.{symbol_beside}
+use Rattle.project_model.specs.Raws.{symbol_beside}
 use Rattle.project_model.specs.Gathered.{gathered}
 use Rattle.expr_parts.specs.Leaves.{seen}
 use Rattle.project_model.specs.Together.{most_symbols}

@@ -2,7 +2,7 @@ use Rattle.std.proofs.Common.{◌≡◌, ◌+◌, map, drop, sym, ap, ◌∙◌,
 use Rattle.std.specs.List.{flat_map}
 use Rattle.regex_ast.specs.Terms.{term}
 use Rattle.regex_reader.specs.Files.{statement_of}
-use Rattle.fsm_meaning.specs.Projects.{symbol_beside, symbols_beside, symbols_of_all}
+use Rattle.project_model.specs.Raws.{symbol_beside, symbols_beside, symbols_of_all}
 use Rattle.project_model.specs.Gathered.{gathered}
 use Rattle.expr_parts.specs.Leaves.{seen}
 use Rattle.project_model.specs.Together.{definitions_of}

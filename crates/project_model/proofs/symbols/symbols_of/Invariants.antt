@@ -1,6 +1,6 @@
 use Rattle.std.proofs.Common.{◌≡◌, ◌+◌, ◌≤◌, [], map, length, drop}
 use Rattle.regex_reader.specs.Files.{statement_of}
-use Rattle.fsm_meaning.specs.Projects.{symbols_of_all}
+use Rattle.project_model.specs.Raws.{symbols_of_all}
 use Rattle.project_model.specs.Gathered.{gathered}
 use Rattle.project_model.specs.Together.{definitions_of, most_symbols}
 use Rattle.project_model.proofs.symbols.symbols_of.Given as goal

@@ -1,6 +1,6 @@
 use Rattle.std.proofs.Common.{◌≡◌, ◌≤◌}
 use Rattle.fsm_io.specs.Reading.{size_of}
-use Rattle.fsm_meaning.specs.Projects.{Project}
+use Rattle.project_meaning.specs.Projects.{Project}
 use Rattle.fsm_program.specs.Networks.{Shows}
 use Rattle.fsm_program.specs.Running.{Sofar, most_taken}
 use Rattle.fsm_program.specs.Steps.{steps}

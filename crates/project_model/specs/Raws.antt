@@ -1,23 +1,17 @@
--- What a set of sources means once it is read: an alphabet, and a relation for each name.
-use Rattle.std.specs.Prelude.{◌≡◌, ℕ, Bool, false, not, ◌&&◌, nat_lt, IsTrue, List, [], ◌∷◌, ◌++◌, length, map, Contains, cond}
+-- Definitions as they are written, and the leaves of their expressions, where the names of the project are known.
+use Rattle.std.specs.Prelude.{ℕ, Bool, false, not, ◌&&◌, nat_lt, List, [], ◌∷◌, ◌++◌, length, map, cond}
 use Rattle.std.specs.List.{flat_map, list_any}
 use Rattle.std.specs.Str.{bytes_eq}
 use Rattle.regex_ast.specs.declared.expr.Raw.{Raw}
 use Rattle.regex_ast.specs.declared.expr.Raw.TheVariants.{Run, Quoted}
 use Rattle.regex_ast.specs.Terms.{Term}
-use Rattle.fsm_base.specs.Symbols.{with_text}
 use Rattle.expr_parts.specs.Leaves.{listed}
-use Rattle.expr_meaning.specs.Meaning.{Relates}
+use Rattle.project_meaning.specs.Projects.{with_texts}
 
 -- a name and what it stands for
 pub record Definition : Type 0 where
   pub name : List ℕ
   pub term : Term Raw
-
-pub record Project : Type 0 where
-  -- the symbols, each once
-  pub alphabet : List (List ℕ)
-  pub definitions : List Definition
 
 -- the symbol that a leaf stands for
 abbrev pub symbol_of : Raw → List ℕ
@@ -45,11 +39,6 @@ symbol_beside names leaf = cond (is_symbol names leaf) (symbol_alone leaf) []
 abbrev pub symbols_beside : List (List ℕ) → Term Raw → List (List ℕ)
 symbols_beside names e = listed (symbol_beside names) e
 
--- the table's texts, and then each of these that is new, in their order
-abbrev pub with_texts : List (List ℕ) → List (List ℕ) → List (List ℕ)
-with_texts table [] = table
-with_texts table (text ∷ texts) = with_texts (with_text text table) texts
-
 abbrev pub names_of : List Definition → List (List ℕ)
 names_of definitions = map (λ d. d.name) definitions
 
@@ -61,20 +50,3 @@ symbols_of_all names definitions = flat_map (λ d. symbols_beside names d.term) 
 -- once, in the order of their first places
 abbrev pub alphabet_of : List Definition → List (List ℕ) → List (List ℕ)
 alphabet_of definitions further = with_texts [] (symbols_of_all (names_of definitions) definitions ++ further)
-
--- the project of these definitions and further symbols
-abbrev pub project_of : List Definition → List (List ℕ) → Project
-project_of definitions further = record { alphabet = alphabet_of definitions further; definitions = definitions }
-
--- the project defines the name
-abbrev pub Defines : Project → List ℕ → Type 0
-Defines project name = (d : Definition) × Contains project.definitions d × (d.name ≡ name)
-
--- what a leaf relates where these names are defined: a symbol relates its own word to itself. Names join here, by what
--- their definitions relate
-abbrev pub stands_for : List (List ℕ) → Raw → List (List ℕ) → List (List ℕ) → Type 0
-stands_for names leaf u w = IsTrue (is_symbol names leaf) × (u ≡ symbol_alone leaf) × (u ≡ w)
-
--- the name relates the upper word u to the lower word w, over the project's alphabet
-abbrev pub Meaning : Project → List ℕ → List (List ℕ) → List (List ℕ) → Type 0
-Meaning project name u w = (d : Definition) × Contains project.definitions d × (d.name ≡ name) × Relates (stands_for (names_of project.definitions)) project.alphabet d.term u w

@@ -1,0 +1,10 @@
+pub mod Trees
+pub mod Leaves
+pub mod Projects
+pub mod Lexicons
+pub mod Grammars
+pub mod Meaning
+pub mod Forms
+pub mod Centres
+pub mod Touched
+pub mod Laws

@@ -1,0 +1,4 @@
+pub mod Once
+pub mod Built
+pub mod Sound
+pub mod Editing

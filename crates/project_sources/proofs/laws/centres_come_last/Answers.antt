@@ -1,0 +1,6 @@
+use Rattle.project_sources.specs.Laws.{unbuilt}
+use Rattle.project_sources.proofs.Sound.{centres_come_last}
+use Rattle.project_sources.proofs.laws.centres_come_last.Goals as goal
+
+pub returns : goal.returns
+returns c = centres_come_last unbuilt

@@ -1,0 +1,7 @@
+pub mod Limits
+pub mod Rows
+pub mod Manifests
+pub mod Sources
+pub mod Faults
+pub mod Edits
+pub mod Laws

@@ -1,0 +1,18 @@
+-- The limits of a project.
+use Rattle.std.specs.Prelude.{ℕ}
+
+-- the most files besides the manifest
+unfoldable pub most_files : ℕ
+most_files = 64
+
+-- the most bytes of a file
+unfoldable pub most_bytes : ℕ
+most_bytes = 1048576
+
+-- the most names
+unfoldable pub most_names : ℕ
+most_names = 512
+
+-- the most symbols of the alphabet
+unfoldable pub most_symbols : ℕ
+most_symbols = 1024

@@ -1,0 +1,34 @@
+ghost use Rattle.project_sources.specs.Faults.{rows, rows_so_far};
+ghost use Rattle.project_sources.specs.Laws.{CentresComeLast, NoFilesNoProject, OneAnswer, OneFault, OneOutcome, ProjectsAreSound, unbuilt};
+
+/// Sources have at most one first fault.
+pub fn one_fault()
+    ensures { OneFault unbuilt }
+{}
+
+/// Sources are one project, or have one first fault, and not both.
+pub fn one_answer()
+    ensures { OneAnswer unbuilt }
+{}
+
+/// In the project of sources without a fault each name is defined, none reaches itself, and no definition weighs too much.
+pub fn projects_are_sound()
+    ensures whole { ProjectsAreSound unbuilt rows }
+    ensures so_far { ProjectsAreSound unbuilt rows_so_far }
+{}
+
+/// Without files the manifest is missing.
+pub fn no_files_no_project()
+    ensures whole { NoFilesNoProject rows }
+    ensures so_far { NoFilesNoProject rows_so_far }
+{}
+
+/// An empty centre is the fault where none is read before.
+pub fn centres_come_last()
+    ensures { CentresComeLast unbuilt }
+{}
+
+/// Edits make one thing of what is held, or have one fault.
+pub fn one_outcome()
+    ensures { OneOutcome }
+{}
