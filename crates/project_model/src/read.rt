@@ -1,4 +1,4 @@
-ghost use Rattle.std.specs.Prelude.{◌≡◌, ◌*◌, ◌≤◌, List, ℕ, All, Err, IfErr, IfOk, OnErr, length, take};
+ghost use Rattle.std.specs.Prelude.{◌≡◌, ◌*◌, ◌<◌, ◌≤◌, List, ℕ, All, Err, IfErr, IfOk, OnErr, length, take};
 ghost use Rattle.fsm_base.specs.Normal.{IsWhyNoText, most_growth, source_text};
 ghost use Rattle.fsm_base.specs.Symbols.{IsSymbol};
 ghost use Rattle.project_manifest.specs.Manifests.{IsManifestRead, IsSomeManifest};
