@@ -4,5 +4,4 @@ pub mod Adding
 pub mod Stepping
 pub mod Exploring
 pub mod Paths
-pub mod AnswerKinds
 pub mod Rounds

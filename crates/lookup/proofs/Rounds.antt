@@ -17,7 +17,7 @@ use Rattle.lookup_graph.specs.Graph.{Connects, IsPath, Writes, letters_of}
 use Rattle.lookup_graph.specs.Turns.{IsTurn, rounds}
 use Rattle.lookup_graph.proofs.Turning.{goes_round}
 use Rattle.lookup_texts.specs.GraphTexts.{AreOf, GraphTexts}
-use Rattle.lookup.proofs.AnswerKinds.{Answers-same}
+use Rattle.lookup_answers.proofs.AnswerKinds.{Answers-same}
 
 -- the text of a word
 abbrev pub text : List (Sym × List ℕ) → List Sym → List ℕ

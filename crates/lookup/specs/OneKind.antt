@@ -3,15 +3,10 @@
 use Rattle.std.specs.Prelude.{ℕ, List}
 use Rattle.fsm_base.specs.declared.letters.Sym.{Sym}
 use Rattle.fsm_base.specs.declared.letters.Pair.{Pair}
-use Rattle.fsm_words.specs.Answers.{Answers, Found, strings, more, loop}
+use Rattle.fsm_words.specs.Answers.{Answers, Found}
+use Rattle.lookup_answers.specs.OneKind.{IsSameKind}
 use Rattle.fsa.specs.Automaton.{Automaton}
 use Rattle.lookup.specs.Answering.{LowerTexts, UpperTexts}
-
-abbrev pub IsSameKind : Found → Found → Type 0
-IsSameKind (strings texts) (strings others) = Unit {0}
-IsSameKind more more = Unit {0}
-IsSameKind (loop before round after) (loop before2 round2 after2) = Unit {0}
-IsSameKind _ _ = ⊥
 
 -- answers that are both lawful for the upper words of a word are of one kind
 abbrev pub OneKindOfUpper : Type 0

@@ -1,5 +1,5 @@
 use Rattle.lookup.specs.Answering.{UpperTexts, LowerTexts}
-use Rattle.lookup.proofs.AnswerKinds.{same_kind}
+use Rattle.lookup_answers.proofs.AnswerKinds.{same_kind}
 use Rattle.lookup.proofs.laws.one_kind.Goals as goal
 
 pub returns-clause-upper : goal.returns-clause-upper

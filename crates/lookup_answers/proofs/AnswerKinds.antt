@@ -10,7 +10,7 @@ use Rattle.std.proofs.lemmas.Map.Made.{is_member-Decides, length-le_from_is_memb
 use Rattle.std.proofs.lemmas.Option.{slice_get-get_or}
 use Rattle.fsm_words.specs.Words.{IsDistinct}
 use Rattle.fsm_words.specs.Answers.{Answers, AreAll, AreMore, IsLoop, Found, strings, more, loop, times}
-use Rattle.lookup.specs.OneKind.{IsSameKind}
+use Rattle.lookup_answers.specs.OneKind.{IsSameKind}
 
 -- different texts of a list are no more than its texts
 pigeonhole : (xs ys : List (List ℕ)) → IsDistinct xs → ((x : List ℕ) → Contains xs x → Contains ys x) → length xs ≤ length ys
