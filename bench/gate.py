@@ -1,5 +1,6 @@
 """Runs the gate from nothing and prints what it takes, crate by crate: processor seconds of the proof, of the tests and of the
-edits, and the peak memory of a check. Usage: bench/gate.py [WORDS OF rt ci ..], by default --anew.
+edits, and the peak memory of a check. Usage: bench/gate.py [WORDS OF rt ci ..], by default --anew; `bench/gate.py kept` proves
+only what no earlier run on this machine has proved.
 
 The time of each prover is read while it runs, a few times a second, so a line may lack as much; the sum at the end is the
 system's own count."""
@@ -93,4 +94,5 @@ def main(words):
 
 
 if __name__ == '__main__':
-    sys.exit(main(sys.argv[1:] or ['--anew']))
+    words = sys.argv[1:] or ['--anew']
+    sys.exit(main([] if words == ['kept'] else words))
