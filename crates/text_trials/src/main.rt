@@ -20,7 +20,6 @@
 #![tactic(auto)]
 
 mod files;
-mod replies;
 mod sinks;
 mod sources;
 mod texts;
@@ -39,9 +38,6 @@ fn said_of_text(alloc: Global, field: &str, text: &str) -> Result<Option<String>
         "intern" => texts::said_of_symbols(alloc, text)?,
         "cut" => texts::said_of_cut(alloc, text)?,
         "tokens" => tokens::said_of_tokens(alloc, text)?,
-        "short" => replies::said_of_short(alloc, text)?,
-        "refused" => replies::said_of_refused(alloc, text)?,
-        "accepted" => replies::said_of_accepted(alloc, text)?,
         _ => return Ok(None),
     };
     Ok(Some(said))
