@@ -11,6 +11,7 @@ use Rattle.regex_ast.specs.declared.fault.Why.{Why}
 use Rattle.regex_ast.specs.declared.fault.Why.TheVariants as why
 use Rattle.regex_tokens.specs.Bytes.{begins}
 use Rattle.regex_tokens.specs.Cuts.{Cuts}
+use Rattle.regex_tokens.specs.declared.comments.Comments.TheVariants.{OfDefinitions, OfEntries}
 use Rattle.regex_tokens.specs.declared.token.Ending.{Ending}
 use Rattle.regex_tokens.specs.declared.token.Ending.TheVariants.{Whole, NoToken}
 use Rattle.regex_tokens.specs.declared.token.Operator.TheVariants.{OpenSquare, CloseSquare, OpenRound, CloseRound, Semicolon, Arrow, Optional, Only}
@@ -157,7 +158,7 @@ pub data Says : List Placed → Ending → Result (List Statement) FaultAt → T
 pub record ReadsAs (text : List ℕ) (answer : Result (List Statement) FaultAt) : Type 0 where
   pub placed : List Placed
   pub ending : Ending
-  pub cut : Cuts 1 text (tokens_of placed) (places_of placed) ending
+  pub cut : Cuts OfDefinitions 1 text (tokens_of placed) (places_of placed) ending
   pub says : Says placed ending answer
 
 -- Expressions alone, in an entry of a lexicon: levels 1 to 8 and 10. Neither an arrow nor `=>` stands there.
@@ -185,5 +186,5 @@ pub record ReadsExpression (text : List ℕ) (line : ℕ) (answer : Result (Term
   pub tokens : List Token
   pub places : List Place
   pub ending : Ending
-  pub cut : Cuts line text tokens places ending
+  pub cut : Cuts OfEntries line text tokens places ending
   pub says : ExpressionSays line tokens ending answer

@@ -7,7 +7,7 @@ pub returns-in-Err-clause-error : goal.returns-in-Err-clause-error
 returns-in-Err-clause-error c = c.no_manifest.ensures c.args.bytes.now c.in-Err.ensures.error
 
 pub read_manifest-requires : goal.read_manifest-requires
-read_manifest-requires c = text_short _ (omega (arith, ap length c.as_str.ensures, c.in-Ok.ensures.short))
+read_manifest-requires c = text_short c.as_str.result.now (omega (arith, ap length c.as_str.ensures, c.in-Ok.ensures.short))
 
 pub returns-clause-error : goal.returns-clause-error
 returns-clause-error c = c.unread.ensures c.args.bytes.now c.in-Ok.text c.in-Ok.ensures.text (subst (λ (t : List ℕ). IsManifestRead t (Err c.in-Err-read_manifest.error)) c.as_str.ensures c.in-Err-read_manifest.ensures)
