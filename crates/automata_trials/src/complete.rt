@@ -1,7 +1,7 @@
 ghost use Rattle.std.specs.Prelude.{◌≡◌, ◌≢◌, [], ◌∷◌, IfOk};
 
 use crate::telling::tell;
-use crate::words::{OVER_TWO, accepted, accepted_by, letter_alone};
+use crate::words::{OVER_TWO, accepted, accepted_by, letter_alone, two};
 use fsa::{Dfa, place_of};
 use fsa_product::{both, complement, complement_is_undone, is_empty, minus, shortest};
 use fsa_subset::determine;
@@ -9,13 +9,18 @@ use fsm_base::Letter;
 use std::alloc::{AllocError, Global};
 
 /// The language {a} as it is determined, as an automaton again, and as that is determined.
-pub fn said_of_determined<L: Letter>(alloc: Global, a: L, b: L) -> Result<String, AllocError>
-    requires { a ≢ b }
+pub fn said_of_determined<L: Letter>(
+    alloc: Global,
+    letters: &[L],
+    a: L,
+    b: L,
+) -> Result<String, AllocError>
+    requires letters { letters.now ≡ a ∷ b ∷ [] }
+    requires distinct { a ≢ b }
 {
-    let letters = [a, b];
-    let once = determine(alloc, &letter_alone(alloc, a)?, &letters)?;
+    let once = determine(alloc, &letter_alone(alloc, a)?, letters)?;
     let shown = once.to_fsa(alloc)?;
-    let again = determine(alloc, &shown, &letters)?;
+    let again = determine(alloc, &shown, letters)?;
     let mut said = String::new(alloc);
     tell(
         alloc,
@@ -27,7 +32,7 @@ pub fn said_of_determined<L: Letter>(alloc: Global, a: L, b: L) -> Result<String
         alloc,
         &mut said,
         "to_fsa",
-        accepted(alloc, &shown, &letters, &OVER_TWO)?.as_str(),
+        accepted(alloc, &shown, letters, &OVER_TWO)?.as_str(),
     )?;
     tell(
         alloc,
@@ -43,9 +48,7 @@ fn only_a<L: Letter>(alloc: Global, a: L, b: L) -> Result<Dfa<L>, AllocError>
     requires { a ≢ b }
     ensures { IfOk result (λ d. d.letters ≡ a ∷ b ∷ []) }
 {
-    let mut letters = Vec::new(alloc);
-    letters.push(a)?;
-    letters.push(b)?;
+    let letters = two(alloc, a, b)?;
     let next = vec![in alloc; 1, 2, 2, 2, 2, 2]?;
     let finals = vec![in alloc; false, true, false]?;
     Ok(Dfa::of(letters, next, finals))
@@ -56,9 +59,7 @@ fn a_or_b<L: Letter>(alloc: Global, a: L, b: L) -> Result<Dfa<L>, AllocError>
     requires { a ≢ b }
     ensures { IfOk result (λ d. d.letters ≡ a ∷ b ∷ []) }
 {
-    let mut letters = Vec::new(alloc);
-    letters.push(a)?;
-    letters.push(b)?;
+    let letters = two(alloc, a, b)?;
     let next = vec![in alloc; 1, 1, 2, 2, 2, 2]?;
     let finals = vec![in alloc; false, true, false]?;
     Ok(Dfa::of(letters, next, finals))
@@ -68,9 +69,7 @@ fn a_or_b<L: Letter>(alloc: Global, a: L, b: L) -> Result<Dfa<L>, AllocError>
 fn aa_or_b<L: Letter>(alloc: Global, a: L, b: L) -> Result<Dfa<L>, AllocError>
     requires { a ≢ b }
 {
-    let mut letters = Vec::new(alloc);
-    letters.push(a)?;
-    letters.push(b)?;
+    let letters = two(alloc, a, b)?;
     let next = vec![in alloc; 1, 2, 2, 3, 3, 3, 3, 3]?;
     let finals = vec![in alloc; false, false, true, false]?;
     Ok(Dfa::of(letters, next, finals))
@@ -80,9 +79,7 @@ fn aa_or_b<L: Letter>(alloc: Global, a: L, b: L) -> Result<Dfa<L>, AllocError>
 fn none<L: Letter>(alloc: Global, a: L, b: L) -> Result<Dfa<L>, AllocError>
     requires { a ≢ b }
 {
-    let mut letters = Vec::new(alloc);
-    letters.push(a)?;
-    letters.push(b)?;
+    let letters = two(alloc, a, b)?;
     let next = vec![in alloc; 0, 0]?;
     let finals = vec![in alloc; false]?;
     Ok(Dfa::of(letters, next, finals))

@@ -13,19 +13,19 @@ mod telling;
 mod walks;
 mod words;
 
+use crate::words::two;
 use fsm_base::{Bound, Letter, Pair, Sym};
 use std::alloc::{AllocError, Global};
 use std::io;
 
 /// What the calls that take any kind of letter make of these letters.
-fn said_of_kind<L: Letter>(alloc: Global, letters: [L; 3]) -> Result<String, AllocError>
-    requires { letters.0 ≢ letters.1 }
+fn said_of_kind<L: Letter>(alloc: Global, a: L, b: L, c: L) -> Result<String, AllocError>
+    requires { a ≢ b }
 {
-    let [a, b, c] = letters;
-    let mut said = rational::said_of_operations(alloc, &[a, b, c])?;
-    let table = [(a, Some(c)), (b, None)];
-    said.push_str(rational::said_of_translations(alloc, &[a, b, c], &table)?.as_str())?;
-    said.push_str(complete::said_of_determined(alloc, a, b)?.as_str())?;
+    let mut said = rational::said_of_operations(alloc, a, b, c)?;
+    said.push_str(rational::said_of_translations(alloc, a, b, c)?.as_str())?;
+    let letters = two(alloc, a, b)?;
+    said.push_str(complete::said_of_determined(alloc, &letters, a, b)?.as_str())?;
     said.push_str(complete::said_of_products(alloc, a, b)?.as_str())?;
     said.push_str(complete::said_of_shortest(alloc, a, b)?.as_str())?;
     Ok(said)
@@ -36,12 +36,12 @@ fn main(rt: HostRuntime) -> io::Result<()> {
     let (a, b, c) = (Sym(0), Sym(1), Sym(2));
     println!(rt;
         "# Letters are symbols.\n{}",
-        said_of_kind(alloc, [a, b, c])?.as_str()
+        said_of_kind(alloc, a, b, c)?.as_str()
     )?;
-    let bounds = [Bound::Edge, Bound::Inner(a), Bound::Inner(b)];
+    let (first, second) = (Bound::Inner(a), Bound::Inner(b));
     println!(rt;
         "# Letters are symbols and the edge.\n{}",
-        said_of_kind(alloc, bounds)?.as_str()
+        said_of_kind(alloc, Bound::Edge, first, second)?.as_str()
     )?;
     let upper = Pair {
         up: Some(a),
@@ -57,7 +57,7 @@ fn main(rt: HostRuntime) -> io::Result<()> {
     };
     println!(rt;
         "# Letters are pairs.\n{}",
-        said_of_kind(alloc, [upper, lower, pair])?.as_str()
+        said_of_kind(alloc, upper, lower, pair)?.as_str()
     )?;
     println!(rt;
         "# Sizes.\n{}",

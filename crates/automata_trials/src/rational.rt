@@ -1,5 +1,5 @@
 use crate::telling::tell;
-use crate::words::{OVER_THREE, accepted, letter_alone};
+use crate::words::{OVER_THREE, accepted, letter_alone, two};
 use fsa::Fsa;
 use fsa_rational::{concat, image, preimage, reverse, star, union, without_empty};
 use fsa_reduce::reduced;
@@ -26,56 +26,56 @@ fn tell_both<L: Letter>(
 /// What the operations make of {ab} and {c}.
 pub fn said_of_operations<L: Letter>(
     alloc: Global,
-    letters: &[L; 3],
+    a: L,
+    b: L,
+    c: L,
 ) -> Result<String, AllocError> {
-    let [first, second, third] = *letters;
-    let ab = concat(
-        alloc,
-        &letter_alone(alloc, first)?,
-        &letter_alone(alloc, second)?,
-    )?;
-    let c = letter_alone(alloc, third)?;
+    let mut letters = two(alloc, a, b)?;
+    letters.push(c)?;
+    let ab = concat(alloc, &letter_alone(alloc, a)?, &letter_alone(alloc, b)?)?;
+    let c = letter_alone(alloc, c)?;
     let mut said = String::new(alloc);
-    tell_both(alloc, &mut said, "union", &union(alloc, &ab, &c)?, letters)?;
+    tell_both(alloc, &mut said, "union", &union(alloc, &ab, &c)?, &letters)?;
     tell_both(
         alloc,
         &mut said,
         "concat",
         &concat(alloc, &ab, &c)?,
-        letters,
+        &letters,
     )?;
-    tell_both(alloc, &mut said, "star", &star(alloc, &c)?, letters)?;
-    tell_both(alloc, &mut said, "reverse", &reverse(alloc, &ab)?, letters)?;
+    tell_both(alloc, &mut said, "star", &star(alloc, &c)?, &letters)?;
+    tell_both(alloc, &mut said, "reverse", &reverse(alloc, &ab)?, &letters)?;
     Ok(said)
 }
 
-/// The image of {ab} and the preimage of {c} under a table of letters.
+/// The image of {ab} and the preimage of {c} under the table by which a becomes c and b is left out.
 pub fn said_of_translations<L: Letter>(
     alloc: Global,
-    letters: &[L; 3],
-    table: &[(L, Option<L>)],
+    a: L,
+    b: L,
+    c: L,
 ) -> Result<String, AllocError> {
-    let [first, second, third] = *letters;
-    let ab = concat(
-        alloc,
-        &letter_alone(alloc, first)?,
-        &letter_alone(alloc, second)?,
-    )?;
-    let c = letter_alone(alloc, third)?;
+    let mut letters = two(alloc, a, b)?;
+    letters.push(c)?;
+    let mut table = Vec::new(alloc);
+    table.push((a, Some(c)))?;
+    table.push((b, None))?;
+    let ab = concat(alloc, &letter_alone(alloc, a)?, &letter_alone(alloc, b)?)?;
+    let c = letter_alone(alloc, c)?;
     let mut said = String::new(alloc);
     tell_both(
         alloc,
         &mut said,
         "image",
-        &image(alloc, &ab, table)?,
-        letters,
+        &image(alloc, &ab, &table)?,
+        &letters,
     )?;
     tell_both(
         alloc,
         &mut said,
         "preimage",
-        &preimage(alloc, &c, table)?,
-        letters,
+        &preimage(alloc, &c, &table)?,
+        &letters,
     )?;
     Ok(said)
 }

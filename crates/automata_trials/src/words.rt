@@ -1,4 +1,4 @@
-ghost use Rattle.std.specs.Prelude.{◌≡◌, IfOk};
+ghost use Rattle.std.specs.Prelude.{◌≡◌, [], ◌∷◌, IfOk, OnOk};
 ghost use Rattle.fsm_words.specs.Words.{IsOver};
 ghost use Rattle.fsa.specs.Automaton.{UsesLetter};
 
@@ -21,15 +21,33 @@ pub const OVER_THREE: [&str; 18] = [
 /// The most places that a walk over an automaton visits.
 const MOST_PLACES: usize = 1000;
 
+/// Two letters, in this order.
+pub fn two<L: Letter>(alloc: Global, a: L, b: L) -> Result<Vec<L>, AllocError>
+    ensures { IfOk result (λ letters. letters.items ≡ a ∷ b ∷ []) }
+{
+    let mut letters = Vec::new(alloc);
+    letters.push(a)?;
+    letters.push(b)?;
+    Ok(letters)
+}
+
+/// Adds the letter at a place to a word, if there is one.
+fn push_letter<L: Letter>(word: &mut Vec<L>, letters: &[L], place: usize) -> Result<(), AllocError>
+    ensures { OnOk result (IsOver letters.now word.old.items → IsOver letters.now word.new.items) }
+{
+    if place < letters.len() {
+        word.push(letters[place])?;
+    }
+    Ok(())
+}
+
 /// The word of a text, whose a is the first letter, b the second and c the third. Others are left out.
 pub fn word_of<L: Letter>(alloc: Global, letters: &[L], text: &str) -> Result<Vec<L>, AllocError>
     ensures { IfOk result (λ word. IsOver letters.now word.items) }
 {
     let mut word = Vec::new(alloc);
     'letters: for byte in text.as_bytes() {
-        if let Some(letter) = letters.get(byte.wrapping_sub(b'a') as usize) {
-            word.push(*letter)?;
-        }
+        push_letter(&mut word, letters, byte.wrapping_sub(b'a') as usize)?;
     }
     Ok(word)
 }
