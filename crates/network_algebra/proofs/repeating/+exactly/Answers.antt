@@ -3,7 +3,7 @@ use Rattle.std.proofs.lemmas.Result.{IfOk-weaker}
 use Rattle.fsa.specs.Language.{Accepts}
 use Rattle.network_algebra.proofs.Counted.{power_none, power_sum, one_time}
 use Rattle.network_algebra.proofs.Meanings.{none_used, joined_used}
-use Rattle.network_algebra.proofs.repeating.+power.Goals as goal
+use Rattle.network_algebra.proofs.repeating.+exactly.Goals as goal
 
 pub returns-then-count-eq0-clause-letters : goal.returns-then-count-eq0-clause-letters
 returns-then-count-eq0-clause-letters g t c = IfOk-weaker _ _ _ (none_used c.args.m.now) c.word.ensures.letters
