@@ -11,7 +11,8 @@ use Rattle.fsm_words.proofs.Laws.{IsConcatenation-more, IsConcatenation-assoc, I
 use Rattle.fsm_words.proofs.Members.{Contains-nil_cases}
 use Rattle.regex_ast.specs.declared.expr.Atom.{Atom}
 use Rattle.regex_ast.specs.declared.expr.Atom.TheVariants.{Sym as Symbol}
-use Rattle.expr_meaning.specs.Leaves.{stands_for}
+use Rattle.network_algebra.specs.declared.network.Network.{Network}
+use Rattle.network_expr.specs.Parts.{stands}
 use Rattle.expr_meaning.specs.Meaning.{InLeaf, InLeaves}
 use Rattle.fsa.specs.Automaton.{Automaton, UsesLetter}
 use Rattle.fsa.specs.Language.{Accepts}
@@ -19,29 +20,29 @@ use Rattle.network_algebra.specs.Networks.{all_letters, UsesOnly}
 use Rattle.network_algebra.proofs.Meanings.{among_inner}
 use Rattle.network_expr.specs.Built.{IsSymbolOf}
 
-module _ (alphabet : List Sym) where
-  pub leaves_append : (xs ys : List Atom) (w : List (Bound Sym)) → InLeaves stands_for alphabet (xs ++ ys) w ↔ IsConcatenation (InLeaves stands_for alphabet xs) (InLeaves stands_for alphabet ys) w
-  leaves_append [] ys w = let e = IsConcatenation-empty_left (InLeaves stands_for alphabet ys) w in (e.1, e.0)
+module _ (parts : List Network) (alphabet : List Sym) where
+  pub leaves_append : (xs ys : List Atom) (w : List (Bound Sym)) → InLeaves (stands parts) alphabet (xs ++ ys) w ↔ IsConcatenation (InLeaves (stands parts) alphabet xs) (InLeaves (stands parts) alphabet ys) w
+  leaves_append [] ys w = let e = IsConcatenation-empty_left (InLeaves (stands parts) alphabet ys) w in (e.1, e.0)
   leaves_append (x ∷ xs) ys w =
-      let P = InLeaf stands_for alphabet x in
-      let Q = InLeaves stands_for alphabet xs in
-      let R = InLeaves stands_for alphabet ys in
+      let P = InLeaf (stands parts) alphabet x in
+      let Q = InLeaves (stands parts) alphabet xs in
+      let R = InLeaves (stands parts) alphabet ys in
       let assoc = IsConcatenation-assoc P Q R w in (
-        λ h. assoc.1 (IsConcatenation-more P (InLeaves stands_for alphabet (xs ++ ys)) P (IsConcatenation Q R) (λ v p. p) (λ v. (leaves_append xs ys v).0) w h),
-        λ h. IsConcatenation-more P (IsConcatenation Q R) P (InLeaves stands_for alphabet (xs ++ ys)) (λ v p. p) (λ v. (leaves_append xs ys v).1) w (assoc.0 h),
+        λ h. assoc.1 (IsConcatenation-more P (InLeaves (stands parts) alphabet (xs ++ ys)) P (IsConcatenation Q R) (λ v p. p) (λ v. (leaves_append xs ys v).0) w h),
+        λ h. IsConcatenation-more P (IsConcatenation Q R) P (InLeaves (stands parts) alphabet (xs ++ ys)) (λ v p. p) (λ v. (leaves_append xs ys v).1) w (assoc.0 h),
       )
 
   -- the letters are the one word of the leaves
   pub record Spell (leaves : List Atom) (letters : List (Bound Sym)) : Type 0 where
-    pub words : (w : List (Bound Sym)) → (w ≡ letters) ↔ InLeaves stands_for alphabet leaves w
+    pub words : (w : List (Bound Sym)) → (w ≡ letters) ↔ InLeaves (stands parts) alphabet leaves w
     pub among : (x : Bound Sym) → Contains letters x → Contains (all_letters alphabet) x
 
   pub spell_none : Spell [] []
   spell_none = record { words = λ w. (λ h. h, λ h. h); among = λ x h. absurd (Contains-nil_cases x h) }
 
-  one_symbol : (s : Sym) (w : List (Bound Sym)) → (w ≡ Inner s ∷ []) ↔ InLeaves stands_for alphabet (Symbol s ∷ []) w
+  one_symbol : (s : Sym) (w : List (Bound Sym)) → (w ≡ Inner s ∷ []) ↔ InLeaves (stands parts) alphabet (Symbol s ∷ []) w
   one_symbol s w =
-      let e = IsConcatenation-empty_right (InLeaf stands_for alphabet (Symbol s)) w in (
+      let e = IsConcatenation-empty_right (InLeaf (stands parts) alphabet (Symbol s)) w in (
         λ h. e.1 (s ∷ [], h, (refl, refl)),
         λ h. let r = e.0 h in r.1 ∙ ap (λ (u : List Sym). Rattle.expr_meaning.specs.Operators.inner u) r.2.0,
       )
@@ -68,5 +69,5 @@ module _ (alphabet : List Sym) where
   pub spelled_only : (leaves : List Atom) (letters : List (Bound Sym)) (m : Automaton (Bound Sym)) → Spell leaves letters → ((x : Bound Sym) → UsesLetter m x → Contains letters x) → UsesOnly (all_letters alphabet) m
   spelled_only leaves letters m spell used x h = spell.among x (used x h)
 
-  pub spelled_words : (leaves : List Atom) (letters : List (Bound Sym)) (m : Automaton (Bound Sym)) → Spell leaves letters → ((w : List (Bound Sym)) → Accepts m w ↔ (w ≡ letters)) → (w : List (Bound Sym)) → Accepts m w ↔ InLeaves stands_for alphabet leaves w
+  pub spelled_words : (leaves : List Atom) (letters : List (Bound Sym)) (m : Automaton (Bound Sym)) → Spell leaves letters → ((w : List (Bound Sym)) → Accepts m w ↔ (w ≡ letters)) → (w : List (Bound Sym)) → Accepts m w ↔ InLeaves (stands parts) alphabet leaves w
   spelled_words leaves letters m spell language w = (λ h. (spell.words w).0 ((language w).0 h), λ h. (language w).1 ((spell.words w).1 h))

@@ -4,3 +4,4 @@ pub mod Rows
 pub mod Meant
 pub mod LeafWords
 pub mod Repeats
+pub mod Named

@@ -10,10 +10,9 @@ use Rattle.regex_ast.specs.declared.expr.Step.{Step}
 use Rattle.regex_ast.specs.declared.expr.Context.{Context}
 use Rattle.regex_ast.specs.Terms.{term, terms_of, links_of, contexts_of, steps_by, concat, ignore, maybe, no_term, no_link, or}
 use Rattle.regex_ast.proofs.Rows.{term-Concat, term-Ignore, term-Chain, term-Only, term-Steps}
-use Rattle.expr_forms.specs.Atoms.{symbols as leaves}
 use Rattle.expr_forms.specs.Kinds.{ChainFits, ContextsFit, EachFits, EachFitsAsLanguage, Fits, StepsFit, kind_of, kind_of_chain}
 use Rattle.expr_forms.specs.declared.form.Kind.TheVariants.{Language}
-use Rattle.expr_meaning.specs.Leaves.{stands_for}
+use Rattle.network_expr.specs.Parts.{stands, kinds}
 use Rattle.expr_meaning.specs.Meaning.{In, InChain, InIgnoring, Relates, RelatesChain}
 use Rattle.network_algebra.specs.Networks.{all_letters, kind_of_network, WordsOf, PairsOf}
 use Rattle.network_algebra.specs.declared.network.Network.TheVariants.{Words}
@@ -35,8 +34,8 @@ by_any-by_any-requires t c =
     let whole = c.args.links.now in
     let is = halves_joined front back whole (length whole / 2) c.split_at.ensures.front c.split_at.ensures.back in
     let light = links_halves front back whole is (omega arith) (omega arith) in
-    let built = chain_built A front back (subst (λ (z : List (Link Atom)). LinksAreBuilt A (links_of z)) (sym is) c.requires.built) in
-    let fits = chain_fits front back Language (subst (λ (z : List (Link Atom)). ChainFits leaves Language (links_of z)) (sym is) c.requires.fits) in
+    let built = chain_built c.args.parts.now A front back (subst (λ (z : List (Link Atom)). LinksAreBuilt c.args.parts.now A (links_of z)) (sym is) c.requires.built) in
+    let fits = chain_fits c.args.parts.now front back Language (subst (λ (z : List (Link Atom)). ChainFits (kinds c.args.parts.now) Language (links_of z)) (sym is) c.requires.fits) in
     (omega (arith, c.decreases, light.0), (c.requires.distinct, (over_left IsChoice front back (subst (All IsChoice) (sym is) c.requires.choices), (built.0, fits.0))))
 
 pub by_any-by_any-requires-in_default : goal.by_any-by_any-requires-in_default
@@ -47,22 +46,22 @@ by_any-by_any-requires-in_default t c =
     let whole = c.args.links.now in
     let is = halves_joined front back whole (length whole / 2) c.split_at.ensures.front c.split_at.ensures.back in
     let light = links_halves front back whole is (omega arith) (omega arith) in
-    let built = chain_built A front back (subst (λ (z : List (Link Atom)). LinksAreBuilt A (links_of z)) (sym is) c.requires.built) in
-    let fits = chain_fits front back Language (subst (λ (z : List (Link Atom)). ChainFits leaves Language (links_of z)) (sym is) c.requires.fits) in
+    let built = chain_built c.args.parts.now A front back (subst (λ (z : List (Link Atom)). LinksAreBuilt c.args.parts.now A (links_of z)) (sym is) c.requires.built) in
+    let fits = chain_fits c.args.parts.now front back Language (subst (λ (z : List (Link Atom)). ChainFits (kinds c.args.parts.now) Language (links_of z)) (sym is) c.requires.fits) in
     let all = over_right IsChoice front back (subst (All IsChoice) (sym is) c.requires.choices) in
-    (omega (arith, c.decreases, light.1), (c.requires.distinct, (all, (built.1, choice_fits back all (kind_of_chain leaves Language (links_of front)) Language fits.1))))
+    (omega (arith, c.decreases, light.1), (c.requires.distinct, (all, (built.1, choice_fits c.args.parts.now back all (kind_of_chain (kinds c.args.parts.now) Language (links_of front)) Language fits.1))))
 
 pub by_any-returns-in_ok-new-in-empty-clause-meaning : goal.by_any-returns-in_ok-new-in-empty-clause-meaning
 by_any-returns-in_ok-new-in-empty-clause-meaning t c =
     let A = c.args.alphabet.now in
     let empty = c.in_ok-new-in-empty.field-0 in
-    subst (λ (z : List (Link Atom)). IsChosen A z (Words empty)) (sym (no_item c.args.links.now (omega arith))) (none_chosen A empty (none_accepted empty c.in_ok-new-in-empty.ensures))
+    subst (λ (z : List (Link Atom)). IsChosen c.args.parts.now A z (Words empty)) (sym (no_item c.args.links.now (omega arith))) (none_chosen c.args.parts.now A empty (none_accepted empty c.in_ok-new-in-empty.ensures))
 
 pub by_any-returns-in-len1-clause-meaning : goal.by_any-returns-in-len1-clause-meaning
 by_any-returns-in-len1-clause-meaning t c =
     let A = c.args.alphabet.now in
     let item = c.link-item.result in
-    subst (λ (z : List (Link Atom)). IfOk c.chosen.result (IsChosen A z)) (sym (one_item c.args.links.now item (omega arith) (omega arith) c.link-item.is)) c.chosen.ensures.meaning
+    subst (λ (z : List (Link Atom)). IfOk c.chosen.result (IsChosen c.args.parts.now A z)) (sym (one_item c.args.links.now item (omega arith) (omega arith) c.link-item.is)) c.chosen.ensures.meaning
 
 pub by_any-returns-in_ok-second-in_default-clause-meaning : goal.by_any-returns-in_ok-second-in_default-clause-meaning
 by_any-returns-in_ok-second-in_default-clause-meaning t c =
@@ -72,17 +71,17 @@ by_any-returns-in_ok-second-in_default-clause-meaning t c =
     let whole = c.args.links.now in
     let is = halves_joined front back whole (length whole / 2) c.split_at.ensures.front c.split_at.ensures.back in
     let all = over_right IsChoice front back (subst (All IsChoice) (sym is) c.requires.choices) in
-    IfOk-weaker _ _ _ (λ r. choice_halves A c.in_ok-first-in_default.first c.in_ok-second-in_default.second r front back whole is all c.in_ok-first-in_default.ensures.meaning c.in_ok-second-in_default.ensures.meaning) c.union.ensures.meaning
+    IfOk-weaker _ _ _ (λ r. choice_halves c.args.parts.now A c.in_ok-first-in_default.first c.in_ok-second-in_default.second r front back whole is all c.in_ok-first-in_default.ensures.meaning c.in_ok-second-in_default.ensures.meaning) c.union.ensures.meaning
 
 pub chosen-returns-clause-meaning : goal.chosen-returns-clause-meaning
 chosen-returns-clause-meaning t c =
     let A = c.args.alphabet.now in
-    subst (λ (z : Link Atom). IfOk c.network_of.result (IsChosen A (z ∷ []))) (sym c.in-Or.is)
-    (IfOk-weaker _ _ _ (alone_chosen A (term c.in-Or.operand)) c.network_of.ensures.meaning)
+    subst (λ (z : Link Atom). IfOk c.network_of.result (IsChosen c.args.parts.now A (z ∷ []))) (sym c.in-Or.is)
+    (IfOk-weaker _ _ _ (alone_chosen c.args.parts.now A (term c.in-Or.operand)) c.network_of.ensures.meaning)
 
 pub crossed-returns-in-Language-clause-meaning : goal.crossed-returns-in-Language-clause-meaning
 crossed-returns-in-Language-clause-meaning t c =
-    same_meant c.args.alphabet.now (term c.args.upper.now) (term c.args.lower.now) c.in_ok-above.above c.in_ok-below.below c.in_ok-both-in-Language.field-0 (sym c.requires.kind ∙ c.in-Language.is)
+    same_meant c.args.parts.now c.args.alphabet.now (term c.args.upper.now) (term c.args.lower.now) c.in_ok-above.above c.in_ok-below.below c.in_ok-both-in-Language.field-0 (sym c.requires.kind ∙ c.in-Language.is)
     c.in_ok-above.ensures.words c.in_ok-below.ensures.words c.in_ok-both-in-Language.ensures.words
 
 pub ignored-returns-in-empty-clause-letters : goal.ignored-returns-in-empty-clause-letters
@@ -97,8 +96,8 @@ ignored-ignored-requires t c =
     let is = halves_joined front back whole (length whole / 2) c.split_at.ensures.front c.split_at.ensures.back in
     let light = each_halves front back whole is (omega arith) (omega arith) in
     let terms = terms_joined front back whole is in
-    let built = each_built A (map term front) (map term back) (subst (λ z. AreBuilt A (terms_of z)) (sym terms) c.requires.built) in
-    let fits = each_language (map term front) (map term back) (subst (λ z. EachFitsAsLanguage leaves (terms_of z)) (sym terms) c.requires.fits) in
+    let built = each_built c.args.parts.now A (map term front) (map term back) (subst (λ z. AreBuilt c.args.parts.now A (terms_of z)) (sym terms) c.requires.built) in
+    let fits = each_language c.args.parts.now (map term front) (map term back) (subst (λ z. EachFitsAsLanguage (kinds c.args.parts.now) (terms_of z)) (sym terms) c.requires.fits) in
     (omega (arith, c.decreases, light.0), (c.requires.distinct, (built.0, fits.0)))
 
 pub ignored-in_ignoring-requires : goal.ignored-in_ignoring-requires
@@ -110,15 +109,15 @@ ignored-in_ignoring-requires t c =
     let is = halves_joined front back whole (length whole / 2) c.split_at.ensures.front c.split_at.ensures.back in
     let light = each_halves front back whole is (omega arith) (omega arith) in
     let terms = terms_joined front back whole is in
-    let built = each_built A (map term front) (map term back) (subst (λ z. AreBuilt A (terms_of z)) (sym terms) c.requires.built) in
-    let fits = each_language (map term front) (map term back) (subst (λ z. EachFitsAsLanguage leaves (terms_of z)) (sym terms) c.requires.fits) in
+    let built = each_built c.args.parts.now A (map term front) (map term back) (subst (λ z. AreBuilt c.args.parts.now A (terms_of z)) (sym terms) c.requires.built) in
+    let fits = each_language c.args.parts.now (map term front) (map term back) (subst (λ z. EachFitsAsLanguage (kinds c.args.parts.now) (terms_of z)) (sym terms) c.requires.fits) in
     (omega (arith, c.decreases, light.1), (c.requires.distinct, (c.in_ok-first-in_default.ensures.letters, (built.1, fits.1))))
 
 pub ignored-returns-in-len1-clause-words : goal.ignored-returns-in-len1-clause-words
 ignored-returns-in-len1-clause-words t c =
     let A = c.args.alphabet.now in
     let item = c.operand-item.result in
-    subst (λ (z : List (Expr Atom)). IfOk c.words_of.result (λ m. (w : List (Bound Sym)) → Accepts m w ↔ In stands_for A (ignore (terms_of (map term z))) w)) (sym (one_item c.args.operands.now item (omega arith) (omega arith) c.operand-item.is)) c.words_of.ensures.words
+    subst (λ (z : List (Expr Atom)). IfOk c.words_of.result (λ m. (w : List (Bound Sym)) → Accepts m w ↔ In (stands c.args.parts.now) A (ignore (terms_of (map term z))) w)) (sym (one_item c.args.operands.now item (omega arith) (omega arith) c.operand-item.is)) c.words_of.ensures.words
 
 pub ignored-returns-in_ok-first-in_default-clause-words : goal.ignored-returns-in_ok-first-in_default-clause-words
 ignored-returns-in_ok-first-in_default-clause-words t c =
@@ -126,13 +125,13 @@ ignored-returns-in_ok-first-in_default-clause-words t c =
     let back = c.split_at.result.1.now in
     let whole = c.args.operands.now in
     let is = halves_joined front back whole (length whole / 2) c.split_at.ensures.front c.split_at.ensures.back in
-    IfOk-weaker _ _ _ (λ m. ignore_row c.args.alphabet.now (map term front) (map term back) (map term whole) c.in_ok-first-in_default.first m (terms_joined front back whole is) (some_terms front (omega arith)) c.in_ok-first-in_default.ensures.words)
+    IfOk-weaker _ _ _ (λ m. ignore_row c.args.parts.now c.args.alphabet.now (map term front) (map term back) (map term whole) c.in_ok-first-in_default.first m (terms_joined front back whole is) (some_terms front (omega arith)) c.in_ok-first-in_default.ensures.words)
     c.in_ignoring.ensures.words
 
 pub in_chain-by_any-requires : goal.in_chain-by_any-requires
 in_chain-by_any-requires t c =
     let all = c.are_choices.ensures.0 c.if-are_choices.true in
-    (omega (arith, c.decreases), (c.requires.distinct, (all, (c.requires.built, choice_fits c.args.links.now all (kind_of_network c.args.before) Language c.requires.fits))))
+    (omega (arith, c.decreases), (c.requires.distinct, (all, (c.requires.built, choice_fits c.args.parts.now c.args.links.now all (kind_of_network c.args.before) Language c.requires.fits))))
 
 pub in_chain-in_chain-requires : goal.in_chain-in_chain-requires
 in_chain-in_chain-requires t c =
@@ -143,8 +142,8 @@ in_chain-in_chain-requires t c =
     let whole = c.args.links.now in
     let is = halves_joined front back whole (length whole / 2) c.split_at.ensures.front c.split_at.ensures.back in
     let light = links_halves front back whole is (omega arith) (omega arith) in
-    let built = chain_built A front back (subst (λ (z : List (Link Atom)). LinksAreBuilt A (links_of z)) (sym is) c.requires.built) in
-    let fits = chain_fits front back K (subst (λ (z : List (Link Atom)). ChainFits leaves K (links_of z)) (sym is) c.requires.fits) in
+    let built = chain_built c.args.parts.now A front back (subst (λ (z : List (Link Atom)). LinksAreBuilt c.args.parts.now A (links_of z)) (sym is) c.requires.built) in
+    let fits = chain_fits c.args.parts.now front back K (subst (λ (z : List (Link Atom)). ChainFits (kinds c.args.parts.now) K (links_of z)) (sym is) c.requires.fits) in
     (omega (arith, c.decreases, light.0), (c.requires.distinct, (c.requires.before, (built.0, fits.0))))
 
 pub in_chain-in_chain-requires-in_default-2 : goal.in_chain-in_chain-requires-in_default-2
@@ -156,10 +155,10 @@ in_chain-in_chain-requires-in_default-2 t c =
     let whole = c.args.links.now in
     let is = halves_joined front back whole (length whole / 2) c.split_at.ensures.front c.split_at.ensures.back in
     let light = links_halves front back whole is (omega arith) (omega arith) in
-    let built = chain_built A front back (subst (λ (z : List (Link Atom)). LinksAreBuilt A (links_of z)) (sym is) c.requires.built) in
-    let fits = chain_fits front back K (subst (λ (z : List (Link Atom)). ChainFits leaves K (links_of z)) (sym is) c.requires.fits) in
+    let built = chain_built c.args.parts.now A front back (subst (λ (z : List (Link Atom)). LinksAreBuilt c.args.parts.now A (links_of z)) (sym is) c.requires.built) in
+    let fits = chain_fits c.args.parts.now front back K (subst (λ (z : List (Link Atom)). ChainFits (kinds c.args.parts.now) K (links_of z)) (sym is) c.requires.fits) in
     let kind = c.in_ok-first-in_default-2.ensures.meaning.kind_is in
-    (omega (arith, c.decreases, light.1), (c.requires.distinct, (c.in_ok-first-in_default-2.ensures.letters, (built.1, subst (λ k. ChainFits leaves k (links_of back)) (sym kind) fits.1))))
+    (omega (arith, c.decreases, light.1), (c.requires.distinct, (c.in_ok-first-in_default-2.ensures.letters, (built.1, subst (λ k. ChainFits (kinds c.args.parts.now) k (links_of back)) (sym kind) fits.1))))
 
 pub in_chain-returns-in_ok-either-in_default-clause-letters : goal.in_chain-returns-in_ok-either-in_default-clause-letters
 in_chain-returns-in_ok-either-in_default-clause-letters t c =
@@ -175,8 +174,8 @@ in_chain-returns-in_ok-either-in_default-clause-meaning t c =
     let links = c.args.links.now in
     let either = c.in_ok-either-in_default.either in
     let all = c.are_choices.ensures.0 c.if-are_choices.true in
-    let chained = chain_choice A before c.in_ok-by_any-in_default.field-0 either links all c.in_ok-by_any-in_default.ensures.meaning c.in_ok-either-in_default.ensures.meaning in
-    IfOk-weaker _ _ _ (λ r. reduced_for (kind_of_chain leaves (kind_of_network before) (links_of links)) (InChain stands_for A (WordsOf before) (links_of links)) (RelatesChain stands_for A (WordsOf before) (PairsOf before) (links_of links)) either r chained) c.reduced.ensures.meaning
+    let chained = chain_choice c.args.parts.now A before c.in_ok-by_any-in_default.field-0 either links all c.in_ok-by_any-in_default.ensures.meaning c.in_ok-either-in_default.ensures.meaning in
+    IfOk-weaker _ _ _ (λ r. reduced_for (kind_of_chain (kinds c.args.parts.now) (kind_of_network before) (links_of links)) (InChain (stands c.args.parts.now) A (WordsOf before) (links_of links)) (RelatesChain (stands c.args.parts.now) A (WordsOf before) (PairsOf before) (links_of links)) either r chained) c.reduced.ensures.meaning
 
 pub in_chain-returns-in_ok-first-in_default-2-clause-meaning : goal.in_chain-returns-in_ok-first-in_default-2-clause-meaning
 in_chain-returns-in_ok-first-in_default-2-clause-meaning t c =
@@ -185,8 +184,8 @@ in_chain-returns-in_ok-first-in_default-2-clause-meaning t c =
     let back = c.split_at.result.1.now in
     let whole = c.args.links.now in
     let is = halves_joined front back whole (length whole / 2) c.split_at.ensures.front c.split_at.ensures.back in
-    let fits = chain_fits front back K (subst (λ (z : List (Link Atom)). ChainFits leaves K (links_of z)) (sym is) c.requires.fits) in
-    IfOk-weaker _ _ _ (λ r. chain_halves c.args.alphabet.now c.args.before c.in_ok-first-in_default-2.first r front back whole is fits.1 c.in_ok-first-in_default-2.ensures.meaning) c.in_chain-in_default-2.ensures.meaning
+    let fits = chain_fits c.args.parts.now front back K (subst (λ (z : List (Link Atom)). ChainFits (kinds c.args.parts.now) K (links_of z)) (sym is) c.requires.fits) in
+    IfOk-weaker _ _ _ (λ r. chain_halves c.args.parts.now c.args.alphabet.now c.args.before c.in_ok-first-in_default-2.first r front back whole is fits.1 c.in_ok-first-in_default-2.ensures.meaning) c.in_chain-in_default-2.ensures.meaning
 
 pub in_contexts-in_contexts-requires : goal.in_contexts-in_contexts-requires
 in_contexts-in_contexts-requires t c =
@@ -196,8 +195,8 @@ in_contexts-in_contexts-requires t c =
     let whole = c.args.contexts.now in
     let is = halves_joined front back whole (length whole / 2) c.split_at.ensures.front c.split_at.ensures.back in
     let light = contexts_halves front back whole is (omega arith) (omega arith) in
-    let built = contexts_built A front back (subst (λ (z : List (Context Atom)). ContextsAreBuilt A (contexts_of z)) (sym is) c.requires.built) in
-    let fits = contexts_fit front back (subst (λ (z : List (Context Atom)). ContextsFit leaves (contexts_of z)) (sym is) c.requires.fits) in
+    let built = contexts_built c.args.parts.now A front back (subst (λ (z : List (Context Atom)). ContextsAreBuilt c.args.parts.now A (contexts_of z)) (sym is) c.requires.built) in
+    let fits = contexts_fit c.args.parts.now front back (subst (λ (z : List (Context Atom)). ContextsFit (kinds c.args.parts.now) (contexts_of z)) (sym is) c.requires.fits) in
     (omega (arith, c.decreases, light.0), (c.requires.distinct, (built.0, fits.0)))
 
 pub in_contexts-in_contexts-requires-in_default : goal.in_contexts-in_contexts-requires-in_default
@@ -208,22 +207,22 @@ in_contexts-in_contexts-requires-in_default t c =
     let whole = c.args.contexts.now in
     let is = halves_joined front back whole (length whole / 2) c.split_at.ensures.front c.split_at.ensures.back in
     let light = contexts_halves front back whole is (omega arith) (omega arith) in
-    let built = contexts_built A front back (subst (λ (z : List (Context Atom)). ContextsAreBuilt A (contexts_of z)) (sym is) c.requires.built) in
-    let fits = contexts_fit front back (subst (λ (z : List (Context Atom)). ContextsFit leaves (contexts_of z)) (sym is) c.requires.fits) in
+    let built = contexts_built c.args.parts.now A front back (subst (λ (z : List (Context Atom)). ContextsAreBuilt c.args.parts.now A (contexts_of z)) (sym is) c.requires.built) in
+    let fits = contexts_fit c.args.parts.now front back (subst (λ (z : List (Context Atom)). ContextsFit (kinds c.args.parts.now) (contexts_of z)) (sym is) c.requires.fits) in
     (omega (arith, c.decreases, light.1), (c.requires.distinct, (built.1, fits.1)))
 
 pub in_contexts-returns-in-empty-clause-words : goal.in_contexts-returns-in-empty-clause-words
 in_contexts-returns-in-empty-clause-words t c =
     let A = c.args.alphabet.now in
-    subst (λ (z : List (Context Atom)). IfOk c.new.result (AreIn A (contexts_of z))) (sym (no_item c.args.contexts.now (omega arith)))
-    (IfOk-weaker _ _ _ (λ m is. no_contexts A m (none_accepted m is)) c.new.ensures)
+    subst (λ (z : List (Context Atom)). IfOk c.new.result (AreIn c.args.parts.now A (contexts_of z))) (sym (no_item c.args.contexts.now (omega arith)))
+    (IfOk-weaker _ _ _ (λ m is. no_contexts c.args.parts.now A m (none_accepted m is)) c.new.ensures)
 
 pub in_contexts-returns-in_ok-right-in-len1-clause-words : goal.in_contexts-returns-in_ok-right-in-len1-clause-words
 in_contexts-returns-in_ok-right-in-len1-clause-words t c =
     let A = c.args.alphabet.now in
     let item = c.context-item.result in
-    subst (λ (z : List (Context Atom)). IfOk c.in_context.result (AreIn A (contexts_of z))) (sym (one_item c.args.contexts.now item (omega arith) (omega arith) c.context-item.is))
-    (IfOk-weaker _ _ _ (λ m. context_one A (term item.left) (term item.right) c.in_ok-left-in-len1.left c.in_ok-right-in-len1.right m c.in_ok-left-in-len1.ensures.words c.in_ok-right-in-len1.ensures.words) c.in_context.ensures.words)
+    subst (λ (z : List (Context Atom)). IfOk c.in_context.result (AreIn c.args.parts.now A (contexts_of z))) (sym (one_item c.args.contexts.now item (omega arith) (omega arith) c.context-item.is))
+    (IfOk-weaker _ _ _ (λ m. context_one c.args.parts.now A (term item.left) (term item.right) c.in_ok-left-in-len1.left c.in_ok-right-in-len1.right m c.in_ok-left-in-len1.ensures.words c.in_ok-right-in-len1.ensures.words) c.in_context.ensures.words)
 
 pub in_contexts-returns-in_ok-second-in_default-clause-letters : goal.in_contexts-returns-in_ok-second-in_default-clause-letters
 in_contexts-returns-in_ok-second-in_default-clause-letters t c =
@@ -235,7 +234,7 @@ in_contexts-returns-in_ok-second-in_default-clause-words t c =
     let back = c.split_at.result.1.now in
     let whole = c.args.contexts.now in
     let is = halves_joined front back whole (length whole / 2) c.split_at.ensures.front c.split_at.ensures.back in
-    IfOk-weaker _ _ _ (λ m. context_halves c.args.alphabet.now front back whole c.in_ok-first-in_default.first c.in_ok-second-in_default.second m is c.in_ok-first-in_default.ensures.words c.in_ok-second-in_default.ensures.words) c.union.ensures.language
+    IfOk-weaker _ _ _ (λ m. context_halves c.args.parts.now c.args.alphabet.now front back whole c.in_ok-first-in_default.first c.in_ok-second-in_default.second m is c.in_ok-first-in_default.ensures.words c.in_ok-second-in_default.ensures.words) c.union.ensures.language
 
 pub in_ignoring-in_ignoring-requires : goal.in_ignoring-in_ignoring-requires
 in_ignoring-in_ignoring-requires t c =
@@ -246,8 +245,8 @@ in_ignoring-in_ignoring-requires t c =
     let is = halves_joined front back whole (length whole / 2) c.split_at.ensures.front c.split_at.ensures.back in
     let light = each_halves front back whole is (omega arith) (omega arith) in
     let terms = terms_joined front back whole is in
-    let built = each_built A (map term front) (map term back) (subst (λ z. AreBuilt A (terms_of z)) (sym terms) c.requires.built) in
-    let fits = each_language (map term front) (map term back) (subst (λ z. EachFitsAsLanguage leaves (terms_of z)) (sym terms) c.requires.fits) in
+    let built = each_built c.args.parts.now A (map term front) (map term back) (subst (λ z. AreBuilt c.args.parts.now A (terms_of z)) (sym terms) c.requires.built) in
+    let fits = each_language c.args.parts.now (map term front) (map term back) (subst (λ z. EachFitsAsLanguage (kinds c.args.parts.now) (terms_of z)) (sym terms) c.requires.fits) in
     (omega (arith, c.decreases, light.0), (c.requires.distinct, (c.requires.before, (built.0, fits.0))))
 
 pub in_ignoring-in_ignoring-requires-in_default : goal.in_ignoring-in_ignoring-requires-in_default
@@ -259,16 +258,16 @@ in_ignoring-in_ignoring-requires-in_default t c =
     let is = halves_joined front back whole (length whole / 2) c.split_at.ensures.front c.split_at.ensures.back in
     let light = each_halves front back whole is (omega arith) (omega arith) in
     let terms = terms_joined front back whole is in
-    let built = each_built A (map term front) (map term back) (subst (λ z. AreBuilt A (terms_of z)) (sym terms) c.requires.built) in
-    let fits = each_language (map term front) (map term back) (subst (λ z. EachFitsAsLanguage leaves (terms_of z)) (sym terms) c.requires.fits) in
+    let built = each_built c.args.parts.now A (map term front) (map term back) (subst (λ z. AreBuilt c.args.parts.now A (terms_of z)) (sym terms) c.requires.built) in
+    let fits = each_language c.args.parts.now (map term front) (map term back) (subst (λ z. EachFitsAsLanguage (kinds c.args.parts.now) (terms_of z)) (sym terms) c.requires.fits) in
     (omega (arith, c.decreases, light.1), (c.requires.distinct, (c.in_ok-first-in_default.ensures.letters, (built.1, fits.1))))
 
 pub in_ignoring-returns-in_ok-words-in-len1-clause-words : goal.in_ignoring-returns-in_ok-words-in-len1-clause-words
 in_ignoring-returns-in_ok-words-in-len1-clause-words t c =
     let A = c.args.alphabet.now in
     let item = c.operand-item.result in
-    subst (λ (z : List (Expr Atom)). IfOk c.ignoring.result (λ m. (w : List (Bound Sym)) → Accepts m w ↔ InIgnoring stands_for A (Accepts c.args.before) (terms_of (map term z)) w)) (sym (one_item c.args.operands.now item (omega arith) (omega arith) c.operand-item.is))
-    (IfOk-weaker _ _ _ (λ m. ignore_one A (term item) c.args.before c.in_ok-words-in-len1.words m c.in_ok-words-in-len1.ensures.words) c.ignoring.ensures.words)
+    subst (λ (z : List (Expr Atom)). IfOk c.ignoring.result (λ m. (w : List (Bound Sym)) → Accepts m w ↔ InIgnoring (stands c.args.parts.now) A (Accepts c.args.before) (terms_of (map term z)) w)) (sym (one_item c.args.operands.now item (omega arith) (omega arith) c.operand-item.is))
+    (IfOk-weaker _ _ _ (λ m. ignore_one c.args.parts.now A (term item) c.args.before c.in_ok-words-in-len1.words m c.in_ok-words-in-len1.ensures.words) c.ignoring.ensures.words)
 
 pub in_ignoring-returns-in_ok-first-in_default-clause-words : goal.in_ignoring-returns-in_ok-first-in_default-clause-words
 in_ignoring-returns-in_ok-first-in_default-clause-words t c =
@@ -276,7 +275,7 @@ in_ignoring-returns-in_ok-first-in_default-clause-words t c =
     let back = c.split_at.result.1.now in
     let whole = c.args.operands.now in
     let is = halves_joined front back whole (length whole / 2) c.split_at.ensures.front c.split_at.ensures.back in
-    IfOk-weaker _ _ _ (λ m. ignore_halves c.args.alphabet.now (map term front) (map term back) (map term whole) c.args.before c.in_ok-first-in_default.first m (terms_joined front back whole is) c.in_ok-first-in_default.ensures.words) c.in_ignoring-in_default.ensures.words
+    IfOk-weaker _ _ _ (λ m. ignore_halves c.args.parts.now c.args.alphabet.now (map term front) (map term back) (map term whole) c.args.before c.in_ok-first-in_default.first m (terms_joined front back whole is) c.in_ok-first-in_default.ensures.words) c.in_ignoring-in_default.ensures.words
 
 pub in_link-returns-in_ok-either-in-Or-clause-letters : goal.in_link-returns-in_ok-either-in-Or-clause-letters
 in_link-returns-in_ok-either-in-Or-clause-letters t c =
@@ -291,15 +290,15 @@ in_link-returns-in_ok-either-in-Or-clause-meaning t c =
     let before = c.args.before in
     let either = c.in_ok-either-in-Or.either in
     let links = or (term c.in-Or.operand) no_link in
-    let chained = or_chained A before c.in_ok-network_of-in-Or.field-0 either (term c.in-Or.operand) c.in_ok-network_of-in-Or.ensures.meaning c.in_ok-either-in-Or.ensures.meaning in
-    subst (λ (z : Link Atom). IfOk c.reduced.result (IsChained A before (z ∷ []))) (sym c.in-Or.is)
-    (IfOk-weaker _ _ _ (λ r. reduced_for (kind_of_chain leaves (kind_of_network before) links) (InChain stands_for A (WordsOf before) links) (RelatesChain stands_for A (WordsOf before) (PairsOf before) links) either r chained) c.reduced.ensures.meaning)
+    let chained = or_chained c.args.parts.now A before c.in_ok-network_of-in-Or.field-0 either (term c.in-Or.operand) c.in_ok-network_of-in-Or.ensures.meaning c.in_ok-either-in-Or.ensures.meaning in
+    subst (λ (z : Link Atom). IfOk c.reduced.result (IsChained c.args.parts.now A before (z ∷ []))) (sym c.in-Or.is)
+    (IfOk-weaker _ _ _ (λ r. reduced_for (kind_of_chain (kinds c.args.parts.now) (kind_of_network before) links) (InChain (stands c.args.parts.now) A (WordsOf before) links) (RelatesChain (stands c.args.parts.now) A (WordsOf before) (PairsOf before) links) either r chained) c.reduced.ensures.meaning)
 
 pub in_step-returns-in_ok-network-in-Then-clause-meaning : goal.in_step-returns-in_ok-network-in-Then-clause-meaning
 in_step-returns-in_ok-network-in-Then-clause-meaning t c =
     let A = c.args.alphabet.now in
-    subst (λ (z : Step Atom). IfOk c.composed.result (IsStepped A c.args.before (z ∷ []))) (sym c.in-Then.is)
-    (IfOk-weaker _ _ _ (λ r. then_stepped A c.args.before c.in_ok-network-in-Then.network r (term c.in-Then.operand) c.in_ok-network-in-Then.ensures.meaning) c.composed.ensures.meaning)
+    subst (λ (z : Step Atom). IfOk c.composed.result (IsStepped c.args.parts.now A c.args.before (z ∷ []))) (sym c.in-Then.is)
+    (IfOk-weaker _ _ _ (λ r. then_stepped c.args.parts.now A c.args.before c.in_ok-network-in-Then.network r (term c.in-Then.operand) c.in_ok-network-in-Then.ensures.meaning) c.composed.ensures.meaning)
 
 pub in_steps-in_steps-requires : goal.in_steps-in_steps-requires
 in_steps-in_steps-requires t c =
@@ -310,8 +309,8 @@ in_steps-in_steps-requires t c =
     let whole = c.args.steps.now in
     let is = halves_joined front back whole (length whole / 2) c.split_at.ensures.front c.split_at.ensures.back in
     let light = steps_lighter front back whole is (omega arith) (omega arith) in
-    let built = steps_built A front back (subst (λ (z : List (Step Atom)). StepsAreBuilt A (steps_by z)) (sym is) c.requires.built) in
-    let fits = steps_fit front back K (subst (λ (z : List (Step Atom)). StepsFit leaves K (steps_by z)) (sym is) c.requires.fits) in
+    let built = steps_built c.args.parts.now A front back (subst (λ (z : List (Step Atom)). StepsAreBuilt c.args.parts.now A (steps_by z)) (sym is) c.requires.built) in
+    let fits = steps_fit c.args.parts.now front back K (subst (λ (z : List (Step Atom)). StepsFit (kinds c.args.parts.now) K (steps_by z)) (sym is) c.requires.fits) in
     (omega (arith, c.decreases, light.0), (c.requires.distinct, (c.requires.before, (built.0, fits.0))))
 
 pub in_steps-in_steps-requires-in_default : goal.in_steps-in_steps-requires-in_default
@@ -323,10 +322,10 @@ in_steps-in_steps-requires-in_default t c =
     let whole = c.args.steps.now in
     let is = halves_joined front back whole (length whole / 2) c.split_at.ensures.front c.split_at.ensures.back in
     let light = steps_lighter front back whole is (omega arith) (omega arith) in
-    let built = steps_built A front back (subst (λ (z : List (Step Atom)). StepsAreBuilt A (steps_by z)) (sym is) c.requires.built) in
-    let fits = steps_fit front back K (subst (λ (z : List (Step Atom)). StepsFit leaves K (steps_by z)) (sym is) c.requires.fits) in
+    let built = steps_built c.args.parts.now A front back (subst (λ (z : List (Step Atom)). StepsAreBuilt c.args.parts.now A (steps_by z)) (sym is) c.requires.built) in
+    let fits = steps_fit c.args.parts.now front back K (subst (λ (z : List (Step Atom)). StepsFit (kinds c.args.parts.now) K (steps_by z)) (sym is) c.requires.fits) in
     let kind = c.in_ok-first-in_default.ensures.meaning.kind_is in
-    (omega (arith, c.decreases, light.1), (c.requires.distinct, (c.in_ok-first-in_default.ensures.letters, (built.1, subst (λ k. StepsFit leaves k (steps_by back)) (sym kind) fits.1))))
+    (omega (arith, c.decreases, light.1), (c.requires.distinct, (c.in_ok-first-in_default.ensures.letters, (built.1, subst (λ k. StepsFit (kinds c.args.parts.now) k (steps_by back)) (sym kind) fits.1))))
 
 pub in_steps-returns-in_ok-first-in_default-clause-meaning : goal.in_steps-returns-in_ok-first-in_default-clause-meaning
 in_steps-returns-in_ok-first-in_default-clause-meaning t c =
@@ -335,8 +334,8 @@ in_steps-returns-in_ok-first-in_default-clause-meaning t c =
     let back = c.split_at.result.1.now in
     let whole = c.args.steps.now in
     let is = halves_joined front back whole (length whole / 2) c.split_at.ensures.front c.split_at.ensures.back in
-    let fits = steps_fit front back K (subst (λ (z : List (Step Atom)). StepsFit leaves K (steps_by z)) (sym is) c.requires.fits) in
-    IfOk-weaker _ _ _ (λ r. steps_halves c.args.alphabet.now c.args.before c.in_ok-first-in_default.first r front back whole is fits.1 c.in_ok-first-in_default.ensures.meaning) c.in_steps-in_default.ensures.meaning
+    let fits = steps_fit c.args.parts.now front back K (subst (λ (z : List (Step Atom)). StepsFit (kinds c.args.parts.now) K (steps_by z)) (sym is) c.requires.fits) in
+    IfOk-weaker _ _ _ (λ r. steps_halves c.args.parts.now c.args.alphabet.now c.args.before c.in_ok-first-in_default.first r front back whole is fits.1 c.in_ok-first-in_default.ensures.meaning) c.in_steps-in_default.ensures.meaning
 
 pub in_turn-in_turn-requires : goal.in_turn-in_turn-requires
 in_turn-in_turn-requires t c =
@@ -347,8 +346,8 @@ in_turn-in_turn-requires t c =
     let is = halves_joined front back whole (length whole / 2) c.split_at.ensures.front c.split_at.ensures.back in
     let light = each_halves front back whole is (omega arith) (omega arith) in
     let terms = terms_joined front back whole is in
-    let built = each_built A (map term front) (map term back) (subst (λ z. AreBuilt A (terms_of z)) (sym terms) c.requires.built) in
-    let fits = each_fits (map term front) (map term back) (subst (λ z. EachFits leaves (terms_of z)) (sym terms) c.requires.fits) in
+    let built = each_built c.args.parts.now A (map term front) (map term back) (subst (λ z. AreBuilt c.args.parts.now A (terms_of z)) (sym terms) c.requires.built) in
+    let fits = each_fits c.args.parts.now (map term front) (map term back) (subst (λ z. EachFits (kinds c.args.parts.now) (terms_of z)) (sym terms) c.requires.fits) in
     (omega (arith, c.decreases, light.0), (c.requires.distinct, (built.0, fits.0)))
 
 pub in_turn-in_turn-requires-in_default : goal.in_turn-in_turn-requires-in_default
@@ -360,8 +359,8 @@ in_turn-in_turn-requires-in_default t c =
     let is = halves_joined front back whole (length whole / 2) c.split_at.ensures.front c.split_at.ensures.back in
     let light = each_halves front back whole is (omega arith) (omega arith) in
     let terms = terms_joined front back whole is in
-    let built = each_built A (map term front) (map term back) (subst (λ z. AreBuilt A (terms_of z)) (sym terms) c.requires.built) in
-    let fits = each_fits (map term front) (map term back) (subst (λ z. EachFits leaves (terms_of z)) (sym terms) c.requires.fits) in
+    let built = each_built c.args.parts.now A (map term front) (map term back) (subst (λ z. AreBuilt c.args.parts.now A (terms_of z)) (sym terms) c.requires.built) in
+    let fits = each_fits c.args.parts.now (map term front) (map term back) (subst (λ z. EachFits (kinds c.args.parts.now) (terms_of z)) (sym terms) c.requires.fits) in
     (omega (arith, c.decreases, light.1), (c.requires.distinct, (built.1, fits.1)))
 
 pub in_turn-returns-in_ok-word-in-empty-clause-letters : goal.in_turn-returns-in_ok-word-in-empty-clause-letters
@@ -371,14 +370,14 @@ pub in_turn-returns-in_ok-word-in-empty-clause-meaning : goal.in_turn-returns-in
 in_turn-returns-in_ok-word-in-empty-clause-meaning t c =
     let A = c.args.alphabet.now in
     let m = c.in_ok-word-in-empty.field-0 in
-    subst (λ (z : List (Expr Atom)). IsMeant A (concat (terms_of (map term z))) (Words m)) (sym (no_item c.args.operands.now (omega arith))) (words_meant A (concat no_term) m refl c.in_ok-word-in-empty.ensures.language)
+    subst (λ (z : List (Expr Atom)). IsMeant c.args.parts.now A (concat (terms_of (map term z))) (Words m)) (sym (no_item c.args.operands.now (omega arith))) (words_meant c.args.parts.now A (concat no_term) m refl c.in_ok-word-in-empty.ensures.language)
 
 pub in_turn-returns-in-len1-clause-meaning : goal.in_turn-returns-in-len1-clause-meaning
 in_turn-returns-in-len1-clause-meaning t c =
     let A = c.args.alphabet.now in
     let item = c.operand-item.result in
-    subst (λ (z : List (Expr Atom)). IfOk c.network_of.result (IsMeant A (concat (terms_of (map term z))))) (sym (one_item c.args.operands.now item (omega arith) (omega arith) c.operand-item.is))
-    (IfOk-weaker _ _ _ (turn_alone A (term item)) c.network_of.ensures.meaning)
+    subst (λ (z : List (Expr Atom)). IfOk c.network_of.result (IsMeant c.args.parts.now A (concat (terms_of (map term z))))) (sym (one_item c.args.operands.now item (omega arith) (omega arith) c.operand-item.is))
+    (IfOk-weaker _ _ _ (turn_alone c.args.parts.now A (term item)) c.network_of.ensures.meaning)
 
 pub in_turn-returns-in_ok-second-in_default-clause-meaning : goal.in_turn-returns-in_ok-second-in_default-clause-meaning
 in_turn-returns-in_ok-second-in_default-clause-meaning t c =
@@ -386,44 +385,44 @@ in_turn-returns-in_ok-second-in_default-clause-meaning t c =
     let back = c.split_at.result.1.now in
     let whole = c.args.operands.now in
     let is = halves_joined front back whole (length whole / 2) c.split_at.ensures.front c.split_at.ensures.back in
-    IfOk-weaker _ _ _ (λ r. turns_meant c.args.alphabet.now (map term front) (map term back) (map term whole) c.in_ok-first-in_default.first c.in_ok-second-in_default.second r (terms_joined front back whole is) c.in_ok-first-in_default.ensures.meaning c.in_ok-second-in_default.ensures.meaning) c.concat.ensures.meaning
+    IfOk-weaker _ _ _ (λ r. turns_meant c.args.parts.now c.args.alphabet.now (map term front) (map term back) (map term whole) c.in_ok-first-in_default.first c.in_ok-second-in_default.second r (terms_joined front back whole is) c.in_ok-first-in_default.ensures.meaning c.in_ok-second-in_default.ensures.meaning) c.concat.ensures.meaning
 
 pub network_of-ignored-requires : goal.network_of-ignored-requires
 network_of-ignored-requires t c =
     let is = ap term c.in-Ignore.is ∙ term-Ignore c.in-Ignore.operands in
     let slice = c.deref-in-Ignore.ensures.value in
-    (rw slice (omega (arith, c.decreases, ap weight is)), (c.requires.distinct, (rw slice (subst (λ e. IsBuilt c.args.alphabet.now e) is c.requires.built), rw slice (subst (λ e. Fits leaves e) is c.requires.fits))))
+    (rw slice (omega (arith, c.decreases, ap weight is)), (c.requires.distinct, (rw slice (subst (λ e. IsBuilt c.args.parts.now c.args.alphabet.now e) is c.requires.built), rw slice (subst (λ e. Fits (kinds c.args.parts.now) e) is c.requires.fits))))
 
 pub network_of-in_turn-requires : goal.network_of-in_turn-requires
 network_of-in_turn-requires t c =
     let is = ap term c.in-Concat.is ∙ term-Concat c.in-Concat.operands in
     let slice = c.deref-in-Concat.ensures.value in
-    (rw slice (omega (arith, c.decreases, ap weight is)), (c.requires.distinct, (rw slice (subst (λ e. IsBuilt c.args.alphabet.now e) is c.requires.built), rw slice (subst (λ e. Fits leaves e) is c.requires.fits))))
+    (rw slice (omega (arith, c.decreases, ap weight is)), (c.requires.distinct, (rw slice (subst (λ e. IsBuilt c.args.parts.now c.args.alphabet.now e) is c.requires.built), rw slice (subst (λ e. Fits (kinds c.args.parts.now) e) is c.requires.fits))))
 
 pub network_of-in_chain-requires : goal.network_of-in_chain-requires
 network_of-in_chain-requires t c =
     let is = ap term c.in-Chain.is ∙ term-Chain c.in-Chain.first c.in-Chain.links in
     let slice = c.deref-in-Chain-2.ensures.value in
-    let built = subst (λ e. IsBuilt c.args.alphabet.now e) is c.requires.built in
-    let fits = subst (λ e. Fits leaves e) is c.requires.fits in
+    let built = subst (λ e. IsBuilt c.args.parts.now c.args.alphabet.now e) is c.requires.built in
+    let fits = subst (λ e. Fits (kinds c.args.parts.now) e) is c.requires.fits in
     let kind = rw c.deref-in-Chain.ensures at c.in_ok-network_of-in-Chain.ensures.meaning.kind_is in
-    (rw slice (omega (arith, c.decreases, ap weight is)), (c.requires.distinct, (c.in_ok-network_of-in-Chain.ensures.letters, (rw slice built.1, rw slice (subst (λ k. ChainFits leaves k (links_of c.in-Chain.links.items)) (sym kind) fits.1)))))
+    (rw slice (omega (arith, c.decreases, ap weight is)), (c.requires.distinct, (c.in_ok-network_of-in-Chain.ensures.letters, (rw slice built.1, rw slice (subst (λ k. ChainFits (kinds c.args.parts.now) k (links_of c.in-Chain.links.items)) (sym kind) fits.1)))))
 
 pub network_of-only_in-requires : goal.network_of-only_in-requires
 network_of-only_in-requires t c =
     let is = ap term c.in-Only.is ∙ term-Only c.in-Only.centre c.in-Only.contexts in
     let centre = c.deref-in-Only.ensures in
     let slice = c.deref-in-Only-2.ensures.value in
-    (rw (centre, slice) (omega (arith, c.decreases, ap weight is)), (c.requires.distinct, (rw (centre, slice) (subst (λ e. IsBuilt c.args.alphabet.now e) is c.requires.built), rw (centre, slice) (subst (λ e. Fits leaves e) is c.requires.fits))))
+    (rw (centre, slice) (omega (arith, c.decreases, ap weight is)), (c.requires.distinct, (rw (centre, slice) (subst (λ e. IsBuilt c.args.parts.now c.args.alphabet.now e) is c.requires.built), rw (centre, slice) (subst (λ e. Fits (kinds c.args.parts.now) e) is c.requires.fits))))
 
 pub network_of-in_steps-requires : goal.network_of-in_steps-requires
 network_of-in_steps-requires t c =
     let is = ap term c.in-Steps.is ∙ term-Steps c.in-Steps.first c.in-Steps.steps in
     let slice = c.deref-in-Steps-2.ensures.value in
-    let built = subst (λ e. IsBuilt c.args.alphabet.now e) is c.requires.built in
-    let fits = subst (λ e. Fits leaves e) is c.requires.fits in
+    let built = subst (λ e. IsBuilt c.args.parts.now c.args.alphabet.now e) is c.requires.built in
+    let fits = subst (λ e. Fits (kinds c.args.parts.now) e) is c.requires.fits in
     let kind = rw c.deref-in-Steps.ensures at c.in_ok-network_of-in-Steps.ensures.meaning.kind_is in
-    (rw slice (omega (arith, c.decreases, ap weight is)), (c.requires.distinct, (c.in_ok-network_of-in-Steps.ensures.letters, (rw slice built.1, rw slice (subst (λ k. StepsFit leaves k (steps_by c.in-Steps.steps.items)) (sym kind) fits.1)))))
+    (rw slice (omega (arith, c.decreases, ap weight is)), (c.requires.distinct, (c.in_ok-network_of-in-Steps.ensures.letters, (rw slice built.1, rw slice (subst (λ k. StepsFit (kinds c.args.parts.now) k (steps_by c.in-Steps.steps.items)) (sym kind) fits.1)))))
 
 pub network_of-returns-in_ok-word-in-Empty-clause-letters : goal.network_of-returns-in_ok-word-in-Empty-clause-letters
 network_of-returns-in_ok-word-in-Empty-clause-letters t c = empty_only (all_letters c.args.alphabet.now) c.in_ok-word-in-Empty.field-0 c.in_ok-word-in-Empty.ensures.letters
@@ -434,11 +433,11 @@ network_of-returns-in_ok-one_of-in-Any-clause-letters t c x used = inside_all c.
 pub network_of-returns-in_ok-word-in-Edge-clause-letters : goal.network_of-returns-in_ok-word-in-Edge-clause-letters
 network_of-returns-in_ok-word-in-Edge-clause-letters t c = edge_only c.args.alphabet.now c.in_ok-word-in-Edge.field-0 c.in_ok-word-in-Edge.ensures.letters
 
-pub network_of-returns-in_ok-leaves-in-Atom-clause-meaning : goal.network_of-returns-in_ok-leaves-in-Atom-clause-meaning
-network_of-returns-in_ok-leaves-in-Atom-clause-meaning t c =
+pub network_of-returns-in_ok-(kinds c.args.parts.now)-in-Atom-clause-meaning : goal.network_of-returns-in_ok-(kinds c.args.parts.now)-in-Atom-clause-meaning
+network_of-returns-in_ok-(kinds c.args.parts.now)-in-Atom-clause-meaning t c =
     let A = c.args.alphabet.now in
-    let m = c.in_ok-leaves-in-Atom.field-0 in
-    subst (λ e. IsMeant A (term e) (Words m)) (sym c.in-Atom.is) (atom_meant A m c.in-Atom.atom c.in_ok-leaves-in-Atom.ensures.words)
+    let m = c.in_ok-(kinds c.args.parts.now)-in-Atom.field-0 in
+    subst (λ e. IsMeant c.args.parts.now A (term e) (Words m)) (sym c.in-Atom.is) (atom_meant c.args.parts.now A m c.in-Atom.atom c.in_ok-(kinds c.args.parts.now)-in-Atom.ensures.words)
 
 pub network_of-returns-in_ok-network_of-in-Suffixed-clause-meaning : goal.network_of-returns-in_ok-network_of-in-Suffixed-clause-meaning
 network_of-returns-in_ok-network_of-in-Suffixed-clause-meaning t c =
@@ -446,27 +445,27 @@ network_of-returns-in_ok-network_of-in-Suffixed-clause-meaning t c =
     let e = term c.in-Suffixed.inner.value in
     let meant = rw c.deref-in-Suffixed.ensures at c.in_ok-network_of-in-Suffixed.ensures.meaning in
     let result = rw c.deref-in-Suffixed-2.ensures.value at c.with_suffixes.ensures.meaning in
-    subst (λ x. IfOk c.with_suffixes.result (IsMeant A (term x))) (sym c.in-Suffixed.is)
-    (IfOk-weaker _ _ _ (λ r. suffixed_for (kind_of leaves e) (In stands_for A e) (Relates stands_for A e) c.in_ok-network_of-in-Suffixed.field-0 r c.in-Suffixed.suffixes.items meant) result)
+    subst (λ x. IfOk c.with_suffixes.result (IsMeant c.args.parts.now A (term x))) (sym c.in-Suffixed.is)
+    (IfOk-weaker _ _ _ (λ r. suffixed_for (kind_of (kinds c.args.parts.now) e) (In (stands c.args.parts.now) A e) (Relates (stands c.args.parts.now) A e) c.in_ok-network_of-in-Suffixed.field-0 r c.in-Suffixed.suffixes.items meant) result)
 
 pub network_of-returns-in_ok-with_prefixes-in-Prefixed-clause-meaning : goal.network_of-returns-in_ok-with_prefixes-in-Prefixed-clause-meaning
 network_of-returns-in_ok-with_prefixes-in-Prefixed-clause-meaning t c =
     let A = c.args.alphabet.now in
     let m = c.in_ok-with_prefixes-in-Prefixed.field-0 in
-    let fits = subst (λ x. Fits leaves (term x)) c.in-Prefixed.is c.requires.fits in
+    let fits = subst (λ x. Fits (kinds c.args.parts.now) (term x)) c.in-Prefixed.is c.requires.fits in
     let words = rw c.deref-in-Prefixed.ensures at c.in_ok-words-in-Prefixed.ensures.words in
     let result = rw c.deref-in-Prefixed-2.ensures.value at c.in_ok-with_prefixes-in-Prefixed.ensures.words in
-    subst (λ x. IsMeant A (term x) (Words m)) (sym c.in-Prefixed.is)
-    (prefixed_meant A c.in-Prefixed.prefixes.items (term c.in-Prefixed.inner.value) c.in_ok-words-in-Prefixed.words m fits.0 words result)
+    subst (λ x. IsMeant c.args.parts.now A (term x) (Words m)) (sym c.in-Prefixed.is)
+    (prefixed_meant c.args.parts.now A c.in-Prefixed.prefixes.items (term c.in-Prefixed.inner.value) c.in_ok-words-in-Prefixed.words m fits.0 words result)
 
 pub network_of-returns-in_ok-ignored-in-Ignore-clause-meaning : goal.network_of-returns-in_ok-ignored-in-Ignore-clause-meaning
 network_of-returns-in_ok-ignored-in-Ignore-clause-meaning t c =
     let A = c.args.alphabet.now in
     let m = c.in_ok-ignored-in-Ignore.field-0 in
     let is = ap term c.in-Ignore.is ∙ term-Ignore c.in-Ignore.operands in
-    let fits = subst (λ e. Fits leaves e) is c.requires.fits in
+    let fits = subst (λ e. Fits (kinds c.args.parts.now) e) is c.requires.fits in
     let terms = terms_of (map term c.in-Ignore.operands.items) in
-    subst (λ e. IsMeant A e (Words m)) (sym is) (words_meant A (ignore terms) m (each_kind_language A terms fits) (rw c.deref-in-Ignore.ensures.value at c.in_ok-ignored-in-Ignore.ensures.words))
+    subst (λ e. IsMeant c.args.parts.now A e (Words m)) (sym is) (words_meant c.args.parts.now A (ignore terms) m (each_kind_language c.args.parts.now A terms fits) (rw c.deref-in-Ignore.ensures.value at c.in_ok-ignored-in-Ignore.ensures.words))
 
 pub network_of-returns-in_ok-in_turn-in-Concat-clause-meaning : goal.network_of-returns-in_ok-in_turn-in-Concat-clause-meaning
 network_of-returns-in_ok-in_turn-in-Concat-clause-meaning t c =
@@ -474,44 +473,44 @@ network_of-returns-in_ok-in_turn-in-Concat-clause-meaning t c =
     let is = ap term c.in-Concat.is ∙ term-Concat c.in-Concat.operands in
     let e = concat (terms_of (map term c.in-Concat.operands.items)) in
     let meant = rw c.deref-in-Concat.ensures.value at c.in_ok-in_turn-in-Concat.ensures.meaning in
-    subst (λ e. IfOk c.reduced.result (IsMeant A e)) (sym is)
-    (IfOk-weaker _ _ _ (λ r. reduced_for (kind_of leaves e) (In stands_for A e) (Relates stands_for A e) c.in_ok-in_turn-in-Concat.field-0 r meant) c.reduced.ensures.meaning)
+    subst (λ e. IfOk c.reduced.result (IsMeant c.args.parts.now A e)) (sym is)
+    (IfOk-weaker _ _ _ (λ r. reduced_for (kind_of (kinds c.args.parts.now) e) (In (stands c.args.parts.now) A e) (Relates (stands c.args.parts.now) A e) c.in_ok-in_turn-in-Concat.field-0 r meant) c.reduced.ensures.meaning)
 
 pub network_of-returns-in_ok-network_of-in-Chain-clause-meaning : goal.network_of-returns-in_ok-network_of-in-Chain-clause-meaning
 network_of-returns-in_ok-network_of-in-Chain-clause-meaning t c =
     let A = c.args.alphabet.now in
     let is = ap term c.in-Chain.is ∙ term-Chain c.in-Chain.first c.in-Chain.links in
     let e = term c.in-Chain.first.value in
-    let fits = subst (λ x. Fits leaves x) is c.requires.fits in
+    let fits = subst (λ x. Fits (kinds c.args.parts.now) x) is c.requires.fits in
     let meant = rw c.deref-in-Chain.ensures at c.in_ok-network_of-in-Chain.ensures.meaning in
     let result = rw c.deref-in-Chain-2.ensures.value at c.in_chain.ensures.meaning in
-    subst (λ x. IfOk c.in_chain.result (IsMeant A x)) (sym is)
-    (IfOk-weaker _ _ _ (λ r. chain_for A (kind_of leaves e) (In stands_for A e) (Relates stands_for A e) c.in_ok-network_of-in-Chain.field-0 r (links_of c.in-Chain.links.items) fits.1 meant) result)
+    subst (λ x. IfOk c.in_chain.result (IsMeant c.args.parts.now A x)) (sym is)
+    (IfOk-weaker _ _ _ (λ r. chain_for c.args.parts.now A (kind_of (kinds c.args.parts.now) e) (In (stands c.args.parts.now) A e) (Relates (stands c.args.parts.now) A e) c.in_ok-network_of-in-Chain.field-0 r (links_of c.in-Chain.links.items) fits.1 meant) result)
 
 pub network_of-returns-in-Only-clause-meaning : goal.network_of-returns-in-Only-clause-meaning
 network_of-returns-in-Only-clause-meaning t c =
     let is = ap term c.in-Only.is ∙ term-Only c.in-Only.centre c.in-Only.contexts in
-    subst (λ x. IfOk c.only_in.result (IsMeant c.args.alphabet.now x)) (sym is) (rw (c.deref-in-Only.ensures, c.deref-in-Only-2.ensures.value) at c.only_in.ensures.meaning)
+    subst (λ x. IfOk c.only_in.result (IsMeant c.args.parts.now c.args.alphabet.now x)) (sym is) (rw (c.deref-in-Only.ensures, c.deref-in-Only-2.ensures.value) at c.only_in.ensures.meaning)
 
 pub network_of-returns-in_ok-network_of-in-Steps-clause-meaning : goal.network_of-returns-in_ok-network_of-in-Steps-clause-meaning
 network_of-returns-in_ok-network_of-in-Steps-clause-meaning t c =
     let A = c.args.alphabet.now in
     let is = ap term c.in-Steps.is ∙ term-Steps c.in-Steps.first c.in-Steps.steps in
     let e = term c.in-Steps.first.value in
-    let fits = subst (λ x. Fits leaves x) is c.requires.fits in
+    let fits = subst (λ x. Fits (kinds c.args.parts.now) x) is c.requires.fits in
     let meant = rw c.deref-in-Steps.ensures at c.in_ok-network_of-in-Steps.ensures.meaning in
     let result = rw c.deref-in-Steps-2.ensures.value at c.in_steps.ensures.meaning in
-    subst (λ x. IfOk c.in_steps.result (IsMeant A x)) (sym is)
-    (IfOk-weaker _ _ _ (λ r. steps_for A (kind_of leaves e) (In stands_for A e) (Relates stands_for A e) c.in_ok-network_of-in-Steps.field-0 r (steps_by c.in-Steps.steps.items) fits.1 meant) result)
+    subst (λ x. IfOk c.in_steps.result (IsMeant c.args.parts.now A x)) (sym is)
+    (IfOk-weaker _ _ _ (λ r. steps_for c.args.parts.now A (kind_of (kinds c.args.parts.now) e) (In (stands c.args.parts.now) A e) (Relates (stands c.args.parts.now) A e) c.in_ok-network_of-in-Steps.field-0 r (steps_by c.in-Steps.steps.items) fits.1 meant) result)
 
 pub no_such_letter-returns-clause-meaning : goal.no_such_letter-returns-clause-meaning
 no_such_letter-returns-clause-meaning t c =
-    not_one_meant c.args.alphabet.now c.args.count (term c.args.inner.now) c.in_ok-words.words c.in_ok-not_one_times.field-0 c.requires.fits.0 c.in_ok-words.ensures.words c.in_ok-not_one_times.ensures.words
+    not_one_meant c.args.parts.now c.args.alphabet.now c.args.count (term c.args.inner.now) c.in_ok-words.words c.in_ok-not_one_times.field-0 c.requires.fits.0 c.in_ok-words.ensures.words c.in_ok-not_one_times.ensures.words
 
 pub only_in-returns-clause-meaning : goal.only_in-returns-clause-meaning
 only_in-returns-clause-meaning t c =
     let fits = c.requires.fits in
-    only_meant c.args.alphabet.now (term c.args.centre.now) (contexts_of c.args.contexts.now) c.in_ok-words.words c.in_ok-allowed.allowed c.in_ok-restricted.field-0 fits.0 fits.2 c.in_ok-words.ensures.words c.in_ok-allowed.ensures.words c.in_ok-restricted.ensures.words
+    only_meant c.args.parts.now c.args.alphabet.now (term c.args.centre.now) (contexts_of c.args.contexts.now) c.in_ok-words.words c.in_ok-allowed.allowed c.in_ok-restricted.field-0 fits.0 fits.2 c.in_ok-words.ensures.words c.in_ok-allowed.ensures.words c.in_ok-restricted.ensures.words
 
 pub perhaps-returns-clause-letters : goal.perhaps-returns-clause-letters
 perhaps-returns-clause-letters t c =
@@ -525,8 +524,8 @@ perhaps-returns-clause-meaning t c =
     let A = c.args.alphabet.now in
     let e = maybe (term c.args.inner.now) in
     let either = c.in_ok-either.either in
-    let meant = maybe_meant A (term c.args.inner.now) c.in_ok-word.field-0 c.in_ok-network_of.field-0 either c.in_ok-word.ensures.language c.in_ok-network_of.ensures.meaning c.in_ok-either.ensures.meaning in
-    IfOk-weaker _ _ _ (λ r. reduced_for (kind_of leaves e) (In stands_for A e) (Relates stands_for A e) either r meant) c.reduced.ensures.meaning
+    let meant = maybe_meant c.args.parts.now A (term c.args.inner.now) c.in_ok-word.field-0 c.in_ok-network_of.field-0 either c.in_ok-word.ensures.language c.in_ok-network_of.ensures.meaning c.in_ok-either.ensures.meaning in
+    IfOk-weaker _ _ _ (λ r. reduced_for (kind_of (kinds c.args.parts.now) e) (In (stands c.args.parts.now) A e) (Relates (stands c.args.parts.now) A e) either r meant) c.reduced.ensures.meaning
 
 pub words_of-returns-clause-words : goal.words_of-returns-clause-words
-words_of-returns-clause-words t c = meant_words c.args.alphabet.now (term c.args.expr.now) c.in_ok-network_of.field-0 c.into_words.result c.requires.language c.into_words.ensures c.in_ok-network_of.ensures.meaning
+words_of-returns-clause-words t c = meant_words c.args.parts.now c.args.alphabet.now (term c.args.expr.now) c.in_ok-network_of.field-0 c.into_words.result c.requires.language c.into_words.ensures c.in_ok-network_of.ensures.meaning

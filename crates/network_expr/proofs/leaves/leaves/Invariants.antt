@@ -4,4 +4,4 @@ use Rattle.network_expr.proofs.leaves.leaves.Given as goal
 
 -- the leaves so far
 abbrev pub invariant-leaves : goal.invariant-leaves
-invariant-leaves l = Spell l.alphabet (take l.leaf-index l.leaves) l.letters.items
+invariant-leaves l = Spell l.parts l.alphabet (take l.leaf-index l.leaves) l.letters.items
