@@ -13,11 +13,12 @@ use Rattle.fsa.specs.Automaton.{Automaton}
 use Rattle.fsa.specs.Language.{Accepts, AcceptsFrom, stop, read, skip}
 use Rattle.lookup_graph.specs.Graph.{Connects, IsPath, IsWithin, Writes, end, letters_of, start}
 use Rattle.lookup.specs.declared.explored.Config.{Config}
-use Rattle.lookup.specs.declared.moves.Move.{Move}
-use Rattle.lookup.specs.declared.moves.Way.{Way}
-use Rattle.lookup.specs.declared.moves.Way.TheVariants.{Up, Down}
+use Rattle.lookup_walk.specs.declared.moves.Move.{Move}
+use Rattle.lookup_walk.specs.declared.moves.Way.{Way}
+use Rattle.lookup_walk.specs.declared.moves.Way.TheVariants.{Up, Down}
 use Rattle.fst_relation.specs.Relation.{symbols_on}
-use Rattle.lookup.specs.Moves.{AreMoves, IsRelatedBy, IsWritten, move_of, read_on, written_on}
+use Rattle.lookup_walk.specs.Moves.{AreMoves, IsRelatedBy, IsWritten, move_of, read_on, written_on}
+use Rattle.lookup_walk.proofs.Runs.{related_by}
 use Rattle.lookup.specs.Reached.{Reached, IsNode, IsExplored}
 use Rattle.lookup.specs.Steps.{Reads, Steps}
 
@@ -37,11 +38,6 @@ first_drop (x ∷ word) zero s e = let h : x ≡ s = same_Some x s e in ap (λ y
 first_drop (x ∷ word) (suc i) s e =
     let n : suc i + 1 ≡ suc (i + 1) = omega arith in
     ap (λ k. s ∷ drop k (x ∷ word)) n ∙ first_drop word i s e
-
--- the relation in either way, in the words of what is read and written
-pub related_by : (way : Way) (m : Automaton Pair) (word written : List Sym) → IsRelatedBy way m word written ↔ ((pairs : List Pair) × Accepts m pairs × (symbols_on (read_on way) pairs ≡ word) × (symbols_on (written_on way) pairs ≡ written))
-related_by Up m word written = (λ (pairs, accepted, upper, lower). (pairs, accepted, lower, upper), λ (pairs, accepted, lower, upper). (pairs, accepted, upper, lower))
-related_by Down m word written = (λ r. r, λ r. r)
 
 module _ (way : Way) (m : Automaton Pair) (moves : List Move) (are : AreMoves way m.edges moves) (word : List Sym) (reached : Reached) (explored : IsExplored (Steps moves m.finals word) (length reached.configs) reached) where
   abbrev edges : List (Edge Sym)

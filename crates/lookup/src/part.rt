@@ -2,16 +2,14 @@ ghost use Rattle.std.specs.Prelude.{◌≡◌, ◌<◌, ◌↔◌, List, Some, t
 ghost use Rattle.fsm_base.specs.declared.letters.Sym.{Sym};
 ghost use Rattle.fsa.specs.declared.automaton.Edge.{Edge};
 ghost use Rattle.lookup_graph.specs.Graph.{IsWithin, Writes};
-ghost use Rattle.lookup.specs.Moves.{IsRelatedBy, IsWritten};
+ghost use Rattle.lookup_walk.specs.Moves.{IsRelatedBy, IsWritten};
 ghost use Rattle.lookup.specs.Steps.{Ends, Follows, Steps};
 ghost use Rattle.lookup.specs.Reached.{AddsSteps, IsExplored};
 
 use crate::explored::{Config, Explored};
-use crate::moves::{Move, Spot, Way};
-use crate::net::Net;
-use crate::table::Table;
 use fsa::Edge;
 use fsm_base::Sym;
+use lookup_walk::{Move, Net, Spot, Table, Way, is_final};
 use std::alloc::{AllocError, Global};
 
 /// The part of a network that a word reaches, as a graph whose letters are the symbols that are written.
@@ -110,11 +108,4 @@ fn end(
         explored.add(node, None, None)?;
     }
     Ok(())
-}
-
-/// Whether a state is final.
-fn is_final(finals: &[bool], state: usize) -> bool
-    ensures { IsTrue result ↔ (slice_get finals.now state ≡ Some true) }
-{
-    finals.get(state).copied().unwrap_or(false)
 }
