@@ -1,3 +1,6 @@
 pub mod Language
 pub mod Placing
 pub mod Settling
+pub mod Spreading
+pub mod Partly
+pub mod Lettered

@@ -25,9 +25,16 @@ IsStateSet m set = IsSettled m.edges (length m.finals) set
 abbrev pub IsMove : List (Edge Place) → List ℕ → ℕ → ℕ → Type 0
 IsMove edges set place r = (p : ℕ) × Contains set p × Goes edges p (Some (record { 0 = place })) r
 
+-- some edge has the letter at the place, and leaves a state of the set
+abbrev pub HasMove : List (Edge Place) → List ℕ → ℕ → Type 0
+HasMove edges set place = (r : ℕ) × IsMove edges set place r
+
 -- the letter at the place leads from the set to the other set: by an edge, and then any silent edges
+abbrev pub LeadsBy : List (Edge Place) → List ℕ → ℕ → List ℕ → Type 0
+LeadsBy edges set place to = (q : ℕ) → Contains to q ↔ ((r : ℕ) × IsMove edges set place r × Reaches edges r q)
+
 abbrev pub LeadsTo : Placed → List ℕ → ℕ → List ℕ → Type 0
-LeadsTo m set place to = (q : ℕ) → Contains to q ↔ ((r : ℕ) × IsMove m.edges set place r × Reaches m.edges r q)
+LeadsTo m set place to = LeadsBy m.edges set place to
 
 -- some state of the set is final
 abbrev pub IsFinalSet : Placed → List ℕ → Type 0

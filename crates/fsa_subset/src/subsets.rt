@@ -75,7 +75,7 @@ impl<'a> LazyAutomaton for Subsets<'a> {
 }
 
 /// Whether one of the states is final.
-fn any_final(finals: &[bool], set: &[usize]) -> bool
+pub fn any_final(finals: &[bool], set: &[usize]) -> bool
     requires { All (λ p. p < length finals.now) set.now }
     ensures { IsTrue result ↔ ((p : ℕ) × Contains set.now p × (slice_get finals.now p ≡ Some true)) }
 {
@@ -87,16 +87,28 @@ fn any_final(finals: &[bool], set: &[usize]) -> bool
     false
 }
 
-/// Where the letters lead from a set: for each edge that leaves one of its states by a letter, a silent edge from
-/// the place of the letter.
+/// Where the letters lead from a set, found again by the places of the letters.
 fn moves_of(alloc: Global, rows: &Rows<Place>, set: &[usize]) -> Result<Rows<Place>, AllocError>
     ensures { IfOk result (AreMoves rows.now set.now) }
+{
+    let moves = moves_from(alloc, rows, set)?;
+    Rows::of(alloc, &moves)
+}
+
+/// Where the letters lead from a set: for each edge that leaves one of its states by a letter, a silent edge from
+/// the place of the letter.
+pub fn moves_from(
+    alloc: Global,
+    rows: &Rows<Place>,
+    set: &[usize],
+) -> Result<Vec<Edge<Place>>, AllocError>
+    ensures { IfOk result (λ moves. AreMoves rows.now set.now moves.items) }
 {
     let mut moves = Vec::new(alloc);
     for state in set {
         add_moves(rows.out(*state), &mut moves)?;
     }
-    Rows::of(alloc, &moves)
+    Ok(moves)
 }
 
 /// Adds a silent edge from the place of the letter, for each of the edges that has a letter.
@@ -137,7 +149,7 @@ fn add_sets(
 }
 
 /// The states that the moves enter, and what silent edges reach from them.
-fn target_set(
+pub fn target_set(
     alloc: Global,
     rows: &Rows<Place>,
     moves: &[Edge<Place>],
@@ -155,7 +167,11 @@ fn target_set(
 }
 
 /// The states and what silent edges reach from them, as a sorted list.
-fn settled(alloc: Global, rows: &Rows<Place>, states: &mut Marked) -> Result<Vec<usize>, AllocError>
+pub fn settled(
+    alloc: Global,
+    rows: &Rows<Place>,
+    states: &mut Marked,
+) -> Result<Vec<usize>, AllocError>
     requires { AreWithin rows.now states.old.bound }
     ensures set { IfOk result (λ set. (q : ℕ) → Contains set.items q ↔ IsReached rows.now states.old.found q) }
     ensures settled { IfOk result (λ set. IsSettled rows.now states.old.bound set.items) }
