@@ -10,7 +10,9 @@ use std::marker::Model;
 /// The sets of states that were found, numbered from 0 in that order, and edges between them.
 #[derive(Drop)]
 pub struct Partial {
+    /// The sets, each as the sorted list of its states.
     sets: Table,
+    /// The edges, each with the place of its letter, between the numbers of sets.
     edges: Vec<Edge<Place>>,
 }
 

@@ -30,8 +30,11 @@ const MOST: usize = 4_096;
 /// What a walk goes over.
 #[derive(Clone, Copy)]
 struct Ground<'a> {
+    /// The moves of the network.
     table: &'a Table,
+    /// Whether each state is final.
     finals: &'a [bool],
+    /// The symbols, with their texts.
     alphabet: &'a Alphabet,
 }
 
