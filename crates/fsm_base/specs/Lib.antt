@@ -1,5 +1,6 @@
 pub mod Alphabet
 pub mod Cut
+pub mod Lone
 pub mod Longest
 pub mod Normal
 pub mod Sorted

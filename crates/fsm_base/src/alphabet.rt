@@ -8,7 +8,8 @@ ghost use Rattle.fsm_base.specs.Sorted.{IsByText, entries_of};
 ghost use Rattle.fsm_base.specs.Symbols.{IsTable};
 ghost use Rattle.fsm_base.specs.Tokens.{IsStopped};
 
-use crate::longest::{Entry, longest_place};
+use crate::lone::{lone_places, longest_from};
+use crate::longest::Entry;
 use crate::{Sym, SymbolTable, Text};
 use indexmap::IndexMap;
 use std::alloc::{AllocError, AllocFailed, Global};
@@ -60,18 +61,20 @@ pub struct Alphabet {
     symbols: Vec<Sym>,
     texts: IndexMap<Sym, Text>,
     sorted: Vec<Entry>,
+    lone: Vec<Option<usize>>,
 }
 
 impl Model for Alphabet {
     ghost use Rattle.std.specs.Prelude.{List, ℕ};
     ghost use Rattle.fsm_base.specs.declared.letters.Sym.{Sym};
-    ghost use Rattle.fsm_base.specs.Sorted.{IsKept};
+    ghost use Rattle.fsm_base.specs.Lone.{AreLone};
+    ghost use Rattle.fsm_base.specs.Sorted.{IsKept, texts_in};
 
     ghost Value = { List (Sym × List ℕ) };
 
     ghost view = { λ a. a.texts.entries };
 
-    ghost invariant = { λ a. IsKept a.symbols.items a.texts.entries a.sorted.items };
+    ghost invariant = { λ a. IsKept a.symbols.items a.texts.entries a.sorted.items × AreLone (texts_in a.sorted.items) a.lone.items };
 }
 
 impl Alphabet {
@@ -85,10 +88,12 @@ impl Alphabet {
         let symbols = Vec::from_slice(alloc, syms)?;
         let texts = texts_by_symbol(alloc, table, syms)?;
         let sorted = entries_by_text(alloc, table, syms)?;
+        let lone = lone_places(alloc, &sorted)?;
         Ok(Alphabet {
             symbols,
             texts,
             sorted,
+            lone,
         })
     }
 
@@ -113,7 +118,7 @@ impl Alphabet {
         let mut word = Vec::new(alloc);
         let mut from = 0;
         'symbols: while from < bytes.len() {
-            let Some(place) = longest_place(&self.sorted, &bytes[from..]) else {
+            let Some(place) = longest_from(&self.sorted, &self.lone, &bytes[from..]) else {
                 return Err(TokensError::NoSymbol {
                     at: character_at(&bytes[..from]),
                 });

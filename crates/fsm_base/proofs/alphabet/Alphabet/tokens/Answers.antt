@@ -12,7 +12,7 @@ pub returns-in_default-clause-stopped : goal.returns-in_default-clause-stopped
 returns-in_default-clause-stopped c =
     let alphabet = c.args.self.now in
     let bytes = c.as_bytes-bytes.result.now in
-    let kept = subst (λ (v : List (Sym × List ℕ)). IsKept c.self.inside.symbols.items v c.self.inside.sorted.items) c.self.view_is c.self.invariant in
+    let kept = subst (λ (v : List (Sym × List ℕ)). IsKept c.self.inside.symbols.items v c.self.inside.sorted.items) c.self.view_is c.self.invariant.0 in
     let none = subst (λ (es : List Entry). BeginsWithNone (texts_in es) (drop c.symbols.from bytes)) c.deref.ensures.value
     (subst (λ (v : List ℕ). BeginsWithNone (texts_in c.deref.result.now) v) (rest_is c.symbols.from bytes) c.in_default.ensures) in
     ap (λ (t : List ℕ). cut (texts_of alphabet) t) (sym c.as_bytes-bytes.ensures.value)
@@ -22,7 +22,7 @@ returns-in_default-clause-stopped c =
 pub symbols-smaller : goal.symbols-smaller
 symbols-smaller c =
     let bytes = c.as_bytes-bytes.result.now in
-    let kept = subst (λ (v : List (Sym × List ℕ)). IsKept c.self.inside.symbols.items v c.self.inside.sorted.items) c.self.view_is c.self.invariant in
+    let kept = subst (λ (v : List (Sym × List ℕ)). IsKept c.self.inside.symbols.items v c.self.inside.sorted.items) c.self.view_is c.self.invariant.0 in
     let longest = subst (λ (es : List Entry). IsLongest (texts_in es) (drop c.symbols.from bytes) (text_at es c.in-Some.place)) c.deref.ensures.value
     (subst (λ (v : List ℕ). IsLongest (texts_in c.deref.result.now) v (text_at c.deref.result.now c.in-Some.place)) (rest_is c.symbols.from bytes) c.in-Some.ensures.1) in
     let within = subst (λ (es : List Entry). c.in-Some.place < length es) c.deref.ensures.value c.in-Some.ensures.0 in
@@ -32,7 +32,7 @@ symbols-smaller c =
 pub symbols-preserved : goal.symbols-preserved
 symbols-preserved c =
     let bytes = c.as_bytes-bytes.result.now in
-    let kept = subst (λ (v : List (Sym × List ℕ)). IsKept c.self.inside.symbols.items v c.self.inside.sorted.items) c.self.view_is c.self.invariant in
+    let kept = subst (λ (v : List (Sym × List ℕ)). IsKept c.self.inside.symbols.items v c.self.inside.sorted.items) c.self.view_is c.self.invariant.0 in
     let longest = subst (λ (es : List Entry). IsLongest (texts_in es) (drop c.symbols.from bytes) (text_at es c.in-Some.place)) c.deref.ensures.value
     (subst (λ (v : List ℕ). IsLongest (texts_in c.deref.result.now) v (text_at c.deref.result.now c.in-Some.place)) (rest_is c.symbols.from bytes) c.in-Some.ensures.1) in
     let within = subst (λ (es : List Entry). c.in-Some.place < length es) c.deref.ensures.value c.in-Some.ensures.0 in
