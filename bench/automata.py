@@ -19,8 +19,8 @@ RUNS = [('union', 1_000_000), ('concat', 1_000_000), ('star', 1_000_000), ('reve
 
 
 def main():
-    if not os.path.exists(PROGRAM):
-        subprocess.run(['rt', 'run'], cwd=CRATE, stdout=subprocess.DEVNULL, check=True)
+    # a run builds the program again where a source is newer
+    subprocess.run(['rt', 'run'], cwd=CRATE, stdin=subprocess.DEVNULL, stdout=subprocess.DEVNULL, check=True)
     for operation, edges in RUNS:
         built, _ = timed([PROGRAM, 'chain', str(edges)])
         seconds, memory = timed([PROGRAM, operation, str(edges)])

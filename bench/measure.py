@@ -1,7 +1,45 @@
-"""Times a command and reads its peak memory, for the scripts beside it."""
+"""What the scripts beside it share: the program that they time, a project in a folder, foma's network of an expression, and the
+time and peak memory of a command."""
+import os
+import shutil
 import subprocess
 import sys
 import time
+
+ROOT = os.path.dirname(os.path.dirname(os.path.abspath(__file__)))
+
+
+def program(words):
+    """The program to time: the first of a script's words, if it has one, or else the built one, which `./morph` builds first where it
+    isn't there or a source is newer."""
+    if words:
+        return os.path.abspath(words[0])
+    subprocess.run([os.path.join(ROOT, 'morph'), 'help'], stdout=subprocess.DEVNULL, check=True)
+    return os.path.join(ROOT, 'crates', 'morph', 'out', 'morph')
+
+
+def has_foma():
+    """Whether foma and flookup are installed; says so where they aren't."""
+    found = shutil.which('foma') and shutil.which('flookup')
+    if not found:
+        print('foma and flookup are not installed: nothing to compare with')
+    return bool(found)
+
+
+def write_project(folder, source, symbols=()):
+    """Makes the folder a project with one file of definitions, and these further symbols."""
+    with open(os.path.join(folder, 'project'), 'w') as manifest:
+        manifest.write('xfst r.xfst\n' + ('alphabet %s\n' % ' '.join(symbols) if symbols else ''))
+    with open(os.path.join(folder, 'r.xfst'), 'w') as out:
+        out.write(source)
+
+
+def saved_by_foma(folder, expression):
+    """The file of foma's network of an expression."""
+    network = os.path.join(folder, 'n.foma')
+    script = 'regex %s ;\nsave stack %s\n' % (expression, network)
+    subprocess.run(['foma', '-p'], input=script.encode(), stdout=subprocess.DEVNULL, check=True)
+    return network
 
 
 def peak_of(process):

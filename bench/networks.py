@@ -9,17 +9,11 @@ usage: bench/networks.py [PROGRAM]
 """
 import os
 import random
-import shutil
-import subprocess
 import sys
 import tempfile
 
-from measure import timed
+from measure import has_foma, program, timed, write_project
 
-HERE = os.path.dirname(os.path.abspath(__file__))
-MORPH = os.path.join(HERE, '..', 'morph')
-BUILT = os.path.join(HERE, '..', 'crates', 'morph', 'out', 'morph')
-EXAMPLE = os.path.join(HERE, '..', 'examples', 'cat')
 SIZES = [40, 400]
 SECONDS = 120
 SEED = 1994
@@ -68,33 +62,26 @@ def theirs(folder, word):
         return timed(['foma', '-p'], source, most=SECONDS)
 
 
-def ours(program, folder, word):
+def ours(morph, folder, word):
     """What the program takes to check the project, and to look the word up."""
-    check = timed([program, 'check', folder], most=SECONDS)
+    check = timed([morph, 'check', folder], most=SECONDS)
     words = os.path.join(folder, 'words')
     with open(words, 'w') as out:
         out.write(word + '\n')
     with open(words, 'rb') as source:
-        return check, timed([program, 'up', folder, 'N'], source, most=SECONDS)
+        return check, timed([morph, 'up', folder, 'N'], source, most=SECONDS)
 
 
 def main():
-    program = sys.argv[1] if len(sys.argv) > 1 else BUILT
-    if program == BUILT:
-        subprocess.run([MORPH, 'check', EXAMPLE], stdin=subprocess.DEVNULL, stdout=subprocess.DEVNULL, check=True)
-    foma = shutil.which('foma')
-    if not foma:
-        print('foma is not installed: nothing to compare with')
+    morph = program(sys.argv[1:])
+    foma = has_foma()
     print('%-26s %7s %22s %22s %22s' % ('expression', 'symbols', 'check', 'up', 'foma' if foma else ''))
     with tempfile.TemporaryDirectory() as folder:
         for size in SIZES:
             symbols = ['s%d' % number for number in range(size)]
-            with open(os.path.join(folder, 'project'), 'w') as manifest:
-                manifest.write('xfst r.xfst\nalphabet %s\n' % ' '.join(symbols))
             for name, expression, word in cases(symbols):
-                with open(os.path.join(folder, 'r.xfst'), 'w') as source:
-                    source.write('define N %s ;\n' % expression)
-                check, up = ours(program, folder, word)
+                write_project(folder, 'define N %s ;\n' % expression, symbols)
+                check, up = ours(morph, folder, word)
                 line = '%-26s %7d %22s %22s' % (name, size, shown(check), shown(up))
                 print(line + (' %22s' % shown(theirs(folder, word)) if foma else ''), flush=True)
 

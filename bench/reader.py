@@ -2,16 +2,13 @@
 """Times `check` on files of one megabyte and of half of one, so that growth can be seen: brackets that are never closed, a long choice, many
 definitions, one quoted text, comments, runs with accents. Prints the seconds and the peak memory.
 
-usage: bench/reader.py
+usage: bench/reader.py [PROGRAM]
 """
-import os
-import subprocess
+import sys
 import tempfile
 
-from measure import timed
+from measure import program, timed, write_project
 
-HERE = os.path.dirname(os.path.abspath(__file__))
-PROGRAM = os.path.join(HERE, '..', 'crates', 'morph', 'out', 'morph')
 MEGABYTE = 1_048_576
 
 
@@ -44,16 +41,12 @@ def files(size):
 
 
 def main():
-    if not os.path.exists(PROGRAM):
-        subprocess.run(['rt', 'run'], cwd=os.path.dirname(os.path.dirname(PROGRAM)), stdout=subprocess.DEVNULL, stdin=subprocess.DEVNULL)
+    morph = program(sys.argv[1:])
     with tempfile.TemporaryDirectory() as folder:
-        with open(os.path.join(folder, 'project'), 'wb') as manifest:
-            manifest.write(b'xfst r.xfst\n')
         for size in (MEGABYTE // 2, MEGABYTE):
             for name, data in files(size):
-                with open(os.path.join(folder, 'r.xfst'), 'wb') as source:
-                    source.write(data)
-                seconds, memory = timed([PROGRAM, 'check', folder], statuses=(0, 2))
+                write_project(folder, data.decode())
+                seconds, memory = timed([morph, 'check', folder], statuses=(0, 2))
                 print('%-22s %9d bytes  %5.2f s  %6.1f MiB' % (name, len(data), seconds, memory / 2 ** 20))
 
 

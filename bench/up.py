@@ -1,19 +1,15 @@
 #!/usr/bin/env python3
-"""Looks up a million words by `./morph up` and, where foma's `flookup` is installed, the same words in the
+"""Looks up a million words by `up` and, where foma's `flookup` is installed, the same words in the
 same network by that. Prints the lines per second and the peak memory of each, and the ratio of their times.
 
-usage: bench/up.py [LINES]
+usage: bench/up.py [LINES [PROGRAM]]
 """
 import os
-import shutil
-import subprocess
 import sys
 import tempfile
 
-from measure import timed
+from measure import has_foma, program, saved_by_foma, timed, write_project
 
-HERE = os.path.dirname(os.path.abspath(__file__))
-MORPH = os.path.join(HERE, '..', 'morph')
 EXPRESSION = '{caterpillar} "+N":0'
 WORDS = ['caterpillar', 'cat', 'pillar']
 
@@ -24,29 +20,20 @@ def report(name, lines, seconds, memory):
 
 def main():
     lines = int(sys.argv[1]) if len(sys.argv) > 1 else 1_000_000
-    morph = os.path.abspath(MORPH)
+    morph = program(sys.argv[2:])
     with tempfile.TemporaryDirectory() as folder:
-        with open(os.path.join(folder, 'project'), 'w') as manifest:
-            manifest.write('xfst r.xfst\n')
-        with open(os.path.join(folder, 'r.xfst'), 'w') as source:
-            source.write('define N %s ;\n' % EXPRESSION)
+        write_project(folder, 'define N %s ;\n' % EXPRESSION)
         words = os.path.join(folder, 'words')
         with open(words, 'w') as out:
             out.writelines(WORDS[k % len(WORDS)] + '\n' for k in range(lines))
-        subprocess.run([morph, 'up', folder, 'N'], stdin=subprocess.DEVNULL, check=True)
         with open(words, 'rb') as source:
             ours, memory = timed([morph, 'up', folder, 'N'], source)
         report('morph', lines, ours, memory)
-        if not (shutil.which('foma') and shutil.which('flookup')):
-            print('foma and flookup are not installed: nothing to compare with')
-            return
-        network = os.path.join(folder, 'n.foma')
-        script = 'regex %s ;\nsave stack %s\n' % (EXPRESSION, network)
-        subprocess.run(['foma', '-p'], input=script.encode(), stdout=subprocess.DEVNULL, check=True)
-        with open(words, 'rb') as source:
-            theirs, memory = timed(['flookup', '-b', network], source)
-        report('flookup', lines, theirs, memory)
-        print('morph takes %.2f of the time of flookup' % (ours / theirs))
+        if has_foma():
+            with open(words, 'rb') as source:
+                theirs, memory = timed(['flookup', '-b', saved_by_foma(folder, EXPRESSION)], source)
+            report('flookup', lines, theirs, memory)
+            print('morph takes %.2f of the time of flookup' % (ours / theirs))
 
 
 if __name__ == '__main__':

@@ -1,20 +1,23 @@
-//! Runs an operation on large automata and prints how many states the result has. The words are the
-//! operation and the number of edges of its operand; with others nothing is done. `bench/automata.py` times
-//! it.
+//! Runs operations on chains and prints how many states the results have. The words are the operation and the number of
+//! edges of its operand, as `bench/automata.py` gives them; without words each line of the standard input has these, and
+//! the gate compares what is printed with what was worked out, in the file `stdout`. An empty line, and one that begins
+//! with `#`, says nothing.
 #![tactic(auto)]
 
 ghost use Rattle.std.specs.Prelude.{◌≡◌, ◌<◌, ℕ, Contains, IfOk, Some, length, slice_get};
 ghost use Rattle.fsa.specs.Automaton.{UsesLetter};
 
-use fsa::{Edge, Fsa};
-use fsa_product::{both, complement};
+use fsa::{Dfa, Edge, Fsa};
+use fsa_minimal::minimal;
+use fsa_product::{both, complement, minus};
 use fsa_rational::{concat, reverse, star, union, without_empty};
 use fsa_subset::determine;
 use fsm_base::Sym;
 use fst_algebra::identity;
 use fst_compose::compose;
 use std::alloc::{AllocError, Global};
-use std::{env, io};
+use std::env;
+use std::io::{self, Read};
 
 /// How many letters the automata read.
 const LETTERS: u32 = 50;
@@ -52,6 +55,27 @@ fn chain(alloc: Global, letters: &[Sym], edges: usize) -> Result<Fsa<Sym>, Alloc
     Ok(m)
 }
 
+/// How many states the result of an operation on a complete automaton has, or `None` where there is no such operation.
+fn states_of_complete(
+    alloc: Global,
+    operation: &str,
+    d: &Dfa<Sym>,
+) -> Result<Option<usize>, AllocError> {
+    let states = match operation {
+        "determine" => d.states(),
+        "both" => both(alloc, d, d)?.states(),
+        "complement" => complement(alloc, d)?.states(),
+        "minimal" => minimal(alloc, d)?.states(),
+        "minimal of nothing" => minimal(alloc, &minus(alloc, d, d)?)?.states(),
+        "minimal of all" => {
+            let all = complement(alloc, &minus(alloc, d, d)?)?;
+            minimal(alloc, &all)?.states()
+        }
+        _ => return Ok(None),
+    };
+    Ok(Some(states))
+}
+
 /// How many states the operation's result has, at a chain of so many edges, or `None` where there is no
 /// such operation.
 fn states_after(alloc: Global, operation: &str, edges: usize) -> Result<Option<usize>, AllocError> {
@@ -64,34 +88,42 @@ fn states_after(alloc: Global, operation: &str, edges: usize) -> Result<Option<u
         "star" => star(alloc, &m)?.states(),
         "reverse" => reverse(alloc, &m)?.states(),
         "without_empty" => without_empty(alloc, &star(alloc, &m)?)?.states(),
-        "determine" => determine(alloc, &m, &letters)?.states(),
-        "both" => {
-            let d = determine(alloc, &m, &letters)?;
-            both(alloc, &d, &d)?.states()
-        }
-        "complement" => {
-            let d = determine(alloc, &m, &letters)?;
-            complement(alloc, &d)?.states()
-        }
         "compose" => {
             let relation = identity(alloc, &m)?;
             compose(alloc, &relation, &relation)?.states()
         }
-        _ => return Ok(None),
+        _ => return states_of_complete(alloc, operation, &determine(alloc, &m, &letters)?),
     };
     Ok(Some(states))
 }
 
-fn main(rt: HostRuntime) -> io::Result<()> {
-    let words: Vec<String> = env::args(&rt)?.collect(rt.alloc())?;
-    let [_, operation, edges] = words.as_slice() else {
-        return Ok(());
-    };
-    let Ok(edges) = edges.parse::<usize>() else {
-        return Ok(());
-    };
-    if let Some(states) = states_after(rt.alloc(), operation, edges)? {
-        println!(rt; "{states}")?;
+/// Prints how many states the operation's result has, if there is such an operation.
+fn tell(rt: &HostRuntime, operation: &str, edges: &str) -> io::Result<()> {
+    let edges = edges.parse::<usize>().unwrap_or(0);
+    match states_after(rt.alloc(), operation, edges)? {
+        Some(states) => println!(rt; "{operation} {edges}: {states}"),
+        None => println!(rt; "no such operation: {operation}"),
+    }
+}
+
+/// Tells what the operations of these rows make.
+fn tell_rows(rt: &HostRuntime, rows: &str) -> io::Result<()> {
+    'rows: for row in rows.lines() {
+        if row.is_empty() || row.starts_with('#') {
+            continue;
+        }
+        let (operation, edges) = row.rsplit_once(' ').unwrap_or((row, ""));
+        tell(rt, operation, edges)?;
     }
     Ok(())
+}
+
+fn main(rt: HostRuntime) -> io::Result<()> {
+    let words: Vec<String> = env::args(&rt)?.collect(rt.alloc())?;
+    if let [_, operation, edges] = words.as_slice() {
+        return tell(&rt, operation, edges);
+    }
+    let mut rows = String::new(rt.alloc());
+    rt.stdin().read_to_string(&mut rows)?;
+    tell_rows(&rt, rows.as_str())
 }

@@ -5,7 +5,7 @@ ghost use Rattle.expr_forms.specs.Kinds.{both};
 use regex_ast::Suffix;
 
 /// The most that a definition may weigh.
-const MOST_WEIGHT: usize = 4_000_000;
+pub const MOST_WEIGHT: usize = 4_000_000;
 
 /// What an expression stands for.
 #[derive(Clone, Copy, Debug, PartialEq, Eq)]

@@ -2,3 +2,5 @@ pub mod Inner
 pub mod Itself
 pub mod Languages
 pub mod Operators
+pub mod Rules
+mod Turned

@@ -1,19 +1,21 @@
 -- Laws of the operators, in the words of the subject (Beesley and Karttunen, Finite State Morphology, 2003, chapter 2),
 -- and examples of the definitions at work. A and B are expressions of symbols, over any alphabet.
-use Rattle.std.specs.Prelude.{◌≡◌, ◌↔◌, ◌⊎◌, List, [], ◌∷◌}
+use Rattle.std.specs.Prelude.{◌≡◌, ◌↔◌, ◌⊎◌, Bool, true, false, List, [], ◌∷◌, ◌++◌}
 use Rattle.fsm_base.specs.declared.letters.Bound.{Bound}
 use Rattle.fsm_base.specs.declared.letters.Sym.{Sym}
 use Rattle.fsm_words.specs.Words.{IsOver}
 use Rattle.fsm_words.specs.Relations.{AreSame}
 use Rattle.regex_ast.specs.declared.expr.Atom.{Atom}
 use Rattle.regex_ast.specs.declared.expr.Atom.TheVariants.{Sym as Symbol}
-use Rattle.regex_ast.specs.declared.expr.Suffix.TheVariants.{Inverse}
-use Rattle.regex_ast.specs.declared.expr.Prefix.TheVariants.{Not}
-use Rattle.regex_ast.specs.Terms.{Term, empty, edge, atom, only, steps, suffixed, prefixed, not_one, cross, no_context, between, no_step, then}
+use Rattle.regex_ast.specs.declared.expr.Side.{Side}
+use Rattle.regex_ast.specs.declared.expr.Side.TheVariants.{UpUp, LowUp, UpLow, LowLow}
+use Rattle.regex_ast.specs.declared.expr.Suffix.TheVariants.{Star, Inverse}
+use Rattle.regex_ast.specs.declared.expr.Prefix.TheVariants.{Not, Contains as Part}
+use Rattle.regex_ast.specs.Terms.{Term, Contexts, Groups, empty, edge, atom, only, steps, suffixed, prefixed, not_one, cross, group, concat, rules, no_term, then_term, no_context, between, no_step, cross_with, then, no_mapping, plain, no_group, then_group}
 use Rattle.expr_forms.specs.Atoms.{symbols}
 use Rattle.expr_forms.specs.Kinds.{IsLanguage}
 use Rattle.expr_meaning.specs.Operators.{inner, IsItself}
-use Rattle.expr_meaning.specs.Meaning.{In, InContext, Relates}
+use Rattle.expr_meaning.specs.Meaning.{In, InContext, IsCentre, Relates}
 use Rattle.expr_meaning.specs.Leaves.{stands_for}
 
 -- what an expression is a language of, and what it relates
@@ -77,3 +79,52 @@ abbrev pub OnlyBehind : Type 0
 OnlyBehind =
     (a b : Sym) → (a ≡ b → ⊥)
     → Has (a ∷ b ∷ []) (only (the a) (between (the b) empty no_context)) (inner (b ∷ a ∷ [])) × ¬ Has (a ∷ b ∷ []) (only (the a) (between (the b) empty no_context)) (inner (a ∷ b ∷ []))
+
+-- `~$A`
+abbrev pub without : Term Atom → Term Atom
+without a = prefixed (Not ∷ Part ∷ []) a
+
+-- `[~$A [A .x. B]]* ~$A`
+abbrev pub all_replaced : Term Atom → Term Atom → Term Atom
+all_replaced a b =
+    concat (then_term (suffixed (group (concat (then_term (without a) (then_term (group (steps a (cross_with b no_step))) no_term)))) (Star ∷ [])) (then_term (without a) no_term))
+
+-- `A -> B` relates what `[~$A [A .x. B]]* ~$A` relates, where the empty word isn't in A
+abbrev pub RulesReplaceAll : Type 0
+RulesReplaceAll =
+    (alphabet : List Sym) (a b : Term Atom) (side : Side) → (Has alphabet a [] → ⊥)
+    → AreSame (Pairs alphabet (rules false (then_group (plain a b no_mapping) side no_context no_group))) (Pairs alphabet (all_replaced a b))
+
+-- optional rules relate every word over the alphabet to itself
+abbrev pub OptionalRulesLeaveAll : Type 0
+OptionalRulesLeaveAll = (alphabet : List Sym) (groups : Groups Atom) (w : List Sym) → IsOver alphabet w → Pairs alphabet (rules true groups) w w
+
+-- some mapping of the groups has the centre
+abbrev pub HasCentre : List Sym → Groups Atom → List Sym → Type 0
+HasCentre alphabet no_group centre = ⊥
+HasCentre alphabet (then_group maps side contexts groups) centre = IsCentre stands_for alphabet maps centre ⊎ HasCentre alphabet groups centre
+
+-- rules of which no centre occurs in a word over the alphabet relate it to itself alone
+abbrev pub RulesLeaveOthers : Type 0
+RulesLeaveOthers =
+    (alphabet : List Sym) (optional : Bool) (groups : Groups Atom) (u : List Sym) → IsOver alphabet u
+    → ((x centre y : List Sym) → u ≡ x ++ (centre ++ y) → HasCentre alphabet groups centre → ⊥)
+    → (w : List Sym) → Pairs alphabet (rules optional groups) u w ↔ (u ≡ w)
+
+-- the sides that contexts read, exchanged: `||` and `\/`, `//` and `\\`
+abbrev pub turned : Side → Side
+turned UpUp = LowLow
+turned LowLow = UpUp
+turned LowUp = UpLow
+turned UpLow = LowUp
+
+-- one group, of one mapping
+abbrev pub one_rule : Term Atom → Term Atom → Side → Contexts Atom → Groups Atom
+one_rule a b side contexts = then_group (plain a b no_mapping) side contexts no_group
+
+-- where neither part has the empty word, the inverse of optional rules `A (->) B` in contexts is `B (->) A` in the same contexts, read on the
+-- other sides
+abbrev pub OptionalRulesTurn : Type 0
+OptionalRulesTurn =
+    (alphabet : List Sym) (a b : Term Atom) (side : Side) (contexts : Contexts Atom) → (Has alphabet a [] → ⊥) → (Has alphabet b [] → ⊥)
+    → AreSame (Pairs alphabet (suffixed (rules true (one_rule a b side contexts)) (Inverse ∷ []))) (Pairs alphabet (rules true (one_rule b a (turned side) contexts)))

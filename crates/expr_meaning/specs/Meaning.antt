@@ -12,8 +12,9 @@ use Rattle.fsm_base.specs.declared.letters.Bound.{Bound}
 use Rattle.fsm_words.specs.Words.{IsConcatenation}
 use Rattle.fsm_words.specs.Relations.{IsConcatenationOfPairs, IsComposition}
 use Rattle.fsm_words.specs.Operations.{IsOneLetter, IsIgnoring}
-use Rattle.regex_ast.specs.Terms.{Term, Terms, Links, Contexts, Steps, empty, any, edge, atom, letters, group, maybe, not_one, cross, suffixed, prefixed, ignore, concat, chain, only, rules, steps, no_term, then_term, no_link, or, and, less, no_context, between, no_step, cross_with, then}
+use Rattle.regex_ast.specs.Terms.{Term, Terms, Links, Contexts, Steps, Mappings, Groups, empty, any, edge, atom, letters, group, maybe, not_one, cross, suffixed, prefixed, ignore, concat, chain, only, rules, steps, no_term, then_term, no_link, or, and, less, no_context, between, no_step, cross_with, then, no_mapping, plain, markup, insert, no_group, then_group}
 use Rattle.expr_meaning.specs.Operators.{inner, IsEmpty, IsEdge, WithEdge, IsItself, HoldsLeft, HoldsRight, AreSuffixed, RelateSuffixed, ArePrefixed, IsNotOne, IsRestricted}
+use Rattle.expr_meaning.specs.Replacement.{Piece, IsAround, IsAllowed, IsRewritten}
 
 module _ {A L : Type 0} (leaf : A → List L → List L → Type 0) (alphabet : List L) where
   -- a word of a leaf's language
@@ -70,6 +71,31 @@ module _ {A L : Type 0} (leaf : A → List L → List L → Type 0) (alphabet : 
     InContext no_context before behind = ⊥
     InContext (between l r contexts) before behind = (HoldsLeft (In l) before × HoldsRight (In r) behind) ⊎ InContext contexts before behind
 
+    -- one of the mappings has the centre
+    pub IsCentre : Mappings A → List L → Type 0
+    IsCentre no_mapping centre = ⊥
+    IsCentre (plain c r maps) centre = In c (inner centre) ⊎ IsCentre maps centre
+    IsCentre (markup c b a maps) centre = In c (inner centre) ⊎ IsCentre maps centre
+    IsCentre (insert r maps) centre = (centre ≡ []) ⊎ IsCentre maps centre
+
+    -- one of the mappings replaces the centre by the result
+    pub IsMapped : Mappings A → List L → List L → Type 0
+    IsMapped no_mapping centre result = ⊥
+    IsMapped (plain c r maps) centre result = (In c (inner centre) × In r (inner result)) ⊎ IsMapped maps centre result
+    IsMapped (markup c b a maps) centre result = (In c (inner centre) × IsAround (In b) (In a) centre result) ⊎ IsMapped maps centre result
+    IsMapped (insert r maps) centre result = ((centre ≡ []) × In r (inner result)) ⊎ IsMapped maps centre result
+
+    -- one of the groups replaces the centre by the result between the pieces, by a mapping and where one of its contexts holds
+    pub Replaces : Groups A → List (Piece L) → List L → List L → List (Piece L) → Type 0
+    Replaces no_group before centre result behind = ⊥
+    Replaces (then_group maps side contexts groups) before centre result behind =
+        (IsMapped maps centre result × IsAllowed contexts (InContext contexts) side before behind) ⊎ Replaces groups before centre result behind
+
+    -- one of the groups has the centre, and one of its contexts holds between the pieces
+    pub Applies : Groups A → List (Piece L) → List L → List (Piece L) → Type 0
+    Applies no_group before centre behind = ⊥
+    Applies (then_group maps side contexts groups) before centre behind = (IsCentre maps centre × IsAllowed contexts (InContext contexts) side before behind) ⊎ Applies groups before centre behind
+
     -- a row of `.x.` and `.o.`, from left to right; a composition of languages has the words of both
     pub InSteps : (List (Bound L) → Type 0) → Steps A → List (Bound L) → Type 0
     InSteps P no_step w = P w
@@ -95,8 +121,7 @@ module _ {A L : Type 0} (leaf : A → List L → List L → Type 0) (alphabet : 
     Relates (chain e links) u w = RelatesChain (In e) (Relates e) links u w
     Relates (only e contexts) u w = IsItself (IsRestricted alphabet (In e) (InContext contexts)) u w
     Relates (steps e more) u w = RelatesSteps (In e) (Relates e) more u w
-    -- replacement joins here when it can be compiled
-    Relates (rules optional groups) u w = ⊥
+    Relates (rules optional groups) u w = IsRewritten alphabet (Replaces groups) (Applies groups) optional u w
 
     -- a pair of each relation, one after another
     pub RelatesEach : Terms A → List L → List L → Type 0

@@ -1,4 +1,4 @@
-ghost use Rattle.expr_meaning.specs.Laws.{LanguageRelatesItself, EmptyContextAllowsAll, EdgeIsAtBeginning, EdgeIsAtEnd, NotIsUndone, InverseIsUndone, CompositionIsBoth, CrossesCompose, OtherSymbol, OnlyBehind};
+ghost use Rattle.expr_meaning.specs.Laws.{LanguageRelatesItself, EmptyContextAllowsAll, EdgeIsAtBeginning, EdgeIsAtEnd, NotIsUndone, InverseIsUndone, CompositionIsBoth, CrossesCompose, OtherSymbol, OnlyBehind, RulesReplaceAll, OptionalRulesLeaveAll, RulesLeaveOthers, OptionalRulesTurn};
 
 /// What a language relates is each of its words, to itself.
 pub fn language_relates_itself()
@@ -48,4 +48,25 @@ pub fn other_symbol()
 /// `a => b _` has the word ba, and not ab.
 pub fn only_behind()
     ensures { OnlyBehind }
+{}
+
+/// `A -> B` relates what `[~$A [A .x. B]]* ~$A` relates, where the empty word isn't in A.
+pub fn rules_replace_all()
+    ensures { RulesReplaceAll }
+{}
+
+/// Optional rules relate every word over the alphabet to itself.
+pub fn optional_rules_leave_all()
+    ensures { OptionalRulesLeaveAll }
+{}
+
+/// Rules of which no centre occurs in a word relate it to itself alone.
+pub fn rules_leave_others()
+    ensures { RulesLeaveOthers }
+{}
+
+/// Where neither part has the empty word, the inverse of optional rules `A (->) B` in contexts is `B (->) A` in the same contexts, read on the
+/// other sides: of `||` it is `\/`, of `//` it is `\\`.
+pub fn optional_rules_turn()
+    ensures { OptionalRulesTurn }
 {}

@@ -7,6 +7,7 @@
 //! - [`language_relates_itself`]: what a language relates is each of its words, to itself.
 //! - [`empty_context_allows_all`], [`edge_is_at_beginning`], [`edge_is_at_end`]: laws of contexts.
 //! - [`not_is_undone`], [`inverse_is_undone`], [`composition_is_both`]: laws of operators.
+//! - [`rules_replace_all`], [`optional_rules_leave_all`], [`rules_leave_others`], [`optional_rules_turn`]: laws of replacement.
 //! - [`crosses_compose`], [`other_symbol`], [`only_behind`]: examples worked out.
 #![tactic(auto)]
 
@@ -15,5 +16,6 @@ mod laws;
 pub use laws::{
     composition_is_both, crosses_compose, edge_is_at_beginning, edge_is_at_end,
     empty_context_allows_all, inverse_is_undone, language_relates_itself, not_is_undone,
-    only_behind, other_symbol,
+    only_behind, optional_rules_leave_all, optional_rules_turn, other_symbol, rules_leave_others,
+    rules_replace_all,
 };

@@ -20,7 +20,9 @@ pub struct Edge<L> {
 /// edges, in the order in which they were added, and the list that says of each state whether it is final.
 #[derive(Debug, Drop)]
 pub struct Fsa<L> {
+    /// The edges, in the order in which they were added. Each leaves and enters a state that there is.
     edges: Vec<Edge<L>>,
+    /// Whether each state is final; its length is the number of states.
     finals: Vec<bool>,
 }
 

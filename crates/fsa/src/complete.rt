@@ -16,8 +16,11 @@ use std::marker::Model;
 /// list that says of each state whether it is final.
 #[derive(Debug, Drop)]
 pub struct Dfa<L> {
+    /// The letters, each once, in the order given.
     letters: Vec<L>,
+    /// The next state of each state at each letter: a row for each state, with an entry for each letter.
     next: Vec<usize>,
+    /// Whether each state is final; its length is the number of states, at least one.
     finals: Vec<bool>,
 }
 

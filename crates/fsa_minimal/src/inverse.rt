@@ -1,7 +1,7 @@
 ghost use Rattle.std.specs.Prelude.{◌≡◌, ◌<◌, ℕ, All, IfOk, Some, length, slice_get};
 
-use crate::columns::places_apart;
 use fsa::Dfa;
+use fsa_walk::columns_alike;
 use fsm_base::Letter;
 use std::alloc::{AllocError, Global};
 
@@ -21,7 +21,7 @@ pub fn inverses_of<L: Letter>(alloc: Global, a: &Dfa<L>) -> Result<Vec<Inverse>,
     ensures { IfOk result (λ inverses. All (λ inverse. (length inverse.last.items ≡ length a.now.finals) × (length inverse.before.items ≡ length a.now.finals)) inverses.items) }
 {
     let mut inverses = Vec::new(alloc);
-    for place in &places_apart(alloc, a)? {
+    for place in &columns_alike(alloc, a)?.firsts {
         inverses.push(inverse_at(alloc, a, *place)?)?;
     }
     Ok(inverses)

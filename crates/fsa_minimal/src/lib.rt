@@ -4,7 +4,7 @@
 //!
 //! - [`minimal`]: the same language over the same letters.
 //! - `refining`: splits the states into classes, as long as a letter tells two states of a class apart.
-//!   `partition`: states in classes. `inverse`: which states lead to a state. `columns`: letters that act alike.
+//!   `partition`: states in classes. `inverse`: which states lead to a state.
 //! - `folding`: the automaton with a state for each class that the start reaches.
 //! - `checking`: whether that automaton goes on as the first one does. This test is what the language is proved
 //!   from; of the classes nothing is proved but that they are there for each state.
@@ -16,7 +16,6 @@
 #![tactic(auto)]
 
 mod checking;
-mod columns;
 mod folding;
 mod inverse;
 mod minimization;

@@ -1,12 +1,15 @@
 -- The product of two automata accepts what the operation makes of their languages.
-use Rattle.std.proofs.Common.{◌≡◌, ℕ, ◌↔◌, List, [], ◌∷◌, Bool, Some, length, slice_index, subst, sym}
+use Rattle.std.proofs.Common.{◌≡◌, ℕ, ◌<◌, ◌↔◌, List, [], ◌∷◌, Bool, Some, length, get_or, slice_index, subst, sym, arith, ◌∙◌}
 use Rattle.std.specs.List.{slice_get, Contains}
-use Rattle.fsm_words.proofs.Places.{Contains-from_slice_get}
-use Rattle.fsa.specs.Complete.{Complete, IsComplete, AcceptsFrom, Accepts, stop, read}
+use Rattle.std.proofs.lemmas.Option.{slice_get-get_or}
+use Rattle.fsm_words.proofs.Places.{Contains-from_slice_get, same_at}
+use Rattle.fsa.specs.Complete.{Complete, IsComplete, AcceptsFrom, Accepts, next_state, stop, read}
 use Rattle.fsa.proofs.Paths.{stop_back, read_back}
+use Rattle.fsa_walk.specs.Alike.{AreAlike, AreBothAlike, ByClass, LeadAlike}
 use Rattle.fsa_walk.specs.Explored.{IsExplored}
 use Rattle.fsa_walk.proofs.Built.{IsLanguage, built_language}
-use Rattle.fsa_product.specs.Pairs.{combined, IsPair, LeadsPair, IsFinalPair}
+use Rattle.fsa_walk.proofs.Spreading.{explored_weaker}
+use Rattle.fsa_product.specs.Pairs.{combined, IsPair, LeadsAt, LeadsPair, IsFinalPair}
 use Rattle.fsa_product.specs.declared.products.Operation.{Operation}
 use Rattle.fsa_product.specs.declared.products.Operation.TheVariants.{Intersection, Difference}
 
@@ -44,3 +47,35 @@ module _ {L : Type 0} (o : Operation) (a b : Complete L) (a_ok : IsComplete a) (
       let there : (Accepts (record { letters = a.letters; next = next; finals = finals }) w) ↔ PairWords (0 ∷ 0 ∷ []) w = subst (λ p. (Accepts (record { letters = a.letters; next = next; finals = finals }) w) ↔ PairWords p w) is_start here in
       let with_letters : (Accepts (record { letters = letters; next = next; finals = finals }) w) ↔ PairWords (0 ∷ 0 ∷ []) w = subst (λ ls. (Accepts (record { letters = ls; next = next; finals = finals }) w) ↔ PairWords (0 ∷ 0 ∷ []) w) (sym is_letters) there in
       subst (λ y. Accepts y w ↔ combined o (Accepts a w) (Accepts b w)) (sym is) with_letters
+
+-- letters of one class lead a state to the same next state
+same_class : {L : Type 0} (a : Complete L) (letters : ℕ) (of_places firsts : List ℕ) → AreAlike (LeadAlike a) letters of_places firsts → (j k : ℕ) → j < letters → slice_get of_places j ≡ slice_get of_places k → LeadAlike a j k
+same_class a letters of_places firsts are j k inside same state l =
+    let counted : length of_places ≡ letters = are.count in
+    let there : j < length of_places = omega arith in
+    let class : ℕ = get_or of_places j 0 in
+    let at : slice_get of_places j ≡ Some class = slice_get-get_or of_places j 0 there in
+    let f = are.first j class at in
+    let g = are.first k class (sym same ∙ at) in
+    let is : g.0 ≡ f.0 = same_at firsts class g.0 f.0 g.1 f.1 in
+    f.2 state l ∙ sym (subst (λ n. next_state a state k ≡ next_state a state n) is (g.2 state l))
+
+-- what is built from classes of letters that act alike in both is built from the letters
+pub pairs_by_class : {L : Type 0} (o : Operation) (a b : Complete L) (of_a firsts_a of_b firsts_b of_places firsts : List ℕ) → a.letters ≡ b.letters
+    → AreAlike (LeadAlike a) (length a.letters) of_a firsts_a → AreAlike (LeadAlike b) (length b.letters) of_b firsts_b → AreAlike (AreBothAlike of_a of_b) (length of_a) of_places firsts
+    → (start next : List ℕ) (finals : List Bool) → IsExplored (IsPair a b) (ByClass (LeadsAt a b firsts) of_places) (IsFinalPair o a b) (length of_places) start next finals → IsExplored (IsPair a b) (LeadsPair a b) (IsFinalPair o a b) (length a.letters) start next finals
+pairs_by_class o a b of_a firsts_a of_b firsts_b of_places firsts same are_a are_b are start next finals built =
+    let counted : length of_places ≡ length a.letters = are.count ∙ are_a.count in
+    let by_letters = explored_weaker (IsPair a b) (IsPair a b) (ByClass (LeadsAt a b firsts) of_places) (LeadsPair a b) (IsFinalPair o a b) (length of_places) start next finals
+    (λ pair is. is)
+    (λ pair to place l is by.
+    let class : ℕ = by.0 in
+    let f = are.first place class by.1 in
+    let first_is : f.0 ≡ by.2.0 = same_at firsts class f.0 by.2.0 f.1 by.2.1 in
+    let in_a : place < length a.letters = omega arith in
+    let in_b : place < length b.letters = subst (λ ls. place < length ls) same in_a in
+    let lead_a = same_class a (length a.letters) of_a firsts_a are_a place f.0 in_a f.2.0 (slice_index pair 0) is.first in
+    let lead_b = same_class b (length b.letters) of_b firsts_b are_b place f.0 in_b f.2.1 (slice_index pair 1) is.second in
+    let here : LeadsPair a b pair f.0 to = subst (λ k. LeadsPair a b pair k to) (sym first_is) by.2.2 in
+    (lead_a ∙ here.0, lead_b ∙ here.1)) built in
+    subst (λ n. IsExplored (IsPair a b) (LeadsPair a b) (IsFinalPair o a b) n start next finals) counted by_letters

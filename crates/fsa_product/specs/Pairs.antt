@@ -21,6 +21,10 @@ abbrev pub LeadsPair : {L : Type 0} → Complete L → Complete L → List ℕ �
 LeadsPair a b pair place to =
     (next_state a (slice_index pair 0) place ≡ Some (slice_index to 0)) × (next_state b (slice_index pair 1) place ≡ Some (slice_index to 1))
 
+-- the same at a place of a list of places
+abbrev pub LeadsAt : {L : Type 0} → Complete L → Complete L → List ℕ → List ℕ → ℕ → List ℕ → Type 0
+LeadsAt a b places pair class to = (place : ℕ) × (slice_get places class ≡ Some place) × LeadsPair a b pair place to
+
 -- the pair is final: by both of its states
 abbrev pub IsFinalPair : {L : Type 0} → Operation → Complete L → Complete L → List ℕ → Type 0
 IsFinalPair operation a b pair =

@@ -1,5 +1,4 @@
 pub mod Kept
-pub mod Rows
 pub mod Classing
 pub mod Renumbering
 pub mod MergedFinals

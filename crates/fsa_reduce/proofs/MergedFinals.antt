@@ -1,11 +1,12 @@
 -- The classes that have a final state, state by state.
-use Rattle.std.proofs.Common.{◌≡◌, ℕ, ◌+◌, ◌<◌, ◌≤◌, ◌⊎◌, ◌↔◌, List, Bool, true, false, replicate, Some, length, set, sym, ap, subst, inl, inr, arith, ◌∙◌}
+use Rattle.std.proofs.Common.{◌≡◌, ℕ, ◌+◌, ◌<◌, ◌≤◌, ◌↔◌, List, Bool, true, false, replicate, Some, length, set, sym, ap, subst, inl, inr, arith, ◌∙◌}
 use Rattle.std.specs.List.{slice_get}
-use Rattle.std.proofs.lemmas.Bool.{cases_lt, cases_eq}
+use Rattle.std.proofs.lemmas.Bool.{cases_eq}
 use Rattle.std.proofs.lemmas.List.{length-set, length-replicate}
 use Rattle.std.proofs.lemmas.Option.{slice_get_within}
 use Rattle.fsm_words.proofs.Places.{same_at, slice_get-set_same, slice_get-set_other}
 use Rattle.fsa_rational.proofs.Walks.{unmarked_states}
+use Rattle.fsa_walk.proofs.Grouping.{last_or_before}
 
 -- a state before this one is final and in the class
 abbrev pub HasFinalBefore : List Bool → List ℕ → ℕ → ℕ → Type 0
@@ -24,9 +25,6 @@ module _ (finals : List Bool) (classes : List ℕ) (count : ℕ) where
       λ r. let l = r.1 in absurd (omega arith),
     );
   }
-
-  last_or_before : (i s : ℕ) → s < i + 1 → (s < i) ⊎ (s ≡ i)
-  last_or_before i s l = elim (cases_lt s i) [ inl b ↦ inl b | inr g ↦ inr (omega arith) ]
 
   pub merged_more : (i k : ℕ) (merged : List Bool) → slice_get finals i ≡ Some true → slice_get classes i ≡ Some k → k < count → AreMergedFinals finals classes count i merged → AreMergedFinals finals classes count (i + 1) (set merged k true)
   merged_more i k merged is_final at inside before = record {

@@ -1,4 +1,3 @@
 pub mod Numbering
-pub mod Marks
 pub mod Classes
 pub mod Merging

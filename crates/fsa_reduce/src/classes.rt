@@ -1,11 +1,10 @@
-ghost use Rattle.std.specs.Prelude.{◌≡◌, ◌<◌, ◌-◌, ℕ, Some, IfOk, map, reverse, take, length, slice_get, slice_index};
+ghost use Rattle.std.specs.Prelude.{◌≡◌, ◌<◌, ◌-◌, ℕ, Some, IfOk, OnOk, map, reverse, take, length, slice_get, slice_index};
 ghost use Rattle.fsa_walk.specs.Targets.{AreWithin};
 ghost use Rattle.fsa_reduce.specs.Numbering.{Keeps};
 ghost use Rattle.fsa_reduce.specs.Classes.{AreAlike, AreClasses, renumbered};
 
-use crate::marks::{number_of, row_of};
 use fsa::Edge;
-use fsa_walk::{Rows, Table};
+use fsa_walk::{Rows, Table, signature_of};
 use std::alloc::{AllocError, Global};
 
 /// Classes of states that go on alike.
@@ -50,35 +49,35 @@ fn classes_back(
     requires { AreWithin rows.now (length finals.now) }
     ensures { IfOk result (λ c. AreClasses finals.now rows.now c.of_states.items c.count) }
 {
-    let mut marks = Table::new(alloc);
-    let mut lists = Table::new(alloc);
+    let mut signatures = Table::new(alloc);
     let mut classes = Vec::new(alloc);
-    number_nowhere(alloc, &mut marks, &mut lists)?;
+    number_nowhere(alloc, &mut signatures)?;
     while classes.len() < finals.len() {
         let state = finals.len() - 1 - classes.len();
         let known = known_classes(&classes, ends_first);
-        let row = row_of(
-            alloc,
-            &mut marks,
-            finals[state],
-            rows.out(state),
-            known,
-            finals.len(),
-        )?;
-        classes.push(number_of(alloc, &mut lists, &row)?)?;
+        let signature = signature_of(alloc, finals[state], rows.out(state), known, finals.len())?;
+        classes.push(number_of(alloc, &mut signatures, &signature)?)?;
     }
     Ok(Classes {
         of_states: classes,
-        count: lists.len(),
+        count: signatures.len(),
     })
 }
 
-/// Numbers the row of a state that isn't final and that no edge leaves. Its class is the first one found, and the
-/// last one of the new numbers, so that `without_last` finds it.
-fn number_nowhere(alloc: Global, marks: &mut Table, lists: &mut Table) -> Result<(), AllocError> {
-    let row = row_of(alloc, marks, false, &[], &[], 0)?;
-    number_of(alloc, lists, &row)?;
+/// Numbers the signature of a state that isn't final and that no edge leaves. Its class is the first one found, and
+/// the last one of the new numbers, so that `without_last` finds it.
+fn number_nowhere(alloc: Global, signatures: &mut Table) -> Result<(), AllocError> {
+    let signature = signature_of(alloc, false, &[], &[], 0)?;
+    number_of(alloc, signatures, &signature)?;
     Ok(())
+}
+
+/// The number of a list, which is added where it isn't there.
+fn number_of(alloc: Global, table: &mut Table, list: &[usize]) -> Result<usize, AllocError>
+    ensures number { IfOk result (λ k. slice_get table.new k ≡ Some list.now) }
+    ensures kept { OnOk result (Keeps table.old table.new) }
+{
+    table.number_of(alloc, list)
 }
 
 /// The classes that count, which are all or none.

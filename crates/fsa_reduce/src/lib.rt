@@ -4,14 +4,13 @@
 //!
 //! - [`reduced`]: merges states, takes silent edges away where that is cheap, and merges again.
 //! - `merging`: an automaton with one state for each class of states. `classes`: which states go on alike.
-//!   `marks`: how a state goes on, as a list of numbers. `numbering`: numbers in place of letters.
+//!   `numbering`: numbers in place of letters.
 //! - `cutting`: an automaton without a last state that nothing reaches. `silent`: whether silent edges
 //!   are cheap to take away.
 #![tactic(auto)]
 
 mod classes;
 mod cutting;
-mod marks;
 mod merging;
 mod numbering;
 mod reduction;

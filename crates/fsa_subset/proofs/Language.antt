@@ -38,7 +38,7 @@ module _ {L : Type 0} (m : Automaton L) (letters : List L) (edges : List (Edge P
   first_letter set is x w {p} (skip {q = q} edge rest) e held = first_letter set is x w rest e (is.closed p q held ((placed.silent p q).1 edge))
 
   -- silent edges before a path
-  silent_first : (w : List L) → {p q : ℕ} → Reaches edges p q → AcceptsFrom m q w → AcceptsFrom m p w
+  pub silent_first : (w : List L) → {p q : ℕ} → Reaches edges p q → AcceptsFrom m q w → AcceptsFrom m p w
   silent_first w here h = h
   silent_first w {p} (along {q = q} edge rest) h = skip ((placed.silent p q).0 edge) (silent_first w rest h)
 

@@ -95,13 +95,16 @@ module _ (rows : List (Edge Place)) (set : List ℕ) where
       ]),
     )
 
-  -- the same moves in another order, when each state was looked at
-  pub moves_all : (i : ℕ) (moves sorted : List (Edge Place)) → length set ≤ i → IsPermutation moves sorted → AreMoves rows (take i set) moves → AreMoves rows set sorted
-  moves_all i moves sorted past same m e =
-      let whole : AreMoves rows set moves = subst (λ ps. AreMoves rows ps moves) (take_all i set past) m in (
-        λ h. (whole e).0 (Contains-permutation sorted moves e (IsPermutation-sym moves sorted same) h),
-        λ h. Contains-permutation moves sorted e same ((whole e).1 h),
-      )
+  -- when each state was looked at
+  pub moves_all : (i : ℕ) (moves : List (Edge Place)) → length set ≤ i → AreMoves rows (take i set) moves → AreMoves rows set moves
+  moves_all i moves past = subst (λ ps. AreMoves rows ps moves) (take_all i set past)
+
+  -- the same moves in another order
+  pub moves_sorted : (moves sorted : List (Edge Place)) → IsPermutation moves sorted → AreMoves rows set moves → AreMoves rows set sorted
+  moves_sorted moves sorted same are e = (
+    λ h. (are e).0 (Contains-permutation sorted moves e (IsPermutation-sym moves sorted same) h),
+    λ h. Contains-permutation moves sorted e same ((are e).1 h),
+  )
 
   -- moves enter states that are there
   pub moves_within : (moves : List (Edge Place)) (bound : ℕ) → AreMoves rows set moves → AreWithin rows bound → AreWithin moves bound

@@ -1,2 +1,4 @@
 pub mod Placed
 pub mod Sets
+pub mod Partial
+pub mod Classes

@@ -21,3 +21,12 @@ pub record IsPlaced {L : Type 0} (letters : List L) (edges : List (Edge L)) (pla
   pub only : (p k q : ℕ) → Goes placed p (Some (record { 0 = k })) q → (x : L) × (slice_get letters k ≡ Some x) × Goes edges p (Some x) q
   pub all : (p k q : ℕ) (x : L) → slice_get letters k ≡ Some x → Goes edges p (Some x) q → Goes placed p (Some (record { 0 = k })) q
   pub silent : (p q : ℕ) → Goes placed p None q ↔ Goes edges p None q
+
+-- each letter is found at its place, and no other letter is found
+pub record AreFound {L : Type 0} (letters : List L) (find : L → Option ℕ) : Type 0 where
+  pub all : (x : L) (k : ℕ) → slice_get letters k ≡ Some x → find x ≡ Some k
+  pub only : (x : L) (k : ℕ) → find x ≡ Some k → slice_get letters k ≡ Some x
+
+-- the edge with the letter at the place that it carries
+abbrev pub with_letter : {L : Type 0} → List L → Edge Place → Edge L
+with_letter letters e = record { from = e.from; letter = option_and_then (λ (place : Place). slice_get letters place.0) e.letter; to = e.to }

@@ -3,6 +3,7 @@
 use Rattle.std.specs.Prelude.{◌≡◌, ◌<◌, ◌↔◌, ℕ, List, [], ◌∷◌, Bool, true, Option, Some, None, All, Contains, slice_get, length}
 use Rattle.fsa.specs.declared.automaton.Edge.{Edge}
 use Rattle.fsa_walk.specs.Reaches.{Reaches}
+use Rattle.fsa_walk.specs.Alike.{ByClass}
 use Rattle.fsa_walk.specs.Explored.{IsExplored}
 use Rattle.fsa_subset.specs.Placed.{Goes}
 use Rattle.fsa_subset.specs.declared.places.Place.{Place}
@@ -25,9 +26,16 @@ IsStateSet m set = IsSettled m.edges (length m.finals) set
 abbrev pub IsMove : List (Edge Place) → List ℕ → ℕ → ℕ → Type 0
 IsMove edges set place r = (p : ℕ) × Contains set p × Goes edges p (Some (record { 0 = place })) r
 
+-- some edge has the letter at the place, and leaves a state of the set
+abbrev pub HasMove : List (Edge Place) → List ℕ → ℕ → Type 0
+HasMove edges set place = (r : ℕ) × IsMove edges set place r
+
 -- the letter at the place leads from the set to the other set: by an edge, and then any silent edges
+abbrev pub LeadsBy : List (Edge Place) → List ℕ → ℕ → List ℕ → Type 0
+LeadsBy edges set place to = (q : ℕ) → Contains to q ↔ ((r : ℕ) × IsMove edges set place r × Reaches edges r q)
+
 abbrev pub LeadsTo : Placed → List ℕ → ℕ → List ℕ → Type 0
-LeadsTo m set place to = (q : ℕ) → Contains to q ↔ ((r : ℕ) × IsMove m.edges set place r × Reaches m.edges r q)
+LeadsTo m set place to = LeadsBy m.edges set place to
 
 -- some state of the set is final
 abbrev pub IsFinalSet : Placed → List ℕ → Type 0
@@ -53,3 +61,8 @@ IsTargetSet edges moves place set = (q : ℕ) → Contains set q ↔ ((r : ℕ) 
 abbrev pub IsSubsetBuilt : Placed → List ℕ → List Bool → Type 0
 IsSubsetBuilt m next finals = (start : List ℕ) × ((q : ℕ) → Contains start q ↔ Reaches m.edges 0 q)
     × IsExplored (IsStateSet m) (LeadsTo m) (IsFinalSet m) m.letters start next finals
+
+-- the same from edges that carry classes of letters
+abbrev pub IsBuiltByClass : Placed → List ℕ → List ℕ → List Bool → Type 0
+IsBuiltByClass m of_places next finals = (start : List ℕ) × ((q : ℕ) → Contains start q ↔ Reaches m.edges 0 q)
+    × IsExplored (IsStateSet m) (ByClass (LeadsTo m) of_places) (IsFinalSet m) (length of_places) start next finals

@@ -20,6 +20,24 @@ impl Letter for Place {
     ghost equal_is_same = { Prim.search rules };
 }
 
+/// The edges with the places of their letters.
+pub fn placed_edges<L: Letter>(
+    alloc: Global,
+    edges: &[Edge<L>],
+    letters: &[L],
+) -> Result<Vec<Edge<Place>>, AllocError>
+    requires distinct { IsDistinct letters.now }
+    requires all { (e : Edge L) (x : L) → Contains edges.now e → e.letter ≡ Some x → Contains letters.now x }
+    ensures { IfOk result (λ placed. IsPlaced letters.now edges.now placed.items) }
+{
+    let places = places_of(alloc, letters)?;
+    let mut placed = Vec::new(alloc);
+    for edge in edges {
+        placed.push(at_place(&places, *edge))?;
+    }
+    Ok(placed)
+}
+
 /// The edges with the places of their letters, found again by the state that they leave.
 pub fn placed_rows<L: Letter>(
     alloc: Global,
@@ -30,11 +48,7 @@ pub fn placed_rows<L: Letter>(
     requires all { (e : Edge L) (x : L) → Contains edges.now e → e.letter ≡ Some x → Contains letters.now x }
     ensures { IfOk result (λ rows. IsPlaced letters.now edges.now rows) }
 {
-    let places = places_of(alloc, letters)?;
-    let mut placed = Vec::new(alloc);
-    for edge in edges {
-        placed.push(at_place(&places, *edge))?;
-    }
+    let placed = placed_edges(alloc, edges, letters)?;
     Rows::of(alloc, &placed)
 }
 

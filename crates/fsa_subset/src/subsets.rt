@@ -8,11 +8,15 @@ ghost use Rattle.fsa_walk.specs.Reaches.{Reaches, IsReached};
 ghost use Rattle.fsa_walk.specs.Targets.{IsTarget, AreWithin};
 ghost use Rattle.fsa_walk.specs.Explored.{AddsRow};
 ghost use Rattle.std.specs.List.{flat_map};
-ghost use Rattle.fsa_subset.specs.Sets.{IsStateSet, LeadsTo, IsFinalSet, IsSettled, AreMoves, IsTargetSet, IsSubsetBuilt, from_place};
+ghost use Rattle.fsa_subset.specs.Sets.{IsStateSet, LeadsTo, IsFinalSet, IsSettled, AreMoves, IsTargetSet, IsBuiltByClass, IsSubsetBuilt, from_place};
 
-use crate::places::{Place, placed_rows};
+use crate::classes::{rows_by_class, rows_by_letter};
+use crate::places::{Place, placed_edges};
 use fsa::{Dfa, Edge, Fsa};
-use fsa_walk::{Explored, Found, LazyAutomaton, Marked, Rows, add_targets, close, explore};
+use fsa_walk::{
+    Explored, Found, LazyAutomaton, LetterClasses, Marked, Rows, add_targets, close,
+    explore_by_class, rows_alike,
+};
 use fsm_base::Letter;
 use std::alloc::{AllocError, Global};
 use std::marker::Model;
@@ -75,7 +79,7 @@ impl<'a> LazyAutomaton for Subsets<'a> {
 }
 
 /// Whether one of the states is final.
-fn any_final(finals: &[bool], set: &[usize]) -> bool
+pub fn any_final(finals: &[bool], set: &[usize]) -> bool
     requires { All (λ p. p < length finals.now) set.now }
     ensures { IsTrue result ↔ ((p : ℕ) × Contains set.now p × (slice_get finals.now p ≡ Some true)) }
 {
@@ -87,16 +91,28 @@ fn any_final(finals: &[bool], set: &[usize]) -> bool
     false
 }
 
-/// Where the letters lead from a set: for each edge that leaves one of its states by a letter, a silent edge from
-/// the place of the letter.
+/// Where the letters lead from a set, found again by the places of the letters.
 fn moves_of(alloc: Global, rows: &Rows<Place>, set: &[usize]) -> Result<Rows<Place>, AllocError>
     ensures { IfOk result (AreMoves rows.now set.now) }
+{
+    let moves = moves_from(alloc, rows, set)?;
+    Rows::of(alloc, &moves)
+}
+
+/// Where the letters lead from a set: for each edge that leaves one of its states by a letter, a silent edge from
+/// the place of the letter.
+pub fn moves_from(
+    alloc: Global,
+    rows: &Rows<Place>,
+    set: &[usize],
+) -> Result<Vec<Edge<Place>>, AllocError>
+    ensures { IfOk result (λ moves. AreMoves rows.now set.now moves.items) }
 {
     let mut moves = Vec::new(alloc);
     for state in set {
         add_moves(rows.out(*state), &mut moves)?;
     }
-    Rows::of(alloc, &moves)
+    Ok(moves)
 }
 
 /// Adds a silent edge from the place of the letter, for each of the edges that has a letter.
@@ -137,7 +153,7 @@ fn add_sets(
 }
 
 /// The states that the moves enter, and what silent edges reach from them.
-fn target_set(
+pub fn target_set(
     alloc: Global,
     rows: &Rows<Place>,
     moves: &[Edge<Place>],
@@ -155,7 +171,11 @@ fn target_set(
 }
 
 /// The states and what silent edges reach from them, as a sorted list.
-fn settled(alloc: Global, rows: &Rows<Place>, states: &mut Marked) -> Result<Vec<usize>, AllocError>
+pub fn settled(
+    alloc: Global,
+    rows: &Rows<Place>,
+    states: &mut Marked,
+) -> Result<Vec<usize>, AllocError>
     requires { AreWithin rows.now states.old.bound }
     ensures set { IfOk result (λ set. (q : ℕ) → Contains set.items q ↔ IsReached rows.now states.old.found q) }
     ensures settled { IfOk result (λ set. IsSettled rows.now states.old.bound set.items) }
@@ -167,16 +187,35 @@ fn settled(alloc: Global, rows: &Rows<Place>, states: &mut Marked) -> Result<Vec
     Ok(set)
 }
 
-/// Builds the deterministic automaton of an automaton whose edges have places of letters.
+/// Builds the deterministic automaton of an automaton whose edges have places of letters. What a set leads to is
+/// worked out once for all letters that the same edges carry.
 fn built_sets(
     alloc: Global,
-    rows: Rows<Place>,
+    edges: &[Edge<Place>],
     finals: &[bool],
     letters: usize,
 ) -> Result<Explored, AllocError>
     requires start { 0 < length finals.now }
+    requires edges { AreWithin edges.now (length finals.now) }
+    ensures { IfOk result (λ built. IsSubsetBuilt (record { edges = edges.now; finals = finals.now; letters = letters }) built.next.items built.finals.items) }
+{
+    let by_letter = rows_by_letter(alloc, edges)?;
+    let classes = rows_alike(alloc, &by_letter, letters)?;
+    let rows = rows_by_class(alloc, edges, &by_letter, &classes.firsts)?;
+    built_by_class(alloc, rows, finals, &classes)
+}
+
+/// Builds the deterministic automaton of an automaton whose edges have classes of letters.
+fn built_by_class(
+    alloc: Global,
+    rows: Rows<Place>,
+    finals: &[bool],
+    classes: &LetterClasses,
+) -> Result<Explored, AllocError>
+    requires start { 0 < length finals.now }
     requires edges { AreWithin rows (length finals.now) }
-    ensures { IfOk result (λ built. IsSubsetBuilt (record { edges = rows; finals = finals.now; letters = letters }) built.next.items built.finals.items) }
+    requires within { All (λ class. class < length classes.now.firsts.items) classes.now.of_places.items }
+    ensures { IfOk result (λ built. IsBuiltByClass (record { edges = rows; finals = finals.now; letters = length classes.now.firsts.items }) classes.now.of_places.items built.next.items built.finals.items) }
 {
     let mut states = Marked::new(alloc, finals.len())?;
     states.add(0)?;
@@ -184,24 +223,24 @@ fn built_sets(
     let mut sets = Subsets {
         rows,
         finals,
-        letters,
+        letters: classes.firsts.len(),
         reached: states,
     };
-    explore(alloc, &mut sets, &start)
+    explore_by_class(alloc, &mut sets, &start, classes)
 }
 
 /// The complete deterministic automaton with the same language, over exactly these letters and in their order
 /// (the subset construction: Hopcroft, Motwani and Ullman, Introduction to Automata Theory, section 2.5.5). It has
-/// the sets of states that the start reaches: they are found again by a hash, and the edges that leave a set are
-/// looked at once.
+/// the sets of states that the start reaches: they are found again by a hash, the edges that leave a set are looked
+/// at once, and what it leads to is worked out once for all letters that the same edges carry.
 pub fn determine<L: Letter>(alloc: Global, a: &Fsa<L>, letters: &[L]) -> Result<Dfa<L>, AllocError>
     requires distinct { IsDistinct letters.now }
     requires all { (x : L) → UsesLetter a.now x → Contains letters.now x }
     ensures letters { IfOk result (λ d. d.letters ≡ letters.now) }
     ensures language { IfOk result (λ d. (w : List L) → complete.Accepts d w ↔ language.Accepts a.now w) }
 {
-    let rows = placed_rows(alloc, a.edges(), letters)?;
-    let built = built_sets(alloc, rows, a.finals(), letters.len())?;
+    let edges = placed_edges(alloc, a.edges(), letters)?;
+    let built = built_sets(alloc, &edges, a.finals(), letters.len())?;
     let letters = Vec::from_slice(alloc, letters)?;
     Ok(Dfa::of(letters, built.next, built.finals))
 }

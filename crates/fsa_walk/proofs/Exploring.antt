@@ -12,7 +12,7 @@ use Rattle.fsm_words.proofs.Places.{slice_get-append_left, slice_get-append_case
 use Rattle.fsa_walk.specs.Explored.{Numbered, AddsTarget, AddsRow, IsExplored, StartsAt}
 
 -- what stood at a place before more was added stands there
-kept_at : {X : Type 0} (xs ys more : List X) → ys ≡ xs ++ more → (k : ℕ) (x : X) → slice_get xs k ≡ Some x → slice_get ys k ≡ Some x
+pub kept_at : {X : Type 0} (xs ys more : List X) → ys ≡ xs ++ more → (k : ℕ) (x : X) → slice_get xs k ≡ Some x → slice_get ys k ≡ Some x
 kept_at xs ys more is k x at =
     ap (λ zs. slice_get zs k) is ∙ slice_get-append_left xs more k (slice_get_within xs k x at) ∙ at
 

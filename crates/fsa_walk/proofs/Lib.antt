@@ -7,3 +7,7 @@ pub mod Numbered
 pub mod Exploring
 pub mod Built
 pub mod SilentEdges
+pub mod Signed
+pub mod SameMarks
+pub mod Grouping
+pub mod Spreading

@@ -4,3 +4,5 @@ pub mod Marking
 pub mod Targets
 pub mod Explored
 pub mod Silent
+pub mod Signatures
+pub mod Alike

@@ -42,7 +42,9 @@ pub trait LazyAutomaton {
 /// each list that was looked at.
 #[derive(Debug, Drop)]
 pub struct Found {
+    /// The lists, each once.
     lists: Table,
+    /// The numbers that the letters lead to, a row for each list that was looked at.
     next: Vec<usize>,
 }
 
@@ -55,6 +57,16 @@ impl Model for Found {
 }
 
 impl Found {
+    /// No list.
+    pub fn none(alloc: Global) -> Found
+        ensures { result ≡ record { lists = []; next = [] } }
+    {
+        Found {
+            lists: Table::new(alloc),
+            next: Vec::new(alloc),
+        }
+    }
+
     /// The start alone, which has the number 0.
     pub fn start(alloc: Global, start: &[usize]) -> Result<Found, AllocError>
         ensures { IfOk result (λ found. StartsAt start.now found) }
@@ -93,6 +105,13 @@ impl Found {
         let number = number_again(&mut self.lists, alloc, self.next.last().copied(), list)?;
         self.next.push(number)?;
         Ok(())
+    }
+
+    /// The numbers that the letters lead to.
+    pub fn into_numbers(self) -> Vec<usize>
+        ensures { result.items ≡ self.next }
+    {
+        self.next
     }
 }
 

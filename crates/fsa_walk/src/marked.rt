@@ -10,7 +10,9 @@ use std::marker::Model;
 /// it holds.
 #[derive(Debug, Drop)]
 pub struct Marked {
+    /// Whether each number is in the set; its length is the bound.
     marks: Vec<bool>,
+    /// The numbers of the set, each once, in the order in which they were found.
     found: Vec<usize>,
 }
 

@@ -8,6 +8,7 @@ use std::marker::Model;
 /// the list of the lists.
 #[derive(Debug, Drop)]
 pub struct Table {
+    /// The lists, each once. The place of a list is its number.
     lists: IndexSet<Vec<usize>>,
 }
 

@@ -57,8 +57,11 @@ impl<T: Drop> From<AllocFailed<T>> for TokensError {
 /// which they were given.
 #[derive(Drop)]
 pub struct Alphabet {
+    /// The symbols, each once, in the order in which they were given.
     symbols: Vec<Sym>,
+    /// The text of each symbol; none is empty and no two are the same.
     texts: IndexMap<Sym, Text>,
+    /// The symbols with their texts, sorted by the bytes of these, for the cut.
     sorted: Vec<Entry>,
 }
 

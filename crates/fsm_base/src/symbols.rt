@@ -14,6 +14,7 @@ use std::marker::Model;
 /// symbol `n` stands at place `n`.
 #[derive(Drop)]
 pub struct SymbolTable {
+    /// The texts, each once. The place of a text is its number.
     texts: IndexSet<String>,
 }
 

@@ -15,6 +15,7 @@ use std::marker::Model;
 /// A text, ordered by its bytes. Contracts see it as the list of its bytes in UTF-8.
 #[derive(Debug, Drop)]
 pub struct Text {
+    /// The text.
     inner: String,
 }
 

@@ -6,7 +6,9 @@ use std::marker::Model;
 /// Bytes up to a fixed number. It takes its memory when it is made, and none later.
 #[derive(Drop)]
 pub struct Buffer {
+    /// The bytes that it holds, no more than its room.
     bytes: Vec<u8>,
+    /// How many it has memory for.
     room: usize,
 }
 

@@ -14,8 +14,11 @@ const CHUNK: usize = 4096;
 /// A folder of the file system, which tells nothing of what it holds.
 #[derive(Drop)]
 pub struct DirFolder<'a, R> {
+    /// What opens files.
     rt: &'a R,
+    /// The path of the folder.
     dir: Text,
+    /// How many reads failed, as far as 64 bits count.
     faults: u64,
 }
 

@@ -16,8 +16,11 @@ const READ: usize = 64 * 1024;
 /// the list of those that are left.
 #[derive(Drop)]
 pub struct Held {
+    /// Memory for one read, and what the last one gave.
     bytes: Vec<u8>,
+    /// Where the bytes that are left begin, no further than `end`.
     start: usize,
+    /// Where they end, within `bytes`.
     end: usize,
 }
 

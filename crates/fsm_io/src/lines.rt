@@ -16,7 +16,7 @@ use std::marker::Model;
 const LONGEST: usize = 4096;
 
 /// How many bytes of a line are kept: enough to see that it is long.
-const KEPT: usize = 4097;
+const KEPT: usize = LONGEST + 1;
 
 /// What comes next in a source of lines.
 #[derive(Clone, Copy, Debug, PartialEq, Eq)]
@@ -68,11 +68,15 @@ impl Step {
 /// however long it is.
 #[derive(Drop)]
 pub struct Lines {
+    /// What was read and not yet used.
     held: Held,
+    /// What is kept of a line.
     line: Buffer,
+    /// How many bytes may still be read.
     budget: u64,
     /// Whether `line` is a line that was told. If not, the next event goes on with it.
     told: bool,
+    /// Whether the source has ended; then nothing is held and no line is begun.
     ended: bool,
 }
 

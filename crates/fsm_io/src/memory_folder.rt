@@ -38,10 +38,15 @@ fn note(requests: &mut Vec<Request>, request: Request) -> Result<(), AllocError>
 /// A folder in memory, which fails at listed calls and keeps what it was asked for.
 #[derive(Drop)]
 pub struct MemoryFolder {
+    /// Names and contents. Of two files of one name the first counts.
     files: Vec<(Text, Vec<u8>)>,
+    /// What it was asked for, in order.
     requests: Vec<Request>,
+    /// The calls that fail, counted from 1.
     failing: Vec<u64>,
+    /// How many calls there were.
     calls: u64,
+    /// How many of them failed.
     faults: u64,
 }
 

@@ -12,10 +12,15 @@ use std::marker::Model;
 /// A sink in memory, which takes bytes in pieces, fails at listed calls and where its room is used up.
 #[derive(Drop)]
 pub struct MemorySink {
+    /// What it took, and its room.
     written: Buffer,
+    /// How many bytes it takes at once, at least one.
     piece: usize,
+    /// The calls that fail, counted from 1.
     failing: Vec<u64>,
+    /// How many calls there were.
     calls: u64,
+    /// How many of them failed.
     faults: u64,
 }
 

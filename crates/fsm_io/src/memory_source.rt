@@ -9,12 +9,17 @@ use std::marker::Model;
 /// A source in memory, which gives its bytes in pieces and fails at listed calls.
 #[derive(Drop)]
 pub struct MemorySource {
+    /// All its bytes.
     bytes: Vec<u8>,
     /// How many of the bytes were given.
     given: usize,
+    /// How many it gives at once, at least one.
     piece: usize,
+    /// The calls that fail, counted from 1.
     failing: Vec<u64>,
+    /// How many calls there were.
     calls: u64,
+    /// How many of them failed.
     faults: u64,
 }
 

@@ -12,6 +12,7 @@ use std::marker::Model;
 /// not yet written.
 #[derive(Drop)]
 pub struct Outbox {
+    /// What is gathered and not yet written.
     gathered: Buffer,
 }
 

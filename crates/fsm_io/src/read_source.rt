@@ -10,7 +10,9 @@ use std::io::Read;
 /// A source over a reader of std. It tells what the reader tells: nothing, of a file.
 #[derive(Drop)]
 pub struct ReadSource<T> {
+    /// The reader; without one each read fails.
     inner: Option<T>,
+    /// How many reads failed, as far as 64 bits count.
     faults: u64,
 }
 

@@ -11,7 +11,9 @@ use std::io::Write;
 /// A sink over a writer of std. It tells what the writer tells: nothing, of a file.
 #[derive(Drop)]
 pub struct WriteSink<T> {
+    /// The writer; without one each write fails.
     inner: Option<T>,
+    /// How many writes failed, as far as 64 bits count.
     faults: u64,
 }
 

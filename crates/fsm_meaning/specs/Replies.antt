@@ -8,8 +8,8 @@ use Rattle.fsm_base.specs.Cut.{cut}
 use Rattle.fsm_words.specs.Answers.{Texts, Found, strings, more, loop, Answers}
 use Rattle.project_meaning.specs.Projects.{Project, Defines}
 use Rattle.project_meaning.specs.Meaning.{Meaning}
-use Rattle.fsm_meaning.specs.declared.direction.Direction.{Direction}
-use Rattle.fsm_meaning.specs.declared.direction.Direction.TheVariants.{Up, Down}
+use Rattle.lookup_answers.specs.declared.direction.Direction.{Direction}
+use Rattle.lookup_answers.specs.declared.direction.Direction.TheVariants.{Up, Down}
 
 -- the bytes with a newline
 abbrev pub line_of : List ℕ → List ℕ

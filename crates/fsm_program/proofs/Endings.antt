@@ -1,7 +1,6 @@
 -- How a run ends, by what it did, and what follows of its status.
-use Rattle.std.proofs.Common.{◌≡◌, ◌≢◌, ◌⊎◌, ℕ, List, [], Option, Some, None, Ok, Err, Result, length, refl, sym, ap, subst, ◌∙◌, inl, inr, arith}
+use Rattle.std.proofs.Common.{◌≡◌, ◌≢◌, ◌⊎◌, ℕ, List, Option, Some, None, Ok, Err, Result, length, refl, sym, ap, subst, ◌∙◌, inl, inr, arith}
 use Rattle.std.specs.Io.KnownBytes.{Consumes}
-use Rattle.fsm_io.specs.Causes.{Rose}
 use Rattle.fsm_io.specs.Folders.{Files, Told, IsTold}
 use Rattle.fsm_io.specs.Reading.{LinesView, at_start}
 use Rattle.regex_ast.specs.declared.fault.Fault.{Fault}
@@ -9,16 +8,17 @@ use Rattle.fsm_meaning.specs.declared.ending.Ending.{Ending}
 use Rattle.fsm_meaning.specs.declared.ending.Ending.TheVariants.{Finished, WriteFailed, ReadFailed, Spent}
 use Rattle.project_meaning.specs.Projects.{Project}
 use Rattle.fsm_meaning.specs.Replies.{Replies}
-use Rattle.project_model.specs.Reads.{FilesSay}
-use Rattle.project_model.specs.Written.{Planned, project_in}
+use Rattle.project_sources.specs.Sources.{Said, project_in}
+use Rattle.project_sources.specs.Faults.{rows_so_far}
+use Rattle.project_sources.specs.Laws.{unbuilt as no_readers}
+use Rattle.project_sources.proofs.Once.{one_answer, unbuilt_exact}
 use Rattle.fsm_program.specs.Loaded.{AreNames, IsLoadedFrom, LoadedView}
 use Rattle.reply_text.specs.Projects.{accepted_line, refused_line}
 use Rattle.fsm_program.specs.Ends.{Ends, Asked, for_check, for_look, for_help, Loads, Query, no_words, helped, refused, folder_failed, no_memory, checked, answered, IsAnswered, IsNotLoaded, IsWhyUnread, usage_text, status_of}
-use Rattle.fsm_program.specs.Outside.{Outside, outside, ReadNothing, WroteNothing, Wrote, FolderFailed, InputFailed, OutputFailed, IsSaid}
+use Rattle.fsm_program.specs.Outside.{Outside, ReadNothing, WroteNothing, Wrote, FolderFailed, IsSaid}
 use Rattle.fsm_program.specs.Files.{Reads, IsLoaded, IsLoadError, most_read}
+use Rattle.project_sources.specs.Limits.{most_bytes}
 use Rattle.fsm_program.specs.Running.{most_taken}
-use Rattle.fsm_program.proofs.Loading.{told_so}
-use Rattle.fsm_program.proofs.Reading.{one_reading}
 use Rattle.fsm_program.specs.declared.load.LoadError.{LoadError}
 use Rattle.fsm_program.specs.declared.words.WordsError.{WordsError}
 use Rattle.fsm_program.specs.declared.words.WordsError.TheVariants as unread
@@ -26,7 +26,7 @@ use Rattle.fsm_program.specs.declared.words.WordsError.TheVariants.{Usage}
 use Rattle.fsm_program.specs.declared.load.LoadError.TheVariants.{Failed, Memory, Refused}
 
 pub most_read_is : 1048577 ≡ most_read
-unfolding most_read
+unfolding most_read most_bytes
 most_read_is = refl
 
 pub most_taken_is : 1099511627776 ≡ most_taken
@@ -54,28 +54,24 @@ ends_unread version asked Usage before after status why unread said none = no_wo
 ends_unread version asked (unread.Memory memory) before after status (query, is) nothing said none =
     let other = none (λ (e : unread.Memory memory ≡ Usage). cc) in no_memory (for_look query) is tt nothing other.1 other.0
 
--- what the loaded project is, the files are
-told_reads : (planned : Planned) (files : Option Files) → Told files (λ fs. FilesSay fs [] (Ok planned)) → Told files (λ fs. Reads fs (Ok (project_in planned)))
-told_reads planned files told = told_so (λ fs. FilesSay fs [] (Ok planned)) (λ fs. Reads fs (Ok (project_in planned))) files (λ fs said. (planned, said, refl)) told
-
 -- the names of a project were written, or there was no memory for them
 pub ends_checked : (version : ℕ) (before after : Outside) (status : ℕ) (loaded : LoadedView) → IsLoaded loaded before.files → ReadNothing before after → (status ≡ 5 → WroteNothing before after)
-    → ((planned : Planned) → IsLoadedFrom planned loaded → ((names : List (List ℕ)) × AreNames (project_in planned) names × Wrote before after (accepted_line version names) 0 status) ⊎ (status ≡ 5)) → Ends version (Some for_check) before after status
-ends_checked version before after status loaded (planned, from, told) unread unwritten said =
-    elim (said planned from) as (λ _. Ends version (Some for_check) before after status) [
-      | inl (names, are, line) ↦ checked (project_in planned) names refl (told_reads planned before.files told) are unread line
+    → ((said : Said) → IsLoadedFrom said loaded → ((names : List (List ℕ)) × AreNames (project_in said) names × Wrote before after (accepted_line version names) 0 status) ⊎ (status ≡ 5)) → Ends version (Some for_check) before after status
+ends_checked version before after status loaded (said, from, told) unread unwritten written =
+    elim (written said from) as (λ _. Ends version (Some for_check) before after status) [
+      | inl (names, are, line) ↦ checked (project_in said) names refl told are unread line
       | inr is ↦ no_memory for_check refl tt unread (unwritten is) is
     ]
 
 pub ends_answered : (version : ℕ) (query : Query) (before after : Outside) (status : ℕ) (loaded : LoadedView) (name : List ℕ) → IsLoaded loaded before.files → name ≡ query.net
-    → ((planned : Planned) → IsLoadedFrom planned loaded → IsAnswered (Replies (project_in planned) query.direction version name) before after status) → Ends version (Some (for_look query)) before after status
-ends_answered version query before after status loaded name (planned, from, told) is answers =
-    answered query (project_in planned) refl (told_reads planned before.files told) (subst (λ (n : List ℕ). IsAnswered (Replies (project_in planned) query.direction version n) before after status) is (answers planned from))
+    → ((said : Said) → IsLoadedFrom said loaded → IsAnswered (Replies (project_in said) query.direction version name) before after status) → Ends version (Some (for_look query)) before after status
+ends_answered version query before after status loaded name (said, from, told) is answers =
+    answered query (project_in said) refl told (subst (λ (n : List ℕ). IsAnswered (Replies (project_in said) query.direction version n) before after status) is (answers said from))
 
 -- files say one thing
 one_told : (files : Option Files) (r q : Result Project Fault) → IsTold files (λ fs. Reads fs r) → Told files (λ fs. Reads fs q) → r ≡ q
 one_told None r q told other = absurd told
-one_told (Some fs) r q told other = one_reading fs r q told other
+one_told (Some fs) r q told other = one_answer no_readers unbuilt_exact fs rows_so_far r q told other
 
 same_fault : (a b : Fault) → ◌≡◌ {A = Result Project Fault} (Err a) (Err b) → a ≡ b
 same_fault a b e = cc

@@ -8,8 +8,8 @@ use Rattle.fsm_base.specs.declared.letters.Sym.{Sym}
 use Rattle.fsm_base.specs.Alphabet.{IsAlphabet, symbols_of, texts_of, text_of, spelled}
 use Rattle.fsm_base.specs.Cut.{cut}
 use Rattle.fsm_words.specs.Answers.{Answers, Found, strings, more, loop, times}
-use Rattle.fsm_meaning.specs.declared.direction.Direction.{Direction}
-use Rattle.fsm_meaning.specs.declared.direction.Direction.TheVariants.{Up, Down}
+use Rattle.lookup_answers.specs.declared.direction.Direction.{Direction}
+use Rattle.lookup_answers.specs.declared.direction.Direction.TheVariants.{Up, Down}
 use Rattle.fsa.specs.Automaton.{Automaton}
 use Rattle.fsm_base.specs.declared.letters.Pair.{Pair}
 use Rattle.project_meaning.specs.Projects.{Project}

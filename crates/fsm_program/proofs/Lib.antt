@@ -2,13 +2,10 @@ pub mod Endings
 pub mod LastByte
 pub mod Lawful
 pub mod Loading
-pub mod Manifests
 pub mod Named
 pub mod Ordered
-pub mod Reading
 pub mod Runs
 pub mod Sending
 pub mod Shown
 pub mod Spelled
-pub mod Together
 pub mod Unread

@@ -1,5 +1,5 @@
--- The names of a project that is loaded, and why it is the planned one.
-use Rattle.std.proofs.Common.{◌≡◌, ◌+◌, ◌<◌, ◌≤◌, ◌++◌, ℕ, List, [], ◌∷◌, length, take, get_or, map, All, Result, sym, ap, subst, ◌∙◌, Contains}
+-- The names of a project that is loaded, and why it is the one that was said.
+use Rattle.std.proofs.Common.{◌≡◌, ◌+◌, ◌<◌, ◌≤◌, ◌++◌, ℕ, List, [], ◌∷◌, length, take, get_or, map, All, sym, ap, subst, ◌∙◌, Contains}
 use Rattle.std.proofs.lemmas.List.{take_all, take_more}
 use Rattle.std.proofs.lemmas.List.Elements.{All-append, All-cons, All-contains, All-nil}
 use Rattle.std.proofs.lemmas.List.Sorted.{Contains-permutation, IsPermutation-sym}
@@ -10,62 +10,57 @@ use Rattle.fsm_base.specs.Alphabet.{IsAlphabet, listed, symbols_of, texts_of}
 use Rattle.fsm_base.specs.declared.letters.Sym.{Sym}
 use Rattle.fsm_words.specs.Words.{IsDistinct}
 use Rattle.fsm_words.proofs.Members.{Contains-map, Contains-map_cases}
-use Rattle.regex_ast.specs.declared.fault.Fault.{Fault}
-use Rattle.project_meaning.specs.Projects.{Definition as Meant, Defines}
-use Rattle.project_model.specs.Planned.{IsPlanWith, entry_of, numbers_in, resolved}
+use Rattle.project_meaning.specs.Projects.{Definition as Meant, Defines, Written, definition_in, names_of}
+use Rattle.project_sources.specs.Sources.{Said, project_in}
+use Rattle.project_model.specs.Numbered.{numbers_in}
 use Rattle.project_model.specs.Plans.{IsPlan, IsSoundOver, PlanView}
-use Rattle.project_model.specs.Raws.{Definition as Stated}
-use Rattle.project_model.specs.Written.{Planned, definitions_in, meant_in, names_in, project_in}
+use Rattle.project_model.specs.Stands.{Stands, entry_in, entry_of}
 use Rattle.project_model.specs.declared.definition.Definition.{Definition}
-use Rattle.fsm_program.specs.Loaded.{AreNames, IsLoadedFrom, IsPlannedAs, LoadedView}
+use Rattle.fsm_program.specs.Loaded.{AreNames, IsLoadedFrom, LoadedView}
 use Rattle.fsm_program.proofs.Ordered.{in_order_from_sorted}
 use Rattle.fsm_program.proofs.Shown.{names_differ}
 use Rattle.project_model.proofs.Alphabets.{symbols_of-listed}
 use Rattle.fsm_program.proofs.Spelled.{whole, whole_texts, with_different}
 
--- the names that are planned are those that the project defines
-defined_there : (planned : Planned) (name : List ℕ) → Defines (project_in planned) name → Contains (names_in planned) name
-defined_there planned name (e, among, named) =
-    let (d, there, is) = Contains-map_cases (meant_in (names_in planned)) (definitions_in planned) e among in
-    subst (Contains (names_in planned)) (ap (λ (x : Meant). x.name) is ∙ named) (Contains-map (λ (x : Stated). x.name) (definitions_in planned) d there)
+-- the names that are written are those that the project defines
+defined_there : (said : Said) (name : List ℕ) → Defines (project_in said) name → Contains (names_of said.written) name
+defined_there said name (e, among, named) =
+    let (w, there, is) = Contains-map_cases (definition_in (names_of said.written)) said.written e among in
+    subst (Contains (names_of said.written)) (ap (λ (x : Meant). x.name) is ∙ named) (Contains-map (λ (x : Written). x.name) said.written w there)
 
-defined_back : (planned : Planned) (name : List ℕ) → Contains (names_in planned) name → Defines (project_in planned) name
-defined_back planned name among =
-    let (d, there, is) = Contains-map_cases (λ (x : Stated). x.name) (definitions_in planned) name among in
-    (meant_in (names_in planned) d, Contains-map (meant_in (names_in planned)) (definitions_in planned) d there, is)
+defined_back : (said : Said) (name : List ℕ) → Contains (names_of said.written) name → Defines (project_in said) name
+defined_back said name among =
+    let (w, there, is) = Contains-map_cases (λ (x : Written). x.name) said.written name among in
+    (definition_in (names_of said.written) w, Contains-map (definition_in (names_of said.written)) said.written w there, is)
 
 -- names, sorted
-pub names_are : (planned : Planned) (loaded : LoadedView) → IsLoadedFrom planned loaded → (found sorted : List (List ℕ)) → found ≡ names_in planned → IsPermutation found sorted → IsSorted (slice_cmp nat_cmp) sorted → AreNames (project_in planned) sorted
-names_are planned loaded from found sorted found_is moved up = record {
+pub names_are : (said : Said) (loaded : LoadedView) → IsLoadedFrom said loaded → (found sorted : List (List ℕ)) → found ≡ names_of said.written → IsPermutation found sorted → IsSorted (slice_cmp nat_cmp) sorted → AreNames (project_in said) sorted
+names_are said loaded from found sorted found_is moved up = record {
   all = λ name. (
-    λ defined. Contains-permutation found sorted name moved (subst (λ (ns : List (List ℕ)). Contains ns name) (sym found_is) (defined_there planned name defined)),
-    λ among. defined_back planned name (subst (λ (ns : List (List ℕ)). Contains ns name) found_is (Contains-permutation sorted found name (IsPermutation-sym found sorted moved) among)),
+    λ defined. Contains-permutation found sorted name moved (subst (λ (ns : List (List ℕ)). Contains ns name) (sym found_is) (defined_there said name defined)),
+    λ among. defined_back said name (subst (λ (ns : List (List ℕ)). Contains ns name) found_is (Contains-permutation sorted found name (IsPermutation-sym found sorted moved) among)),
   );
-  in_order = in_order_from_sorted found sorted (subst IsDistinct (sym found_is) (names_differ planned loaded from)) moved up;
+  in_order = in_order_from_sorted found sorted (subst IsDistinct (sym found_is) (names_differ said loaded from)) moved up;
 }
 
--- a plan that was read with an empty table is of just its symbols
-pub planned_as : (Says : Result Planned Fault → Type 0) (table : List (List ℕ)) (plan : PlanView) (is : IsPlanWith Says [] table plan) → IsPlannedAs is.planned table plan
-planned_as Says table plan is = record { definitions = is.definitions; symbols = is.symbols; table_is = is.table ∙ with_different [] is.planned.alphabet is.distinct; written = is.written }
+-- a plan that stands with an empty table, and its alphabet, are the project that was said
+module _ (said : Said) (plan : PlanView) (table : List (List ℕ)) (alphabet : List (Sym × List ℕ)) (is : Stands said [] table plan) (formed : IsPlan plan) (alphabet_is : alphabet ≡ listed table plan.symbols) (is_alphabet : IsAlphabet alphabet) where
+  table_is : table ≡ (project_in said).alphabet
+  table_is = is.table ∙ with_different [] (project_in said).alphabet is.distinct
 
--- a plan and its alphabet are the planned project
-module _ (planned : Planned) (plan : PlanView) (table : List (List ℕ)) (alphabet : List (Sym × List ℕ)) (is : IsPlannedAs planned table plan) (formed : IsPlan plan) (alphabet_is : alphabet ≡ listed table plan.symbols) (is_alphabet : IsAlphabet alphabet) where
-  alphabet_whole : alphabet ≡ whole planned.alphabet
+  alphabet_whole : alphabet ≡ whole (project_in said).alphabet
   alphabet_whole =
-      alphabet_is ∙ ap (λ (t : List (List ℕ)). listed t plan.symbols) is.table_is
-      ∙ ap (listed planned.alphabet) (is.symbols ∙ ap (λ (t : List (List ℕ)). numbers_in t planned.alphabet) is.table_is)
+      alphabet_is ∙ ap (λ (t : List (List ℕ)). listed t plan.symbols) table_is
+      ∙ ap (listed (project_in said).alphabet) (is.symbols ∙ ap (λ (t : List (List ℕ)). numbers_in t (project_in said).alphabet) table_is)
 
-  pub same_symbols : symbols_of alphabet ≡ plan.symbols
-  same_symbols = ap symbols_of alphabet_is ∙ symbols_of-listed table plan.symbols
-
-  pub loaded_is : IsLoadedFrom planned (record { definitions = plan.definitions; alphabet = alphabet })
+  pub loaded_is : IsLoadedFrom said (record { definitions = plan.definitions; alphabet = alphabet })
   loaded_is = record {
     formed = is_alphabet;
     alphabet = alphabet_whole;
-    texts = ap texts_of alphabet_whole ∙ whole_texts planned.alphabet;
-    definitions = subst (λ (t : List (List ℕ)). map entry_of plan.definitions ≡ map (resolved (names_in planned) t) planned.definitions) is.table_is is.definitions;
-    written = is.written;
-    plan = subst (λ (s : List Sym). IsPlan (record { definitions = plan.definitions; symbols = s })) (sym same_symbols) formed;
+    texts = ap texts_of alphabet_whole ∙ whole_texts (project_in said).alphabet;
+    definitions = subst (λ (t : List (List ℕ)). map entry_of plan.definitions ≡ map (entry_in (names_of said.written) t) said.written) table_is is.definitions;
+    leaves = is.leaves;
+    plan = subst (λ (s : List Sym). IsPlan (record { definitions = plan.definitions; symbols = s })) (sym (ap symbols_of alphabet_is ∙ symbols_of-listed table plan.symbols)) formed;
   }
 
 -- what stands at a place of a list, and what no item of it is

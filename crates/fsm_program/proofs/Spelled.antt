@@ -1,7 +1,7 @@
 -- Texts, their numbers in a table, and the alphabet that has just these.
-use Rattle.std.proofs.Common.{◌≡◌, ℕ, Bool, true, false, cond, ◌||◌, List, [], ◌∷◌, ◌++◌, sym, ap, subst, ◌∙◌, inl, inr, append_assoc, append-nil}
+use Rattle.std.proofs.Common.{◌≡◌, ◌+◌, ℕ, Bool, true, false, cond, ◌||◌, List, [], ◌∷◌, ◌++◌, length, sym, ap, subst, ◌∙◌, inl, inr, arith, append_assoc, append-nil}
 use Rattle.std.proofs.lemmas.List.Elements.{All-contains_itself}
-use Rattle.std.proofs.lemmas.Option.{get_or_from_slice_get}
+use Rattle.std.proofs.lemmas.Option.{get_or_from_slice_get, slice_get_within}
 use Rattle.std.proofs.lemmas.Slice.Eq.{bytes_eq-Decides}
 use Rattle.std.specs.List.{Contains, list_any, slice_index_or}
 use Rattle.std.specs.Str.{bytes_eq}
@@ -10,10 +10,18 @@ use Rattle.fsm_base.specs.Symbols.{number_of, with_text}
 use Rattle.fsm_base.specs.declared.letters.Sym.{Sym}
 use Rattle.fsm_words.specs.Words.{IsDistinct}
 use Rattle.fsm_words.proofs.Members.{Contains-head, Contains-tail, Contains-map}
+use Rattle.fsm_words.proofs.Places.{slice_get_from_Contains, slice_get-append_left, slice_get-append_right}
 use Rattle.project_meaning.specs.Projects.{with_texts}
-use Rattle.project_model.specs.Planned.{numbers_in}
+use Rattle.project_model.specs.Numbered.{numbers_in}
 use Rattle.project_model.proofs.Alphabets.{at_number, cases_bool, texts_of-numbers}
-use Rattle.fsm_program.proofs.Together.{twice}
+
+-- in a list whose items are distinct none stands twice
+twice : {X : Type 0} (xs ys : List X) (x : X) → IsDistinct (xs ++ x ∷ ys) → Contains xs x → ⊥
+twice xs ys x distinct among =
+    let at = slice_get_from_Contains xs x among in
+    let within = slice_get_within xs at.0 x at.1 in
+    let same : at.0 ≡ 0 + length xs = distinct at.0 (0 + length xs) x (slice_get-append_left xs (x ∷ ys) at.0 within ∙ at.1) (slice_get-append_right xs (x ∷ ys) 0) in
+    omega (arith, same, within)
 
 -- a text that is found in a list is had by it
 any_behind : (text t : List ℕ) (table : List (List ℕ)) (r : Bool) → bytes_eq text t ≡ false → list_any (bytes_eq text) (t ∷ table) ≡ r → list_any (bytes_eq text) table ≡ r

@@ -6,7 +6,7 @@ use Rattle.std.specs.String.{string_bytes}
 use Rattle.std.specs.declared.alloc.AllocError.{AllocError}
 use Rattle.std.specs.declared.string.String.{String}
 use Rattle.fsm_base.specs.Normal.{nfc_of}
-use Rattle.fsm_meaning.specs.declared.direction.Direction.{Direction}
+use Rattle.lookup_answers.specs.declared.direction.Direction.{Direction}
 use Rattle.fsm_program.specs.Ends.{Asked, Query, IsWhyUnread, asked_of, direction_of, for_look}
 use Rattle.fsm_program.specs.declared.words.Command.{Command}
 use Rattle.fsm_program.specs.declared.words.WordsError.{WordsError}

@@ -8,8 +8,8 @@ use Rattle.fsm_meaning.specs.declared.ending.Ending.{Ending}
 use Rattle.fsm_meaning.specs.declared.ending.Ending.TheVariants.{Finished, WriteFailed, ReadFailed, Spent}
 use Rattle.fsm_base.specs.Normal.{nfc_of}
 use Rattle.project_meaning.specs.Projects.{Project}
-use Rattle.fsm_meaning.specs.declared.direction.Direction.{Direction}
-use Rattle.fsm_meaning.specs.declared.direction.Direction.TheVariants.{Up, Down}
+use Rattle.lookup_answers.specs.declared.direction.Direction.{Direction}
+use Rattle.lookup_answers.specs.declared.direction.Direction.TheVariants.{Up, Down}
 use Rattle.fsm_meaning.specs.Replies.{Replies, line_of}
 use Rattle.fsm_meaning.specs.Transcripts.{HasAnswered, WithoutState}
 use Rattle.fsm_program.specs.Loaded.{AreNames}

@@ -1,25 +1,26 @@
 -- What was read of a folder, and which project its files are.
-use Rattle.std.specs.Prelude.{◌≡◌, ◌++◌, ℕ, List, [], ◌∷◌, map, take, Option, Some, Result, Ok, Err, ⊤}
+use Rattle.std.specs.Prelude.{◌≡◌, ◌+◌, ◌++◌, ℕ, List, [], ◌∷◌, map, take, Option, Some, Result, Ok, Err, ⊤}
 use Rattle.fsm_io.specs.Causes.{Rose}
 use Rattle.fsm_io.specs.Folders.{Asked, AsksFor, Files, file_of, Told}
 use Rattle.regex_ast.specs.declared.fault.Fault.{Fault}
 use Rattle.project_meaning.specs.Projects.{Project}
-use Rattle.project_manifest.specs.Manifests.{ManifestView}
-use Rattle.project_model.specs.Reads.{FilesSay, IsManifestFile}
-use Rattle.project_model.specs.Together.{project_name}
-use Rattle.project_model.specs.Written.{Planned, project_in}
+use Rattle.project_manifest.specs.Manifests.{ManifestView, project_name}
+use Rattle.project_sources.specs.Sources.{Said, project_in}
+use Rattle.project_sources.specs.Limits.{most_bytes}
+use Rattle.project_sources.specs.Faults.{SourcesSay, rows_so_far}
+use Rattle.project_sources.specs.Laws.{unbuilt}
+use Rattle.project_model.specs.Answers.{IsManifestFile}
 use Rattle.fsm_program.specs.Loaded.{LoadedView, IsLoadedFrom}
 use Rattle.fsm_program.specs.declared.load.LoadError.{LoadError}
 use Rattle.fsm_program.specs.declared.load.LoadError.TheVariants.{Failed, Memory, Refused}
 
--- the project that files are, or their first fault
+-- the project that files are, or their first fault, by the readers and the rows that there are so far
 abbrev pub Reads : Files → Result Project Fault → Type 0
-Reads files (Ok project) = (planned : Planned) × FilesSay files [] (Ok planned) × (project ≡ project_in planned)
-Reads files (Err fault) = FilesSay files [] (Err fault)
+Reads files answer = SourcesSay unbuilt files rows_so_far answer
 
 -- the most bytes that are read of a file: one more than a file may have
 unfoldable pub most_read : ℕ
-most_read = 1048577
+most_read = most_bytes + 1
 
 -- this content of a manifest names the file
 abbrev pub Names : List ℕ → List ℕ → Type 0
@@ -56,4 +57,4 @@ IsLoadError (Refused fault) files before now = Told files (λ files. Reads files
 
 -- what was loaded is the project that the files are
 abbrev pub IsLoaded : LoadedView → Option Files → Type 0
-IsLoaded loaded files = (planned : Planned) × IsLoadedFrom planned loaded × Told files (λ files. FilesSay files [] (Ok planned))
+IsLoaded loaded files = (said : Said) × IsLoadedFrom said loaded × Told files (λ files. Reads files (Ok (project_in said)))

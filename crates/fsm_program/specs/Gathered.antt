@@ -1,12 +1,11 @@
 -- The files of a folder that are read for its project.
-use Rattle.std.specs.Prelude.{◌≡◌, ℕ, List, [], Some, Ok, Err, cond, take}
+use Rattle.std.specs.Prelude.{◌≡◌, ◌⊎◌, ℕ, List, Some, Ok, Err, cond, take}
 use Rattle.std.specs.Option.{option_map}
 use Rattle.std.specs.Str.{bytes_eq}
 use Rattle.fsm_io.specs.Folders.{Files, file_of}
-use Rattle.project_model.specs.Reads.{FilesSay}
-use Rattle.project_model.specs.Together.{project_name}
-use Rattle.project_model.specs.Written.{Planned}
-use Rattle.fsm_program.specs.Files.{Names, most_read}
+use Rattle.project_manifest.specs.Manifests.{project_name}
+use Rattle.project_sources.specs.Sources.{Said, project_in}
+use Rattle.fsm_program.specs.Files.{Names, Reads, most_read}
 use Rattle.fsm_program.specs.Loaded.{LoadedView, IsLoadedFrom}
 use Rattle.fsm_program.specs.declared.load.LoadError.{LoadError}
 use Rattle.fsm_program.specs.declared.load.LoadError.TheVariants.{Failed, Memory, Refused}
@@ -19,21 +18,21 @@ HasAdded name most old new files = (other : List ℕ) → file_of other new ≡ 
 abbrev pub IsSeen : Files → Files → List ℕ → Type 0
 IsSeen sources files name = file_of name sources ≡ option_map (take most_read) (file_of name files)
 
--- the sources have the manifest of the files, and the file that it names
-pub record IsGathered (sources files : Files) : Type 0 where
-  pub manifest : IsSeen sources files project_name
-  pub file : (content name : List ℕ) → file_of project_name sources ≡ Some content → Names content name → IsSeen sources files name
-
--- the sources' manifest names this file, or is none
+-- the sources' manifest names this file
 abbrev pub SourcesName : Files → List ℕ → Type 0
 SourcesName sources name = (content : List ℕ) × (file_of project_name sources ≡ Some content) × Names content name
 
+-- the sources have the manifest of the files, and the file that it names, if it names one
+pub record IsGathered (sources files : Files) : Type 0 where
+  pub manifest : IsSeen sources files project_name
+  pub file : ((name : List ℕ) → SourcesName sources name → ⊥) ⊎ ((name : List ℕ) × SourcesName sources name × IsSeen sources files name)
+
 -- the project that sources are
 abbrev pub IsOfSources : Files → LoadedView → Type 0
-IsOfSources sources loaded = (planned : Planned) × IsLoadedFrom planned loaded × FilesSay sources [] (Ok planned)
+IsOfSources sources loaded = (said : Said) × IsLoadedFrom said loaded × Reads sources (Ok (project_in said))
 
 -- the first fault of sources, or want of memory
 abbrev pub IsWhyNot : Files → LoadError → Type 0
 IsWhyNot sources Failed = ⊥
 IsWhyNot sources (Memory refused) = Unit {0}
-IsWhyNot sources (Refused fault) = FilesSay sources [] (Err fault)
+IsWhyNot sources (Refused fault) = Reads sources (Err fault)

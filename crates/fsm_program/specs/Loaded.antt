@@ -3,30 +3,24 @@ use Rattle.std.specs.Prelude.{◌≡◌, ◌↔◌, ℕ, List, All, Contains, ma
 use Rattle.fsm_base.specs.Alphabet.{IsAlphabet, listed, symbols_of, texts_of}
 use Rattle.fsm_base.specs.declared.letters.Sym.{Sym}
 use Rattle.fsm_words.specs.Answers.{IsInOrder}
-use Rattle.project_meaning.specs.Projects.{Project, Defines}
-use Rattle.project_model.specs.Planned.{entry_of, numbers_in, resolved}
-use Rattle.project_model.specs.Plans.{IsPlan, PlanView}
-use Rattle.project_model.specs.Written.{IsWrittenOver, Planned, names_in}
+use Rattle.project_meaning.specs.Projects.{Project, Defines, names_of}
+use Rattle.project_sources.specs.Sources.{Said, project_in}
+use Rattle.project_model.specs.Numbered.{IsBodyOver, numbers_in}
+use Rattle.project_model.specs.Plans.{IsPlan}
+use Rattle.project_model.specs.Stands.{entry_in, entry_of}
 use Rattle.project_model.specs.declared.definition.Definition.{Definition}
 
 pub record LoadedView : Type 0 where
   pub definitions : List Definition
   pub alphabet : List (Sym × List ℕ)
 
--- the plan is of these definitions and this alphabet, whose symbols are those of the table
-pub record IsPlannedAs (planned : Planned) (table : List (List ℕ)) (plan : PlanView) : Type 0 where
-  pub definitions : map entry_of plan.definitions ≡ map (resolved (names_in planned) table) planned.definitions
-  pub symbols : plan.symbols ≡ numbers_in table planned.alphabet
-  pub table_is : table ≡ planned.alphabet
-  pub written : All (IsWrittenOver (names_in planned) planned.alphabet) planned.definitions
-
--- the definitions are those that were planned, over numbers of symbols, and the alphabet has the same symbols
-pub record IsLoadedFrom (planned : Planned) (loaded : LoadedView) : Type 0 where
+-- the definitions are those that were said, over numbers of symbols, and the alphabet has the same symbols
+pub record IsLoadedFrom (said : Said) (loaded : LoadedView) : Type 0 where
   pub formed : IsAlphabet loaded.alphabet
-  pub alphabet : loaded.alphabet ≡ listed planned.alphabet (numbers_in planned.alphabet planned.alphabet)
-  pub texts : texts_of loaded.alphabet ≡ planned.alphabet
-  pub definitions : map entry_of loaded.definitions ≡ map (resolved (names_in planned) planned.alphabet) planned.definitions
-  pub written : All (IsWrittenOver (names_in planned) planned.alphabet) planned.definitions
+  pub alphabet : loaded.alphabet ≡ listed (project_in said).alphabet (numbers_in (project_in said).alphabet (project_in said).alphabet)
+  pub texts : texts_of loaded.alphabet ≡ (project_in said).alphabet
+  pub definitions : map entry_of loaded.definitions ≡ map (entry_in (names_of said.written) (project_in said).alphabet) said.written
+  pub leaves : All (λ d. IsBodyOver (project_in said).alphabet d.body) (project_in said).definitions
   pub plan : IsPlan (record { definitions = loaded.definitions; symbols = symbols_of loaded.alphabet })
 
 -- the names of a project by their bytes, each once

@@ -7,8 +7,8 @@ use Rattle.fsa.specs.Automaton.{Automaton}
 use Rattle.fst_relation.specs.Relation.{IsRelated}
 use Rattle.project_meaning.specs.Projects.{Project, Defines}
 use Rattle.project_meaning.specs.Meaning.{Meaning}
-use Rattle.fsm_meaning.specs.declared.direction.Direction.{Direction}
-use Rattle.fsm_meaning.specs.declared.direction.Direction.TheVariants.{Up, Down}
+use Rattle.lookup_answers.specs.declared.direction.Direction.{Direction}
+use Rattle.lookup_answers.specs.declared.direction.Direction.TheVariants.{Up, Down}
 use Rattle.lookup.specs.Answering.{IsOverAlphabet, UpperTexts, LowerTexts}
 
 -- a name with its automaton, over the symbols of an alphabet; it has none where the project doesn't define the name

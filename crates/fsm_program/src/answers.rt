@@ -7,8 +7,8 @@ ghost use Rattle.lookup.specs.Answering.{IsOverAlphabet};
 ghost use Rattle.fsm_program.specs.Networks.{Shows, TextsTo};
 
 use fsm_base::{Alphabet, Sym, TokensError};
-use fsm_meaning::Direction;
 use lookup::{Answer, Net, down, up};
+use lookup_answers::Direction;
 use reply_text::{answer, symbol};
 use std::alloc::{AllocError, Global};
 

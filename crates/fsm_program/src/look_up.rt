@@ -13,7 +13,7 @@ use crate::bytes::without_last;
 use crate::network::Network;
 use fsm_base::nfc;
 use fsm_io::{Failed, Outbox, Sink};
-use fsm_meaning::Direction;
+use lookup_answers::Direction;
 use reply_text::{Head, short};
 use std::alloc::{AllocError, Global};
 use std::str;

@@ -3,14 +3,14 @@ ghost use Rattle.std.specs.Option.{option_map};
 ghost use Rattle.lookup.specs.Answering.{IsOverAlphabet};
 ghost use Rattle.project_meaning.specs.Projects.{Project as Meant};
 ghost use Rattle.fsm_meaning.specs.Replies.{RepliesToWord};
-ghost use Rattle.project_model.specs.Written.{Planned, project_in};
+ghost use Rattle.project_sources.specs.Sources.{Said, project_in};
 ghost use Rattle.fsm_program.specs.Loaded.{IsLoadedFrom};
 ghost use Rattle.fsm_program.specs.Networks.{Shows, ShowsNet};
 
 use crate::answers::reply_in;
 use crate::project::Project;
 use fsm_base::Text;
-use fsm_meaning::Direction;
+use lookup_answers::Direction;
 use network_build::{BuildError, Compiled, build};
 use reply_text::no_net;
 use std::alloc::{AllocError, Global};
@@ -19,8 +19,11 @@ use std::marker::Model;
 /// A name that is looked up in, and its network over the symbols of a project, if the project defines the name.
 #[derive(Drop)]
 pub struct Network {
+    /// The project.
     project: Project,
+    /// The name, in Normalization Form C.
     name: Text,
+    /// The network of its definition; none where the project has no such name.
     compiled: Option<Compiled>,
 }
 
@@ -39,7 +42,7 @@ impl Model for Network {
 
 /// The network of a name, if the project defines it.
 fn find_net(alloc: Global, project: &Project, name: &str) -> Result<Option<Compiled>, AllocError>
-    ensures shows { (planned : Planned) → IsLoadedFrom planned project.now → IfOk result (λ compiled. ShowsNet project.now.alphabet name.now (option_map (λ c. c.net) compiled) (project_in planned)) }
+    ensures shows { (said : Said) → IsLoadedFrom said project.now → IfOk result (λ compiled. ShowsNet project.now.alphabet name.now (option_map (λ c. c.net) compiled) (project_in said)) }
     ensures over { IfOk result (λ compiled. IfSome compiled (λ c. IsOverAlphabet project.now.alphabet c.net)) }
 {
     match project.find(name) {
@@ -54,7 +57,7 @@ fn find_net(alloc: Global, project: &Project, name: &str) -> Result<Option<Compi
 impl Network {
     /// The network of this name in a project.
     pub fn of(alloc: Global, project: Project, name: Text) -> Result<Network, AllocError>
-        ensures shows { (planned : Planned) → IsLoadedFrom planned project → IfOk result (λ network. Shows network (project_in planned)) }
+        ensures shows { (said : Said) → IsLoadedFrom said project → IfOk result (λ network. Shows network (project_in said)) }
         ensures name { IfOk result (λ network. network.name ≡ name) }
     {
         let compiled = find_net(alloc, &project, name.as_str())?;

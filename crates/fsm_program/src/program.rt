@@ -8,7 +8,7 @@ ghost use Rattle.regex_ast.specs.declared.fault.Fault.{Fault};
 ghost use Rattle.project_meaning.specs.Projects.{Project as Meant};
 ghost use Rattle.fsm_meaning.specs.Replies.{Replies};
 ghost use Rattle.fsm_meaning.specs.Transcripts.{HasAnswered, WithoutState, first_version};
-ghost use Rattle.project_model.specs.Written.{Planned, project_in};
+ghost use Rattle.project_sources.specs.Sources.{Said, project_in};
 ghost use Rattle.fsm_program.specs.Loaded.{AreNames, IsLoadedFrom};
 ghost use Rattle.reply_text.specs.Projects.{accepted_line, refused_line};
 ghost use Rattle.fsm_program.specs.Ends.{Asked, Ends, IsNotLoaded, IsWhyUnread, Loads, Query, asked_by, asked_of, for_check, for_help, for_look, status_of, usage_text};
@@ -25,7 +25,9 @@ use crate::session::Session;
 use crate::words::{Command, WordsError, read_words};
 use fsm_base::Text;
 use fsm_io::{Failed, Folder, Lines, Outbox, Sink, Source, write_all};
-use fsm_meaning::{Direction, Ending};
+use fsm_meaning::Ending;
+use lookup_answers::Direction;
+use project_sources::MOST_BYTES;
 use reply_text::{accepted, refused};
 use std::alloc::{AllocError, Global};
 
@@ -39,7 +41,7 @@ const FIRST_VERSION: u64 = 1;
 const MOST_TAKEN: u64 = 1 << 40;
 
 /// The most bytes that are read of a file: one more than a file may have.
-const MOST_READ: usize = 1_048_577;
+const MOST_READ: usize = MOST_BYTES + 1;
 
 /// How many bytes of replies are gathered before they are written.
 const OUTBOX_ROOM: usize = 65_536;
@@ -103,7 +105,7 @@ fn not_loaded<O: Sink>(alloc: Global, error: LoadError, output: &mut O) -> u8
 
 /// The line of a project without fault.
 fn names_line(alloc: Global, version: u64, project: &Project) -> Result<Vec<u8>, AllocError>
-    ensures { (planned : Planned) → IsLoadedFrom planned project.now → IfOk result (λ text. (names : List (List ℕ)) × AreNames (project_in planned) names × (text.items ≡ accepted_line version names)) }
+    ensures { (said : Said) → IsLoadedFrom said project.now → IfOk result (λ text. (names : List (List ℕ)) × AreNames (project_in said) names × (text.items ≡ accepted_line version names)) }
 {
     let names = project.names(alloc)?;
     accepted(alloc, version, &names)
@@ -111,7 +113,7 @@ fn names_line(alloc: Global, version: u64, project: &Project) -> Result<Vec<u8>,
 
 /// Writes the names of a project.
 fn say_names<O: Sink>(alloc: Global, version: u64, project: &Project, output: &mut O) -> u8
-    ensures said { (planned : Planned) → IsLoadedFrom planned project.now → ((names : List (List ℕ)) × AreNames (project_in planned) names × IsSaid (O.held output.old) (O.held output.new) (accepted_line version names) 0 result) ⊎ (result ≡ 5) }
+    ensures said { (said : Said) → IsLoadedFrom said project.now → ((names : List (List ℕ)) × AreNames (project_in said) names × IsSaid (O.held output.old) (O.held output.new) (accepted_line version names) 0 result) ⊎ (result ≡ 5) }
     ensures status { (result ≡ 0) ⊎ (result ≡ 4) ⊎ (result ≡ 5) }
     ensures unwritten { result ≡ 5 → output.new ≡ output.old }
     ensures write { result ≡ 4 → Rose (O.faults output.old) (O.faults output.new) }

@@ -1,9 +1,10 @@
-ghost use Rattle.std.specs.Prelude.{◌≡◌, ◌<◌, All, Contains, IfOk, MatchOption, length};
+ghost use Rattle.std.specs.Prelude.{◌≡◌, ◌<◌, [], All, Contains, IfOk, MatchOption, length};
 ghost use Rattle.fsm_base.specs.Alphabet.{symbols_of};
 ghost use Rattle.project_model.specs.Plans.{IsSoundOver};
 ghost use Rattle.project_model.specs.declared.definition.Definition.{Definition};
-ghost use Rattle.project_model.specs.Written.{Planned, project_in};
-ghost use Rattle.fsm_program.specs.Loaded.{AreNames, IsLoadedFrom, IsPlannedAs};
+ghost use Rattle.project_model.specs.Stands.{Stands};
+ghost use Rattle.project_sources.specs.Sources.{Said, project_in};
+ghost use Rattle.fsm_program.specs.Loaded.{AreNames, IsLoadedFrom};
 
 use fsm_base::{Alphabet, SymbolTable, Text};
 use project_model::{Definition, Plan};
@@ -13,7 +14,9 @@ use std::marker::Model;
 /// A project that is loaded: its plan, and the alphabet of its symbols.
 #[derive(Drop)]
 pub struct Project {
+    /// Its definitions and symbols.
     plan: Plan,
+    /// The symbols of the plan, with their texts.
     alphabet: Alphabet,
 }
 
@@ -39,7 +42,7 @@ impl Project {
     /// The project of a plan whose symbols stand in the table.
     pub fn of(alloc: Global, plan: Plan, table: &SymbolTable) -> Result<Project, AllocError>
         requires { All (λ sym. sym.0 < length table.now) plan.symbols }
-        ensures { (planned : Planned) → IsPlannedAs planned table.now plan → IfOk result (IsLoadedFrom planned) }
+        ensures { (said : Said) → Stands said [] table.now plan → IfOk result (IsLoadedFrom said) }
     {
         let alphabet = Alphabet::of(alloc, table, plan.symbols())?;
         Ok(Project { plan, alphabet })
@@ -66,7 +69,7 @@ impl Project {
 
     /// The names of the project in the order of their bytes.
     pub fn names(&self, alloc: Global) -> Result<Vec<Text>, AllocError>
-        ensures { (planned : Planned) → IsLoadedFrom planned self.now → IfOk result (λ names. AreNames (project_in planned) names.items) }
+        ensures { (said : Said) → IsLoadedFrom said self.now → IfOk result (λ names. AreNames (project_in said) names.items) }
     {
         let mut names = Vec::new(alloc);
         'definitions: for definition in self.plan.definitions() {

@@ -5,7 +5,7 @@ ghost use Rattle.fsm_base.specs.Normal.{nfc_of};
 ghost use Rattle.fsm_program.specs.Ends.{IsWhyUnread, asked_by, asked_of, direction_of, for_look, is_help};
 
 use fsm_base::{Text, nfc};
-use fsm_meaning::Direction;
+use lookup_answers::Direction;
 use std::alloc::{AllocError, Global};
 use thiserror::Error;
 

@@ -13,14 +13,18 @@ use std::marker::Model;
 /// The state that an edge leaves, and the symbol on its lower side.
 #[derive(Clone, Copy, Debug, PartialEq, Eq, PartialOrd, Ord)]
 pub struct Place {
+    /// The state.
     pub state: usize,
+    /// The symbol, or none.
     pub low: Option<Sym>,
 }
 
 /// The symbol on an edge's upper side, and the state that the edge enters.
 #[derive(Clone, Copy, Debug)]
 pub struct Onward {
+    /// The symbol, or none.
     pub up: Option<Sym>,
+    /// The state.
     pub to: usize,
 }
 
@@ -32,7 +36,9 @@ impl Letter for Place {
 /// lower side. Contracts see the list of the edges.
 #[derive(Debug, Drop)]
 pub struct Operand {
+    /// The edges, by the state that they leave.
     rows: Rows<Pair>,
+    /// The same edges, sorted by that state and then by their lower symbol.
     by_low: Vec<(Place, Onward)>,
 }
 

@@ -8,6 +8,7 @@ use std::marker::Model;
 /// list of the pairs.
 #[derive(Debug, Drop)]
 pub struct PairTable {
+    /// The pairs, each once. The place of a pair is its number.
     pairs: IndexSet<(usize, usize)>,
 }
 

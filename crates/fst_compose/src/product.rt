@@ -14,14 +14,18 @@ use std::alloc::{AllocError, Global};
 /// The pairs of states that were found, and the edges from those that were looked at.
 #[derive(Debug, Drop)]
 struct Found {
+    /// The pairs, which are the states of the composition.
     pairs: PairTable,
+    /// The edges from those that were looked at.
     edges: Vec<Edge<Pair>>,
 }
 
 /// The edges of an automaton, and which of its states are final.
 #[derive(Debug, Drop)]
 pub struct Explored {
+    /// The edges, in the order in which they were found.
     pub edges: Vec<Edge<Pair>>,
+    /// Whether each state is final.
     pub finals: Vec<bool>,
 }
 

@@ -8,7 +8,7 @@ ghost use Rattle.fsm_words.specs.Operations.{IsIgnoring};
 ghost use Rattle.lang_algebra.specs.Sources.{sources_of, own_table, IsBlock};
 
 use crate::lang::Lang;
-use crate::one_letter::one_letter;
+use crate::letters::one_letter;
 use crate::sources::{Sourced, both_sources, inserted_rows, letter_rows, own_letters, own_rows};
 use fsa::Fsa;
 use fsa_rational::{image, preimage, star, union};

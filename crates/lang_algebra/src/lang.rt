@@ -7,8 +7,8 @@ ghost use Rattle.lang_algebra.specs.Languages.{IsLang};
 ghost use Rattle.fsm_words.specs.Operations.{IsOneLetter, HasPart, IsIgnoring};
 
 use crate::ignoring::ignoring;
+use crate::letters::one_letter;
 use crate::live::live_part;
-use crate::one_letter::one_letter;
 use fsa::{Dfa, Fsa};
 use fsa_minimal::minimal;
 use fsa_subset::determine;
@@ -21,6 +21,7 @@ use std::marker::Model;
 /// that useless states don't add up.
 #[derive(Debug, Drop)]
 pub struct Lang<L> {
+    /// The automaton of the language. It is small but not always the smallest: no call promises how many states it has.
     dfa: Dfa<L>,
 }
 

@@ -3,12 +3,14 @@
 //!
 //! - [`Lang`]: a language. Each operation's contract says, for every word, whether the result has it, and that the
 //!   result is over the same letters.
+//! - [`one_letter`]: the automaton of one of some letters.
 #![tactic(auto)]
 
 mod ignoring;
 mod lang;
+mod letters;
 mod live;
-mod one_letter;
 mod sources;
 
 pub use lang::Lang;
+pub use letters::one_letter;

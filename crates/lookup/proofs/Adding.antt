@@ -9,7 +9,7 @@ use Rattle.fsm_words.proofs.Members.{Contains-nil_cases}
 use Rattle.fsm_words.proofs.Places.{slice_get-append_left}
 use Rattle.fsa.specs.declared.automaton.Edge.{Edge}
 use Rattle.lookup.specs.declared.explored.Config.{Config}
-use Rattle.lookup.specs.declared.moves.Move.{Move}
+use Rattle.lookup_walk.specs.declared.moves.Move.{Move}
 use Rattle.lookup.specs.Reached.{Reached, IsNode, AddsSteps}
 use Rattle.lookup.specs.Steps.{Follows}
 

@@ -1,5 +1,3 @@
-pub mod Spots
-pub mod Along
 pub mod Adding
 pub mod Stepping
 pub mod Exploring

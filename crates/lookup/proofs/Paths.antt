@@ -10,14 +10,14 @@ use Rattle.fsm_base.specs.declared.letters.Pair.{Pair}
 use Rattle.fsm_words.proofs.Places.{same_at}
 use Rattle.fsa.specs.declared.automaton.Edge.{Edge}
 use Rattle.fsa.specs.Automaton.{Automaton}
-use Rattle.fsa.specs.Language.{Accepts, AcceptsFrom, stop, read, skip}
+use Rattle.fsa.specs.Language.{AcceptsFrom, stop, read, skip}
 use Rattle.lookup_graph.specs.Graph.{Connects, IsPath, IsWithin, Writes, end, letters_of, start}
 use Rattle.lookup.specs.declared.explored.Config.{Config}
-use Rattle.lookup.specs.declared.moves.Move.{Move}
-use Rattle.lookup.specs.declared.moves.Way.{Way}
-use Rattle.lookup.specs.declared.moves.Way.TheVariants.{Up, Down}
+use Rattle.lookup_walk.specs.declared.moves.Move.{Move}
+use Rattle.lookup_answers.specs.declared.direction.Direction.{Direction}
 use Rattle.fst_relation.specs.Relation.{symbols_on}
-use Rattle.lookup.specs.Moves.{AreMoves, IsRelatedBy, IsWritten, move_of, read_on, written_on}
+use Rattle.lookup_walk.specs.Moves.{AreMoves, IsRelatedBy, IsWritten, move_of, read_on, written_on}
+use Rattle.lookup_walk.proofs.Runs.{related_by}
 use Rattle.lookup.specs.Reached.{Reached, IsNode, IsExplored}
 use Rattle.lookup.specs.Steps.{Reads, Steps}
 
@@ -38,12 +38,7 @@ first_drop (x ∷ word) (suc i) s e =
     let n : suc i + 1 ≡ suc (i + 1) = omega arith in
     ap (λ k. s ∷ drop k (x ∷ word)) n ∙ first_drop word i s e
 
--- the relation in either way, in the words of what is read and written
-pub related_by : (way : Way) (m : Automaton Pair) (word written : List Sym) → IsRelatedBy way m word written ↔ ((pairs : List Pair) × Accepts m pairs × (symbols_on (read_on way) pairs ≡ word) × (symbols_on (written_on way) pairs ≡ written))
-related_by Up m word written = (λ (pairs, accepted, upper, lower). (pairs, accepted, lower, upper), λ (pairs, accepted, lower, upper). (pairs, accepted, upper, lower))
-related_by Down m word written = (λ r. r, λ r. r)
-
-module _ (way : Way) (m : Automaton Pair) (moves : List Move) (are : AreMoves way m.edges moves) (word : List Sym) (reached : Reached) (explored : IsExplored (Steps moves m.finals word) (length reached.configs) reached) where
+module _ (direction : Direction) (m : Automaton Pair) (moves : List Move) (are : AreMoves direction m.edges moves) (word : List Sym) (reached : Reached) (explored : IsExplored (Steps moves m.finals word) (length reached.configs) reached) where
   abbrev edges : List (Edge Sym)
   edges = reached.edges
 
@@ -60,44 +55,44 @@ module _ (way : Way) (m : Automaton Pair) (moves : List Move) (are : AreMoves wa
       let edge : Edge Sym = record { from = k + 1; letter = letter; to = r.0 } in
       (edge ∷ rest.0, (r.2, refl, subst (λ n. IsPath edges n rest.0 end) (sym r.1.1) rest.1), ap (λ v. option_to_list letter ++ v) rest.2)
 
-  writes : {q : ℕ} {pairs : List Pair} → AcceptsFrom m q pairs → (k i : ℕ) → IsAt k i q → symbols_on (read_on way) pairs ≡ drop i word → Connects edges (k + 1) (symbols_on (written_on way) pairs) end
+  writes : {q : ℕ} {pairs : List Pair} → AcceptsFrom m q pairs → (k i : ℕ) → IsAt k i q → symbols_on (read_on direction) pairs ≡ drop i word → Connects edges (k + 1) (symbols_on (written_on direction) pairs) end
   writes {q} (stop final) k i at is =
       let past : length word ≤ i = let e : 0 ≡ length (drop i word) = ap length is in let d = length-drop i word in omega arith in
       let r = explored.all k (record { place = i; state = q }) None None (slice_get_within reached.configs k _ at) at (refl, past, final) in
       (record { from = k + 1; letter = None; to = r.0 } ∷ [], (r.2, refl, r.1), refl)
-  writes {q = p} (read {q = q} {x = x} {w = w} held rest) k i at is = by (read_on way x) refl is (λ j place there e. writes rest j place there e)
+  writes {q = p} (read {q = q} {x = x} {w = w} held rest) k i at is = by (read_on direction x) refl is (λ j place there e. writes rest j place there e)
     where
-      by : (r : Option Sym) → read_on way x ≡ r → option_to_list r ++ symbols_on (read_on way) w ≡ drop i word
-          → ((j place : ℕ) → IsAt j place q → symbols_on (read_on way) w ≡ drop place word → Connects edges (j + 1) (symbols_on (written_on way) w) end)
-          → Connects edges (k + 1) (option_to_list (written_on way x) ++ symbols_on (written_on way) w) end
+      by : (r : Option Sym) → read_on direction x ≡ r → option_to_list r ++ symbols_on (read_on direction) w ≡ drop i word
+          → ((j place : ℕ) → IsAt j place q → symbols_on (read_on direction) w ≡ drop place word → Connects edges (j + 1) (symbols_on (written_on direction) w) end)
+          → Connects edges (k + 1) (option_to_list (written_on direction x) ++ symbols_on (written_on direction) w) end
       by None none e on =
           let edge : Edge Pair = record { from = p; letter = Some x; to = q } in
-          step k i p (written_on way x) (record { place = i; state = q }) (symbols_on (written_on way) w) at
-          (move_of way edge, (are (move_of way edge)).1 (edge, held, refl), refl, subst (λ r. Reads word r i i) (sym none) refl, refl, refl)
+          step k i p (written_on direction x) (record { place = i; state = q }) (symbols_on (written_on direction) w) at
+          (move_of direction edge, (are (move_of direction edge)).1 (edge, held, refl), refl, subst (λ r. Reads word r i i) (sym none) refl, refl, refl)
           (λ j there. on j i there e)
       by (Some s) some e on =
           let edge : Edge Pair = record { from = p; letter = Some x; to = q } in
-          let r = drop_first word i s (symbols_on (read_on way) w) e in
-          step k i p (written_on way x) (record { place = i + 1; state = q }) (symbols_on (written_on way) w) at
-          (move_of way edge, (are (move_of way edge)).1 (edge, held, refl), refl, subst (λ r. Reads word r i (i + 1)) (sym some) (r.0, refl), refl, refl)
+          let r = drop_first word i s (symbols_on (read_on direction) w) e in
+          step k i p (written_on direction x) (record { place = i + 1; state = q }) (symbols_on (written_on direction) w) at
+          (move_of direction edge, (are (move_of direction edge)).1 (edge, held, refl), refl, subst (λ r. Reads word r i (i + 1)) (sym some) (r.0, refl), refl, refl)
           (λ j there. on j (i + 1) there r.1)
   writes {q = p} (skip {q = q} {w = w} held rest) k i at is =
       let edge : Edge Pair = record { from = p; letter = None; to = q } in
-      step k i p None (record { place = i; state = q }) (symbols_on (written_on way) w) at
-      (move_of way edge, (are (move_of way edge)).1 (edge, held, refl), refl, refl, refl, refl)
+      step k i p None (record { place = i; state = q }) (symbols_on (written_on direction) w) at
+      (move_of direction edge, (are (move_of direction edge)).1 (edge, held, refl), refl, refl, refl, refl)
       (λ j there. writes rest j i there is)
 
   -- from the configuration the network reads the rest of the word, and writes this
   abbrev ReadsBack : ℕ → ℕ → List Sym → Type 0
-  ReadsBack i q w = (pairs : List Pair) × AcceptsFrom m q pairs × (symbols_on (read_on way) pairs ≡ drop i word) × (symbols_on (written_on way) pairs ≡ w)
+  ReadsBack i q w = (pairs : List Pair) × AcceptsFrom m q pairs × (symbols_on (read_on direction) pairs ≡ drop i word) × (symbols_on (written_on direction) pairs ≡ w)
 
-  along : (i q : ℕ) (d : Config) (letter : Option Pair) (out : Option Sym) (w : List Sym) → Contains m.edges (record { from = q; letter = letter; to = d.state }) → Reads word (option_and_then (read_on way) letter) i d.place → option_and_then (written_on way) letter ≡ out → ReadsBack d.place d.state w → ReadsBack i q (option_to_list out ++ w)
+  along : (i q : ℕ) (d : Config) (letter : Option Pair) (out : Option Sym) (w : List Sym) → Contains m.edges (record { from = q; letter = letter; to = d.state }) → Reads word (option_and_then (read_on direction) letter) i d.place → option_and_then (written_on direction) letter ≡ out → ReadsBack d.place d.state w → ReadsBack i q (option_to_list out ++ w)
   along i q d None out w held here letter (pairs, accepted, reads, writes) =
       (pairs, skip held accepted, reads ∙ ap (λ n. drop n word) here, writes ∙ ap (λ l. option_to_list l ++ w) letter)
   along i q d (Some pair) out w held reads letter (pairs, accepted, left, writes) =
-      (pair ∷ pairs, read held accepted, by (read_on way pair) reads, ap (λ v. option_to_list (written_on way pair) ++ v) writes ∙ ap (λ l. option_to_list l ++ w) letter)
+      (pair ∷ pairs, read held accepted, by (read_on direction pair) reads, ap (λ v. option_to_list (written_on direction pair) ++ v) writes ∙ ap (λ l. option_to_list l ++ w) letter)
     where
-      by : (r : Option Sym) → Reads word r i d.place → option_to_list r ++ symbols_on (read_on way) pairs ≡ drop i word
+      by : (r : Option Sym) → Reads word r i d.place → option_to_list r ++ symbols_on (read_on direction) pairs ≡ drop i word
       by None here = left ∙ ap (λ n. drop n word) here
       by (Some s) (there, on) = ap (λ v. s ∷ v) (left ∙ ap (λ n. drop n word) on) ∙ first_drop word i s there
 
@@ -128,12 +123,12 @@ module _ (way : Way) (m : Automaton Pair) (moves : List Move) (are : AreMoves wa
           (subst (λ r. Reads word r i d.place) (ap (λ v. v.at.read) e.2) reads) (sym (ap (λ v. v.write) e.2) ∙ letter)
           (on j d.place d.state there (subst (λ n. IsPath edges n path end) node rest))
 
-  pub part_words : (written : List Sym) → Writes edges written ↔ IsRelatedBy way m word written
+  pub part_words : (written : List Sym) → Writes edges written ↔ IsRelatedBy direction m word written
   part_words written = (
     λ (path, is, letters).
-        let r = reads_back path 0 0 0 explored.start is in (related_by way m word written).1 (r.0, r.1, r.2, r.3 ∙ letters),
+        let r = reads_back path 0 0 0 explored.start is in (related_by direction m word written).1 (r.0, r.1, r.2, r.3 ∙ letters),
     λ related.
-        let r = (related_by way m word written).0 related in
+        let r = (related_by direction m word written).0 related in
         subst (λ v. Connects edges start v end) r.3 (writes r.1 0 0 explored.start r.2),
   )
 
@@ -153,12 +148,12 @@ module _ (way : Way) (m : Automaton Pair) (moves : List Move) (are : AreMoves wa
   written_of f None s e = cc
   written_of f (Some pair) s e = (pair, refl, e)
 
-  step_writes : (c : Config) (letter : Option Sym) (t : Option Config) (s : Sym) → letter ≡ Some s → Steps moves m.finals word c letter t → IsWritten way m s
+  step_writes : (c : Config) (letter : Option Sym) (t : Option Config) (s : Sym) → letter ≡ Some s → Steps moves m.finals word c letter t → IsWritten direction m s
   step_writes c letter None s is (none, past, final) = let e : None ≡ Some s = sym none ∙ is in cc
   step_writes c letter (Some d) s is (move, has, state, reads, writes, to) =
       let e = (are move).0 has in
-      let r = written_of (written_on way) e.0.letter s (sym (ap (λ v. v.write) e.2) ∙ writes ∙ is) in
+      let r = written_of (written_on direction) e.0.letter s (sym (ap (λ v. v.write) e.2) ∙ writes ∙ is) in
       (r.0, (e.0, e.1, r.1), r.2)
 
-  pub part_symbols : (e : Edge Sym) (s : Sym) → Contains edges e → e.letter ≡ Some s → IsWritten way m s
+  pub part_symbols : (e : Edge Sym) (s : Sym) → Contains edges e → e.letter ≡ Some s → IsWritten direction m s
   part_symbols e s held is = let r = explored.only e held in step_writes r.1 e.letter r.2 s is r.6

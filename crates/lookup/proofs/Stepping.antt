@@ -1,19 +1,15 @@
 -- The steps from a configuration: along the moves that read nothing, and along those that read the symbol at its
 -- place, or to the end.
-use Rattle.std.proofs.Common.{◌≡◌, ℕ, ◌+◌, ◌≤◌, ◌↔◌, ◌⊎◌, List, Bool, Option, None, Some, length, refl, subst, sym, ap, inl, inr, arith, ◌∙◌}
+use Rattle.std.proofs.Common.{◌≡◌, ℕ, ◌+◌, ◌≤◌, ◌⊎◌, List, Bool, Option, None, Some, length, refl, subst, sym, ap, inl, inr, arith, ◌∙◌}
 use Rattle.std.specs.List.{Contains, slice_get}
 use Rattle.std.proofs.lemmas.Option.{slice_get_within, same_Some}
 use Rattle.fsm_base.specs.declared.letters.Sym.{Sym}
 use Rattle.lookup.specs.declared.explored.Config.{Config}
-use Rattle.lookup.specs.declared.moves.Move.{Move}
-use Rattle.lookup.specs.declared.moves.Spot.{Spot}
+use Rattle.lookup_walk.specs.declared.moves.Move.{Move}
+use Rattle.lookup_walk.proofs.Runs.{AreAt}
 use Rattle.lookup.specs.Reached.{Reached, AddsSteps}
 use Rattle.lookup.specs.Steps.{Reads, Steps, Follows, Ends}
 use Rattle.lookup.proofs.Adding.{AddsSteps-then}
-
--- the moves at a spot
-abbrev pub AreAt : List Move → Spot → List Move → Type 0
-AreAt moves spot out = (m : Move) → Contains out m ↔ (Contains moves m × (m.at ≡ spot))
 
 module _ (moves : List Move) (finals : List Bool) (word : List Sym) (c : Config) where
   -- along a move at the spot, which leads on as it reads

@@ -1,7 +1,4 @@
-pub mod Answering
+pub use Rattle.lookup_walk.specs.Answering
 pub mod OneKind
-pub mod Moves
-pub mod Sorted
-pub mod Nets
 pub mod Steps
 pub mod Reached

@@ -6,7 +6,7 @@ use Rattle.fsm_base.specs.declared.letters.Pair.{Pair}
 use Rattle.fsm_words.specs.Answers.{Answers, Found}
 use Rattle.lookup_answers.specs.OneKind.{IsSameKind}
 use Rattle.fsa.specs.Automaton.{Automaton}
-use Rattle.lookup.specs.Answering.{LowerTexts, UpperTexts}
+use Rattle.lookup_walk.specs.Answering.{LowerTexts, UpperTexts}
 
 -- answers that are both lawful for the upper words of a word are of one kind
 abbrev pub OneKindOfUpper : Type 0

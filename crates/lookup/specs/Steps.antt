@@ -2,7 +2,7 @@
 -- 6.1.4, for automata with a stack): how many symbols were read, and the state that was reached.
 use Rattle.std.specs.Prelude.{◌≡◌, ◌+◌, ◌≤◌, ℕ, List, Bool, true, Option, None, Some, Contains, slice_get, length}
 use Rattle.fsm_base.specs.declared.letters.Sym.{Sym}
-use Rattle.lookup.specs.declared.moves.Move.{Move}
+use Rattle.lookup_walk.specs.declared.moves.Move.{Move}
 use Rattle.lookup.specs.declared.explored.Config.{Config}
 
 -- reading the symbol, or nothing, leads from the first place of the word to the second

@@ -2,20 +2,17 @@
 //!
 //! - [`Net`]: a network, ready for look-ups.
 //! - [`up`], [`down`]: the upper words of a lower word, and the lower words of an upper one, as an [`Answer`].
-//!   fst_relation says what a network relates, `specs/Answering.antt` and fsm_words' `specs/Answers.antt` which
-//!   answer is lawful.
+//!   fst_relation says what a network relates, lookup_walk's `specs/Answering.antt` and fsm_words'
+//!   `specs/Answers.antt` which answer is lawful.
 //! - [`one_kind`]: the law that no two kinds of answer are lawful for one word.
 #![tactic(auto)]
 
 mod explored;
 mod laws;
 mod look;
-mod moves;
-mod net;
 mod part;
-mod table;
 
 pub use laws::one_kind;
 pub use look::{down, up};
 pub use lookup_answers::Answer;
-pub use net::Net;
+pub use lookup_walk::Net;

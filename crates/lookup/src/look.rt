@@ -6,16 +6,15 @@ ghost use Rattle.lookup_graph.specs.Graph.{IsWithin};
 ghost use Rattle.lookup_graph.specs.Turns.{IsTurn};
 ghost use Rattle.lookup_texts.specs.GraphTexts.{AreOf, GraphTexts};
 ghost use Rattle.lookup_answers.specs.Answers.{found_of};
-ghost use Rattle.lookup.specs.Answering.{IsOverAlphabet, LowerTexts, TextsBy, UpperTexts};
+ghost use Rattle.lookup_walk.specs.Answering.{IsOverAlphabet, LowerTexts, TextsBy, UpperTexts};
 
-use crate::moves::Way;
-use crate::net::Net;
 use crate::part::part_of;
 use fsa::Edge;
 use fsm_base::{Alphabet, Sym};
-use lookup_answers::Answer;
+use lookup_answers::{Answer, Direction};
 use lookup_graph::{Turn, find_turn, useful};
 use lookup_texts::texts_of;
+use lookup_walk::{Net, walked};
 use std::alloc::{AllocError, Global};
 
 /// The upper words that a network relates to a lower word, as texts of the alphabet.
@@ -26,7 +25,7 @@ pub fn up(alloc: Global, net: &Net, alphabet: &Alphabet, word: &[Sym]) -> Result
     requires { IsOverAlphabet alphabet.now net.now }
     ensures { IfOk result (λ answer. Answers (UpperTexts net.now alphabet.now word.now) (found_of answer)) }
 {
-    look(alloc, net, Way::Up, alphabet, word)
+    look(alloc, net, Direction::Up, alphabet, word)
 }
 
 /// The lower words that a network relates to an upper word, as texts of the alphabet.
@@ -42,21 +41,40 @@ pub fn down(
     requires { IsOverAlphabet alphabet.now net.now }
     ensures { IfOk result (λ answer. Answers (LowerTexts net.now alphabet.now word.now) (found_of answer)) }
 {
-    look(alloc, net, Way::Down, alphabet, word)
+    look(alloc, net, Direction::Down, alphabet, word)
 }
 
-/// The words that a network relates to a word, in one way or the other.
+/// The words that a network relates to a word, in one direction or the other. Most words have few runs, and are answered by
+/// taking these; a search that puts together what goes on alike answers the others.
 fn look(
     alloc: Global,
     net: &Net,
-    way: Way,
+    direction: Direction,
     alphabet: &Alphabet,
     word: &[Sym],
 ) -> Result<Answer, AllocError>
     requires { IsOverAlphabet alphabet.now net.now }
-    ensures { IfOk result (λ answer. Answers (TextsBy way net.now alphabet.now word.now) (found_of answer)) }
+    ensures { IfOk result (λ answer. Answers (TextsBy direction net.now alphabet.now word.now) (found_of answer)) }
 {
-    let part = part_of(alloc, net, way, word)?;
+    if let Some(texts) = walked(alloc, net, direction, alphabet, word)? {
+        return Ok(Answer::Strings(texts));
+    }
+    let answer = search(alloc, net, direction, alphabet, word)?;
+    Ok(answer)
+}
+
+/// The words that a network relates to a word, by the part of the network that the word reaches.
+fn search(
+    alloc: Global,
+    net: &Net,
+    direction: Direction,
+    alphabet: &Alphabet,
+    word: &[Sym],
+) -> Result<Answer, AllocError>
+    requires { IsOverAlphabet alphabet.now net.now }
+    ensures { IfOk result (λ answer. Answers (TextsBy direction net.now alphabet.now word.now) (found_of answer)) }
+{
+    let part = part_of(alloc, net, direction, word)?;
     let edges = useful(alloc, &part.edges, part.count)?;
     let answer = answer_of(alloc, alphabet, &edges, part.count)?;
     Ok(answer)

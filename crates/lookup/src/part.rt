@@ -2,16 +2,15 @@ ghost use Rattle.std.specs.Prelude.{◌≡◌, ◌<◌, ◌↔◌, List, Some, t
 ghost use Rattle.fsm_base.specs.declared.letters.Sym.{Sym};
 ghost use Rattle.fsa.specs.declared.automaton.Edge.{Edge};
 ghost use Rattle.lookup_graph.specs.Graph.{IsWithin, Writes};
-ghost use Rattle.lookup.specs.Moves.{IsRelatedBy, IsWritten};
+ghost use Rattle.lookup_walk.specs.Moves.{IsRelatedBy, IsWritten};
 ghost use Rattle.lookup.specs.Steps.{Ends, Follows, Steps};
 ghost use Rattle.lookup.specs.Reached.{AddsSteps, IsExplored};
 
 use crate::explored::{Config, Explored};
-use crate::moves::{Move, Spot, Way};
-use crate::net::Net;
-use crate::table::Table;
 use fsa::Edge;
 use fsm_base::Sym;
+use lookup_answers::Direction;
+use lookup_walk::{Move, Net, Spot, Table, is_final};
 use std::alloc::{AllocError, Global};
 
 /// The part of a network that a word reaches, as a graph whose letters are the symbols that are written.
@@ -24,13 +23,18 @@ pub(crate) struct Part {
 
 /// The part of a network that a word reaches. The graph writes just the words that the network relates to the
 /// word.
-pub(crate) fn part_of(alloc: Global, net: &Net, way: Way, word: &[Sym]) -> Result<Part, AllocError>
+pub(crate) fn part_of(
+    alloc: Global,
+    net: &Net,
+    direction: Direction,
+    word: &[Sym],
+) -> Result<Part, AllocError>
     ensures within { IfOk result (λ part. IsWithin part.edges.items part.count) }
     ensures start { IfOk result (λ part. 1 < part.count) }
-    ensures symbols { IfOk result (λ part. (e : Edge Sym) (symbol : Sym) → Contains part.edges.items e → e.letter ≡ Some symbol → IsWritten way net.now symbol) }
-    ensures words { IfOk result (λ part. (written : List Sym) → Writes part.edges.items written ↔ IsRelatedBy way net.now word.now written) }
+    ensures symbols { IfOk result (λ part. (e : Edge Sym) (symbol : Sym) → Contains part.edges.items e → e.letter ≡ Some symbol → IsWritten direction net.now symbol) }
+    ensures words { IfOk result (λ part. (written : List Sym) → Writes part.edges.items written ↔ IsRelatedBy direction net.now word.now written) }
 {
-    let explored = explore(alloc, net.table(way), net.finals(), word)?;
+    let explored = explore(alloc, net.table(direction), net.finals(), word)?;
     let count = explored.len() + 1;
     Ok(Part {
         edges: explored.into_edges(),
@@ -110,11 +114,4 @@ fn end(
         explored.add(node, None, None)?;
     }
     Ok(())
-}
-
-/// Whether a state is final.
-fn is_final(finals: &[bool], state: usize) -> bool
-    ensures { IsTrue result ↔ (slice_get finals.now state ≡ Some true) }
-{
-    finals.get(state).copied().unwrap_or(false)
 }

@@ -1,1 +1,2 @@
 pub mod AnswerKinds
+pub mod OneList

@@ -3,7 +3,8 @@
 //!
 //! A row is `up SYMBOL .. | EDGE, ..` or `down SYMBOL .. | EDGE, ..`: a word, and the edges of a network. An edge is
 //! `FROM UP:LOW TO`, its states and its symbols, where `0` is no symbol. The symbols are `a`, `b`, `ab` and `é`, the
-//! start is state 0, and the last state is final. A row with another first word, as `#`, does nothing.
+//! start is state 0, and the last state is final. An empty line, and one that begins with `#`,
+//! says nothing; a line with another first word is told.
 #![tactic(auto)]
 
 mod network;
@@ -62,7 +63,8 @@ fn said_of_row(alloc: Global, row: &str) -> Result<Option<String>, AllocError> {
     let answer = match way {
         "up" => up(alloc, &net, &alphabet, &word)?,
         "down" => down(alloc, &net, &alphabet, &word)?,
-        _ => return Ok(None),
+        "" | "#" => return Ok(None),
+        _ => return Ok(Some(String::from_str(alloc, "no such row")?)),
     };
     Ok(Some(said_of_answer(alloc, &answer)?))
 }

@@ -28,7 +28,9 @@ fn ends_words(rt: &HostRuntime, place: usize) -> bool {
 /// The arguments before a place alone, so that those behind it aren't read.
 #[derive(Clone, Copy)]
 struct Front<'a> {
+    /// The process.
     rt: &'a HostRuntime,
+    /// The place of the first argument that is left out.
     end: usize,
 }
 

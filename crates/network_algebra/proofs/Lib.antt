@@ -4,5 +4,6 @@ pub mod WordAlone
 pub mod Steps
 pub mod Counted
 pub mod Meanings
-pub mod Reduced
+pub mod Smaller
+pub mod PlainStart
 pub mod CrossedLetters

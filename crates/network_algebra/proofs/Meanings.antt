@@ -171,6 +171,13 @@ pub repeated_pairs : (C : ℕ → Type 0) (x m : Automaton Pair) → ((w : List 
 repeated_pairs C x m language =
     same_trans (IsRelated m) (RelatedIn (IsRepetitionOf C (Accepts x))) (IsRepetitionOfPairs C (IsRelated x)) (related_same (Accepts m) (IsRepetitionOf C (Accepts x)) language) (related_repeated (Accepts x) C)
 
+-- a smaller automaton
+pub reduced_words : (x m : Automaton (Bound Sym)) → ((w : List (Bound Sym)) → Accepts m w ↔ Accepts x w) → IsFor Language (Accepts x) (IsItself (Accepts x)) (Words m)
+reduced_words x m language = words_for m (Accepts x) (IsItself (Accepts x)) language (as_it_is (Accepts x))
+
+pub reduced_pairs : (x m : Automaton Pair) → ((w : List Pair) → Accepts m w ↔ Accepts x w) → IsFor Relation (WordsOf (Pairs x)) (IsRelated x) (Pairs m)
+reduced_pairs x m language = pairs_for Relation m (WordsOf (Pairs x)) (IsRelated x) refl (related_same (Accepts m) (Accepts x) language)
+
 -- read backwards
 one_backwards : {X : Type 0} (o : Option X) → reverse (option_to_list o) ≡ option_to_list o
 one_backwards None = refl

@@ -2,3 +2,4 @@ pub mod Networks
 pub mod Renamed
 pub mod Words
 pub mod Crossing
+pub mod Optional

@@ -1,6 +1,6 @@
 -- Networks: the automata of languages and the transducers of relations, as the operators of expressions see them
 -- (Beesley and Karttunen, Finite State Morphology, 2003, section 2.3).
-use Rattle.std.specs.Prelude.{◌≡◌, ◌↔◌, ℕ, List, ◌∷◌, Contains}
+use Rattle.std.specs.Prelude.{◌≡◌, ◌≤◌, ◌↔◌, ℕ, List, ◌∷◌, Contains}
 use Rattle.fsm_base.specs.declared.letters.Sym.{Sym}
 use Rattle.fsm_base.specs.declared.letters.Pair.{Pair}
 use Rattle.fsm_base.specs.declared.letters.Bound.{Bound}
@@ -71,3 +71,7 @@ abbrev pub Counts : Times → ℕ → Type 0
 Counts Any count = AnyNumber count
 Counts AtLeastOne count = OneOrMore count
 Counts (Exactly n) count = Just n count
+
+-- at most so many
+abbrev pub AtMost : ℕ → ℕ → Type 0
+AtMost n count = count ≤ n

@@ -8,9 +8,9 @@ ghost use Rattle.fst_relation.specs.Relation.{IsRelated};
 ghost use Rattle.fst_algebra.specs.Relations.{UsesLower, UsesUpper};
 ghost use Rattle.network_algebra.specs.Crossing.{crossed, crossed_pairs, only_step};
 
-use crate::words::one_of;
 use fsa::{Edge, Fsa};
 use fsm_base::{Pair, Sym};
+use lang_algebra::one_letter;
 use std::alloc::{AllocError, Global};
 
 /// The letters of an automaton whose words all have one letter, as far as that shows at once: it has a start and an
@@ -72,7 +72,7 @@ pub fn crossed_letters(alloc: Global, xs: &[Sym], ys: &[Sym]) -> Result<Fsa<Pair
     ensures relation { IfOk result (λ m. AreSame (IsRelated m) (IsCross (IsOneLetter xs.now) (IsOneLetter ys.now))) }
 {
     let pairs = pairs_of(alloc, xs, ys)?;
-    one_of(alloc, &pairs)
+    one_letter(alloc, &pairs)
 }
 
 /// A pair of each of the first letters with each of the second.

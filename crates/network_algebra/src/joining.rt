@@ -7,27 +7,37 @@ ghost use Rattle.network_algebra.specs.Networks.{IsFor, IsNetwork, PairsOf, Word
 
 use crate::network::Network;
 use crate::operands::{Operands, alike};
-use crate::rational;
 use std::alloc::{AllocError, Global};
 
-/// What one network and then another is.
+/// What one network and then another is. It isn't reduced, so that a long row is joined first and reduced once.
 pub fn concat(alloc: Global, a: Network, b: Network) -> Result<Network, AllocError>
     ensures letters { IfOk result (λ n. (symbols : List Sym) → IsNetwork symbols a → IsNetwork symbols b → IsNetwork symbols n) }
     ensures meaning { IfOk result (IsFor (both (kind_of_network a) (kind_of_network b)) (IsConcatenation (WordsOf a) (WordsOf b)) (IsConcatenationOfPairs (PairsOf a) (PairsOf b))) }
 {
     match alike(alloc, a, b)? {
-        Operands::Words(x, y) => Ok(Network::Words(rational::concat(alloc, &x, &y)?)),
-        Operands::Pairs(x, y) => Ok(Network::Pairs(rational::concat(alloc, &x, &y)?)),
+        Operands::Words(x, y) => Ok(Network::Words(fsa_rational::concat(alloc, &x, &y)?)),
+        Operands::Pairs(x, y) => Ok(Network::Pairs(fsa_rational::concat(alloc, &x, &y)?)),
     }
 }
 
-/// What either of two networks is.
+/// What either of two networks is. It isn't reduced, as what `concat` gives.
 pub fn union(alloc: Global, a: Network, b: Network) -> Result<Network, AllocError>
     ensures letters { IfOk result (λ n. (symbols : List Sym) → IsNetwork symbols a → IsNetwork symbols b → IsNetwork symbols n) }
     ensures meaning { IfOk result (IsFor (both (kind_of_network a) (kind_of_network b)) (λ w. WordsOf a w ⊎ WordsOf b w) (λ u w. PairsOf a u w ⊎ PairsOf b u w)) }
 {
     match alike(alloc, a, b)? {
-        Operands::Words(x, y) => Ok(Network::Words(rational::union(alloc, &x, &y)?)),
-        Operands::Pairs(x, y) => Ok(Network::Pairs(rational::union(alloc, &x, &y)?)),
+        Operands::Words(x, y) => Ok(Network::Words(fsa_rational::union(alloc, &x, &y)?)),
+        Operands::Pairs(x, y) => Ok(Network::Pairs(fsa_rational::union(alloc, &x, &y)?)),
+    }
+}
+
+/// A smaller network that is the same. Takes time in proportion to its edges, which are sorted.
+pub fn reduced(alloc: Global, network: &Network) -> Result<Network, AllocError>
+    ensures letters { IfOk result (λ n. (symbols : List Sym) → IsNetwork symbols network.now → IsNetwork symbols n) }
+    ensures meaning { IfOk result (IsFor (kind_of_network network.now) (WordsOf network.now) (PairsOf network.now)) }
+{
+    match network {
+        Network::Words(m) => Ok(Network::Words(fsa_reduce::reduced(alloc, m)?)),
+        Network::Pairs(m) => Ok(Network::Pairs(fsa_reduce::reduced(alloc, m)?)),
     }
 }

@@ -2,9 +2,11 @@
 //! section 2.3). Read `specs/Networks.antt` first.
 //!
 //! - [`Network`]: the automaton of a language or the transducer of a relation.
-//! - [`word`], [`one_of`]: automata of leaves.
+//! - [`word`]: the automaton of leaves side by side.
 //! - [`concat`], [`union`], [`repeated`]: of languages and of relations; a language beside a relation stands for its
 //!   identity.
+//! - [`reduced`]: a smaller network that is the same. Rows are joined by [`concat`] and [`union`], which leave what they
+//!   make as it is, and reduced once; every other operator reduces what it makes.
 //! - [`upper`], [`lower`], [`inverse`], [`reversed`], [`cross`]: what turns one kind into the other, or the sides.
 #![tactic(auto)]
 
@@ -13,6 +15,7 @@ mod joining;
 mod letters;
 mod network;
 mod operands;
+mod optional;
 mod rational;
 mod relations;
 mod renaming;
@@ -20,11 +23,11 @@ mod repeating;
 mod sides;
 mod words;
 
-pub use joining::{concat, union};
+pub use joining::{concat, reduced, union};
 pub use letters::{every_letter, inner_letters, inside, with_edge};
 pub use network::Network;
 pub use operands::{Operands, alike};
 pub use renaming::{Renaming, renamed};
 pub use repeating::{Times, repeated};
 pub use sides::{cross, inverse, lower, reversed, upper};
-pub use words::{one_of, word};
+pub use words::word;

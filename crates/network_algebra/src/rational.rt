@@ -1,4 +1,4 @@
-ghost use Rattle.std.specs.Prelude.{◌↔◌, ◌⊎◌, IfOk, List};
+ghost use Rattle.std.specs.Prelude.{◌↔◌, ◌⊎◌, IfOk, List, reverse};
 ghost use Rattle.fsm_words.specs.Words.{IsConcatenation, IsRepetition};
 ghost use Rattle.fsa.specs.Automaton.{UsesLetter};
 ghost use Rattle.fsa.specs.Language.{Accepts};
@@ -30,4 +30,12 @@ pub fn star<L: Letter>(alloc: Global, a: &Fsa<L>) -> Result<Fsa<L>, AllocError>
     ensures language { IfOk result (λ m. (w : List L) → Accepts m w ↔ IsRepetition (Accepts a.now) w) }
 {
     reduced(alloc, &fsa_rational::star(alloc, a)?)
+}
+
+/// The reduced automaton of the words read backwards.
+pub fn reverse<L: Letter>(alloc: Global, a: &Fsa<L>) -> Result<Fsa<L>, AllocError>
+    ensures letters { IfOk result (λ m. (x : L) → UsesLetter m x → UsesLetter a.now x) }
+    ensures language { IfOk result (λ m. (w : List L) → Accepts m w ↔ Accepts a.now (reverse w)) }
+{
+    reduced(alloc, &fsa_rational::reverse(alloc, a)?)
 }

@@ -8,7 +8,7 @@ ghost use Rattle.network_algebra.specs.Networks.{IsFor, IsNetwork, PairsOf, Uses
 
 use crate::letters::{inside, with_edge};
 use crate::network::Network;
-use crate::relations;
+use crate::{rational, relations};
 use fsa::Fsa;
 use fsm_base::{Bound, Sym};
 use std::alloc::{AllocError, Global};
@@ -48,8 +48,8 @@ pub fn reversed(alloc: Global, network: Network) -> Result<Network, AllocError>
     ensures meaning { IfOk result (IsFor (kind_of_network network) (λ w. WordsOf network (reverse w)) (λ u w. PairsOf network (reverse u) (reverse w))) }
 {
     match network {
-        Network::Words(m) => Ok(Network::Words(fsa_rational::reverse(alloc, &m)?)),
-        Network::Pairs(m) => Ok(Network::Pairs(fsa_rational::reverse(alloc, &m)?)),
+        Network::Words(m) => Ok(Network::Words(rational::reverse(alloc, &m)?)),
+        Network::Pairs(m) => Ok(Network::Pairs(rational::reverse(alloc, &m)?)),
     }
 }
 

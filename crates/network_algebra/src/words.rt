@@ -2,7 +2,6 @@ ghost use Rattle.std.specs.Prelude.{◌≡◌, ◌<◌, ◌↔◌, ◌++◌, [],
 ghost use Rattle.fsa.specs.Automaton.{UsesLetter};
 ghost use Rattle.fsa.specs.Language.{Accepts};
 ghost use Rattle.fsa.specs.declared.automaton.Edge.{Edge};
-ghost use Rattle.fsm_words.specs.Operations.{IsOneLetter};
 ghost use Rattle.network_algebra.specs.Words.{IsStep};
 
 use fsa::{Edge, Fsa};
@@ -43,22 +42,4 @@ fn add_steps<L: Letter>(m: &mut Fsa<L>, letters: &[L]) -> Result<(), AllocError>
         })?;
     }
     Ok(())
-}
-
-/// The automaton of the words of one of these letters.
-pub fn one_of<L: Letter>(alloc: Global, letters: &[L]) -> Result<Fsa<L>, AllocError>
-    ensures letters { IfOk result (λ m. (x : L) → UsesLetter m x → Contains letters.now x) }
-    ensures language { IfOk result (λ m. (w : List L) → Accepts m w ↔ IsOneLetter letters.now w) }
-{
-    let mut m = Fsa::new(alloc)?;
-    let end = m.add_state()?;
-    m.set_final(end);
-    for letter in letters {
-        m.add_edge(Edge {
-            from: 0,
-            letter: Some(*letter),
-            to: end,
-        })?;
-    }
-    Ok(m)
 }

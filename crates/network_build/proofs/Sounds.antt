@@ -9,6 +9,7 @@ use Rattle.fsm_base.specs.declared.letters.Sym.{Sym as Symbol}
 use Rattle.fsm_base.specs.declared.letters.Pair.{Pair}
 use Rattle.fsm_words.specs.Relations.{AreSame}
 use Rattle.fsa.specs.Automaton.{Automaton, UsesLetter}
+use Rattle.fsa.specs.Language.{Accepts}
 use Rattle.fst_relation.specs.Relation.{IsRelated}
 use Rattle.lookup.specs.Answering.{IsOverAlphabet}
 use Rattle.regex_ast.specs.declared.expr.Atom.{Atom}
@@ -98,6 +99,18 @@ transducer_over_own alphabet own e r mine law =
       relation = same_over (IsRelated m) (Relates stands_for own e) (Relates stands_for alphabet e) same law;
       symbols = uses_own_symbols alphabet own e m mine uses;
     })
+
+-- an automaton of the same language, with no other letters
+pub transducer_straight : (alphabet : List Symbol) (e : Term Atom) (m n : Automaton Pair) → ((x : Pair) → UsesLetter n x → UsesLetter m x) → ((w : List Pair) → Accepts n w ↔ Accepts m w)
+    → IsTransducerOf alphabet e m → IsTransducerOf alphabet e n
+transducer_straight alphabet e m n letters language made = record {
+  relation = same_over (IsRelated n) (IsRelated m) (Relates stands_for alphabet e)
+      (λ upper lower. (
+        λ (pairs, accepted, is_upper, is_lower). (pairs, (language pairs).0 accepted, is_upper, is_lower),
+        λ (pairs, accepted, is_upper, is_lower). (pairs, (language pairs).1 accepted, is_upper, is_lower),
+      )) made.relation;
+  symbols = λ pair s used side. made.symbols pair s (letters pair used) side;
+}
 
 -- the same automaton over the same alphabet
 pub transducer_kept : (given alphabet : List Symbol) (e : Term Atom) (m n : Automaton Pair) → given ≡ alphabet → n ≡ m

@@ -7,6 +7,7 @@
 mod compiled;
 mod expression;
 mod network;
+mod straight;
 mod symbols;
 
 pub use compiled::{BuildError, Compiled};

@@ -12,6 +12,7 @@ ghost use Rattle.network_build.specs.Networks.{IsTransducerOf, UsesSymbolsOf};
 
 use crate::compiled::{BuildError, Compiled};
 use crate::expression::transducer_of;
+use crate::straight::straightened;
 use fsa::Fsa;
 use fsm_base::{Alphabet, Pair, Sym};
 use lookup::Net;
@@ -30,7 +31,7 @@ fn transducer_of_body(alloc: Global, alphabet: &[Sym], body: &Body) -> Result<Fs
 }
 
 /// The network of a definition of a plan, over the symbols of the plan: it relates just the words that the definition
-/// relates. An `Err` comes only where there is no memory.
+/// relates, and is deterministic where that makes it little larger. An `Err` comes only where there is no memory.
 pub fn build(
     alloc: Global,
     definition: &Definition,
@@ -42,6 +43,7 @@ pub fn build(
     ensures alphabet { IfOk result (λ c. IsOverAlphabet alphabet.now c.net) }
 {
     let transducer = transducer_of_body(alloc, alphabet.symbols(), &definition.body)?;
-    let net = Net::of(alloc, &transducer)?;
+    let straight = straightened(alloc, transducer)?;
+    let net = Net::of(alloc, &straight)?;
     Ok(Compiled { net })
 }

@@ -3,3 +3,4 @@ pub mod Alike
 pub mod Rows
 pub mod Meant
 pub mod LeafWords
+pub mod Repeats

@@ -57,6 +57,10 @@ for_same k j P Q R S n is f g h = record {
 pub for_itself : (n : Network) → IsFor (kind_of_network n) (WordsOf n) (PairsOf n) n
 for_itself n = record { kind_is = refl; words = λ language w. (λ h. h, λ h. h); pairs = λ u w. (λ h. h, λ h. h) }
 
+-- a smaller network that is the same
+pub reduced_for : (K : Kind) (P : List (Bound Sym) → Type 0) (R : List Sym → List Sym → Type 0) (n r : Network) → IsFor K P R n → IsFor (kind_of_network n) (WordsOf n) (PairsOf n) r → IsFor K P R r
+reduced_for K P R n r f h = for_same (kind_of_network n) K (WordsOf n) P (PairsOf n) R r f.kind_is f.words f.pairs h
+
 -- two operands
 module _ (K J : Kind) (P Q : List (Bound Sym) → Type 0) (R S : List Sym → List Sym → Type 0) (a b r : Network) (f : IsFor K P R a) (g : IsFor J Q S b) where
   kinds : both (kind_of_network a) (kind_of_network b) ≡ both K J
@@ -251,6 +255,13 @@ module _ (alphabet : List Sym) where
       (same_back (RelatesChain stands_for alphabet NoWord NoPair (links_of (xs ++ ys))) (RelatesChain stands_for alphabet P R (links_of ys)) (chain_pairs_split alphabet xs ys NoWord NoPair))
       (choice_for K P R ys r all (union_for K J P Q R S a b r f g h)))
 
+  -- the operand of one `|`
+  pub alone_chosen : (e : Term Atom) (n : Network) → IsMeant alphabet e n → IsFor (kind_of_chain leaves Language (or e no_link)) (InChain stands_for alphabet NoWord (or e no_link)) (RelatesChain stands_for alphabet NoWord NoPair (or e no_link)) n
+  alone_chosen e n meant =
+      for_same (kind_of leaves e) (kind_of leaves e) (In stands_for alphabet e) (λ w. NoWord w ⊎ In stands_for alphabet e w) (Relates stands_for alphabet e) (λ u w. NoPair u w ⊎ Relates stands_for alphabet e u w) n refl
+      (λ is w. (λ h. inr h, λ h. elim h as (λ _. In stands_for alphabet e w) [ inl none ↦ absurd none | inr here ↦ here ]))
+      (λ u w. (λ h. inr h, λ h. elim h as (λ _. Relates stands_for alphabet e u w) [ inl none ↦ absurd none | inr here ↦ here ])) meant
+
   -- nothing accepts nothing
   pub none_chosen : (m : Automaton (Bound Sym)) → ((w : List (Bound Sym)) → Accepts m w → ⊥) → IsChosen [] (Words m)
   none_chosen m none = record {
@@ -380,6 +391,9 @@ module _ (alphabet : List Sym) where
 -- letters of what was made
 pub empty_only : {L : Type 0} (among : List L) (m : Automaton L) → ((x : L) → UsesLetter m x → Contains [] x) → UsesOnly among m
 empty_only among m none x used = absurd (Contains-nil_cases x (none x used))
+
+pub given_one : (alphabet : List Sym) (n r : Network) → IsNetwork alphabet n → ((symbols : List Sym) → IsNetwork symbols n → IsNetwork symbols r) → IsNetwork alphabet r
+given_one alphabet n r first whole = whole alphabet first
 
 pub given_two : (alphabet : List Sym) (a b r : Network) → IsNetwork alphabet a → IsNetwork alphabet b → ((symbols : List Sym) → IsNetwork symbols a → IsNetwork symbols b → IsNetwork symbols r) → IsNetwork alphabet r
 given_two alphabet a b r first second whole = whole alphabet first second

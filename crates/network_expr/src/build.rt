@@ -21,7 +21,8 @@ use crate::suffixes::with_suffixes;
 use expr_forms::{Kind, form_of};
 use fsa::Fsa;
 use fsm_base::{Bound, Sym};
-use network_algebra::{Network, cross, inner_letters, one_of, union, word};
+use lang_algebra::one_letter;
+use network_algebra::{Network, cross, inner_letters, reduced, union, word};
 use network_sets::{Split, both, composed, ignoring, in_context, minus, restricted};
 use regex_ast::{Atom, Context, Expr, Link, Step};
 use std::alloc::{AllocError, Global};
@@ -38,7 +39,7 @@ pub fn network_of(alloc: Global, alphabet: &[Sym], expr: &Expr<Atom>) -> Result<
 {
     match expr {
         Expr::Empty => Ok(Network::Words(word(alloc, &[])?)),
-        Expr::Any => Ok(Network::Words(one_of(alloc, &inner_letters(alloc, alphabet)?)?)),
+        Expr::Any => Ok(Network::Words(one_letter(alloc, &inner_letters(alloc, alphabet)?)?)),
         Expr::Edge => Ok(Network::Words(word(alloc, &[Bound::Edge])?)),
         Expr::Atom(atom) => Ok(Network::Words(leaves(alloc, alphabet, &[*atom])?)),
         Expr::Letters(letters) => Ok(Network::Words(leaves(alloc, alphabet, letters)?)),
@@ -57,7 +58,7 @@ pub fn network_of(alloc: Global, alphabet: &[Sym], expr: &Expr<Atom>) -> Result<
             Ok(Network::Words(with_prefixes(alloc, alphabet, prefixes, words)?))
         }
         Expr::Ignore(operands) => Ok(Network::Words(ignored(alloc, alphabet, operands)?)),
-        Expr::Concat(operands) => in_turn(alloc, alphabet, operands),
+        Expr::Concat(operands) => reduced(alloc, &in_turn(alloc, alphabet, operands)?),
         Expr::Chain(first, links) => {
             in_chain(alloc, alphabet, network_of(alloc, alphabet, first)?, links)
         }
@@ -96,7 +97,8 @@ fn perhaps(alloc: Global, alphabet: &[Sym], inner: &Expr<Atom>) -> Result<Networ
     ensures meaning { IfOk result (IsMeant alphabet.now (maybe (term inner.now))) }
 {
     let empty = Network::Words(word(alloc, &[])?);
-    union(alloc, empty, network_of(alloc, alphabet, inner)?)
+    let either = union(alloc, empty, network_of(alloc, alphabet, inner)?)?;
+    reduced(alloc, &either)
 }
 
 /// The network of an expression with backslashes.
@@ -194,7 +196,8 @@ fn in_ignoring(
     }
 }
 
-/// The network of expressions side by side. They are joined by halves, so that each is copied a few times only.
+/// The network of expressions side by side, not reduced. They are joined by halves, so that each is copied a few times
+/// only.
 #[cycle(build)]
 fn in_turn(alloc: Global, alphabet: &[Sym], operands: &[Expr<Atom>]) -> Result<Network, AllocError>
     requires distinct { IsDistinct alphabet.now }
@@ -234,7 +237,10 @@ fn in_chain(
     match links {
         [] => Ok(before),
         [link] => in_link(alloc, alphabet, before, link),
-        _ if are_choices(links) => union(alloc, before, by_any(alloc, alphabet, links)?),
+        _ if are_choices(links) => {
+            let either = union(alloc, before, by_any(alloc, alphabet, links)?)?;
+            reduced(alloc, &either)
+        }
         _ => {
             let (front, back) = links.split_at(links.len() / 2);
             let first = in_chain(alloc, alphabet, before, front)?;
@@ -257,7 +263,7 @@ fn are_choices(links: &[Link<Atom>]) -> bool
     links.iter().all(is_choice)
 }
 
-/// The network of any of the operands of a row of `|`, joined by halves.
+/// The network of any of the operands of a row of `|`, joined by halves and not reduced.
 #[cycle(build)]
 fn by_any(alloc: Global, alphabet: &[Sym], links: &[Link<Atom>]) -> Result<Network, AllocError>
     requires distinct { IsDistinct alphabet.now }
@@ -269,13 +275,29 @@ fn by_any(alloc: Global, alphabet: &[Sym], links: &[Link<Atom>]) -> Result<Netwo
 {
     match links {
         [] => Ok(Network::Words(Fsa::new(alloc)?)),
-        [link] => in_link(alloc, alphabet, Network::Words(Fsa::new(alloc)?), link),
+        [link] => chosen(alloc, alphabet, link),
         _ => {
             let (front, back) = links.split_at(links.len() / 2);
             let first = by_any(alloc, alphabet, front)?;
             let second = by_any(alloc, alphabet, back)?;
             union(alloc, first, second)
         }
+    }
+}
+
+/// The network of the operand of a `|`.
+#[cycle(build)]
+fn chosen(alloc: Global, alphabet: &[Sym], link: &Link<Atom>) -> Result<Network, AllocError>
+    requires distinct { IsDistinct alphabet.now }
+    requires choice { IsChoice link.now }
+    requires built { LinksAreBuilt alphabet.now (links_of (link.now ∷ [])) }
+    requires fits { ChainFits leaves Kind.Language (links_of (link.now ∷ [])) }
+    ensures letters { IfOk result (IsNetwork alphabet.now) }
+    ensures meaning { IfOk result (IsFor (kind_of_chain leaves Kind.Language (links_of (link.now ∷ []))) (InChain stands_for alphabet.now (λ w. ⊥) (links_of (link.now ∷ []))) (RelatesChain stands_for alphabet.now (λ w. ⊥) (λ u w. ⊥) (links_of (link.now ∷ [])))) }
+{
+    match link {
+        Link::Or(operand) => network_of(alloc, alphabet, operand),
+        Link::And(_) | Link::Less(_) => unreachable!(),
     }
 }
 
@@ -295,7 +317,10 @@ fn in_link(
     ensures meaning { IfOk result (IsFor (kind_of_chain leaves (kind_of_network before) (links_of (link.now ∷ []))) (InChain stands_for alphabet.now (WordsOf before) (links_of (link.now ∷ []))) (RelatesChain stands_for alphabet.now (WordsOf before) (PairsOf before) (links_of (link.now ∷ [])))) }
 {
     match link {
-        Link::Or(operand) => union(alloc, before, network_of(alloc, alphabet, operand)?),
+        Link::Or(operand) => {
+            let either = union(alloc, before, network_of(alloc, alphabet, operand)?)?;
+            reduced(alloc, &either)
+        }
         Link::And(operand) => {
             let words = words_of(alloc, alphabet, operand)?;
             Ok(Network::Words(both(alloc, alphabet, &before.into_words(), &words)?))

@@ -1,7 +1,8 @@
-ghost use Rattle.std.specs.Prelude.{IfOk, List};
+ghost use Rattle.std.specs.Prelude.{◌≡◌, IfOk, IsTrue, List, Some};
 ghost use Rattle.fsm_base.specs.declared.letters.Sym.{Sym};
 ghost use Rattle.expr_forms.specs.Kinds.{kind_behind, with_suffixes};
 ghost use Rattle.expr_meaning.specs.Operators.{AreSuffixed, IsSuffixed, RelateSuffixed, RelatesSuffixed};
+ghost use Rattle.network_expr.specs.Suffixes.{IsBehind, IsSettled, Repeats};
 ghost use Rattle.network_algebra.specs.Networks.{IsFor, IsNetwork, PairsOf, WordsOf, kind_of_network};
 
 use network_algebra::{Network, Times, inverse, lower, repeated, reversed, upper};
@@ -24,22 +25,51 @@ fn with_suffix(alloc: Global, network: Network, suffix: Suffix) -> Result<Networ
     }
 }
 
-/// A network with suffixes, from left to right. They are taken by halves, so that a long row is no deep recursion.
-pub fn with_suffixes(
+/// Whether a suffix makes nothing new behind the last one.
+fn is_repeat(last: Option<Suffix>, suffix: Suffix) -> bool
+    ensures { IsTrue result → (last ≡ Some suffix) × Repeats suffix }
+{
+    matches!(
+        (last, suffix),
+        (Some(Suffix::Star), Suffix::Star)
+            | (Some(Suffix::Plus), Suffix::Plus)
+            | (Some(Suffix::Upper), Suffix::Upper)
+            | (Some(Suffix::Lower), Suffix::Lower)
+    )
+}
+
+/// A network with one suffix more behind the last one.
+fn behind_last(
     alloc: Global,
     network: Network,
+    last: Option<Suffix>,
+    suffix: Suffix,
+) -> Result<Network, AllocError>
+    requires { IsSettled last network }
+    ensures letters { IfOk result (λ n. (symbols : List Sym) → IsNetwork symbols network → IsNetwork symbols n) }
+    ensures meaning { IfOk result (IsBehind network suffix) }
+    ensures settled { IfOk result (IsSettled (Some suffix)) }
+{
+    if is_repeat(last, suffix) {
+        Ok(network)
+    } else {
+        with_suffix(alloc, network, suffix)
+    }
+}
+
+/// A network with suffixes, from left to right.
+pub fn with_suffixes(
+    alloc: Global,
+    mut network: Network,
     suffixes: &[Suffix],
 ) -> Result<Network, AllocError>
     ensures letters { IfOk result (λ n. (symbols : List Sym) → IsNetwork symbols network → IsNetwork symbols n) }
     ensures meaning { IfOk result (IsFor (with_suffixes (kind_of_network network) suffixes.now) (AreSuffixed suffixes.now (WordsOf network) (PairsOf network)) (RelateSuffixed suffixes.now (PairsOf network))) }
 {
-    match suffixes {
-        [] => Ok(network),
-        [suffix] => with_suffix(alloc, network, *suffix),
-        _ => {
-            let (front, back) = suffixes.split_at(suffixes.len() / 2);
-            let inner = with_suffixes(alloc, network, front)?;
-            with_suffixes(alloc, inner, back)
-        }
+    let mut last = None;
+    'suffixes: for suffix in suffixes {
+        network = behind_last(alloc, network, last, *suffix)?;
+        last = Some(*suffix);
     }
+    Ok(network)
 }

@@ -13,8 +13,8 @@ use crate::parts::{Split, every_split_letter, kept_rows, split_words};
 use fsa::Fsa;
 use fsa_rational::{concat, image, star};
 use fsm_base::{Bound, Sym};
-use lang_algebra::Lang;
-use network_algebra::{every_letter, inner_letters, inside, one_of, with_edge, word};
+use lang_algebra::{Lang, one_letter};
+use network_algebra::{every_letter, inner_letters, inside, with_edge, word};
 use std::alloc::{AllocError, Global};
 
 /// The split words in whose first part a left context has an end and in whose last part a right context has a
@@ -42,7 +42,7 @@ fn any_of(alloc: Global, letters: &[Bound<Sym>]) -> Result<Fsa<Bound<Sym>>, Allo
     ensures letters { IfOk result (UsesOnly letters.now) }
     ensures words { IfOk result (λ m. (w : List (Bound Sym)) → Accepts m w ↔ IsOver letters.now w) }
 {
-    star(alloc, &one_of(alloc, letters)?)
+    star(alloc, &one_letter(alloc, letters)?)
 }
 
 /// The words over an alphabet, each split round a part that is in the language, with the edge before and behind.

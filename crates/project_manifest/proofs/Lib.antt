@@ -1,3 +1,4 @@
 pub mod Behind
 pub mod Worded
 pub mod Declared
+pub mod Utf8

@@ -78,17 +78,27 @@ takes_nothing taking (b ∷ bs) = (taking && b == 9) || takes_nothing (not takin
 abbrev pub IsFileByte : ℕ → Type 0
 IsFileByte b = ((48 ≤ b) × (b ≤ 57)) ⊎ ((65 ≤ b) × (b ≤ 90)) ⊎ ((97 ≤ b) × (b ≤ 122)) ⊎ (b ≡ 95) ⊎ (b ≡ 45) ⊎ (b ≡ 46)
 
--- 1 to 64 such bytes, the first no `.`, and not the manifest's own name
+-- the most bytes of a file's name
+abbrev pub most_name_bytes : ℕ
+most_name_bytes = 64
+
+-- such bytes, one or more but not too many, the first no `.`, and not the manifest's own name
 pub record IsFileName (name : List ℕ) : Type 0 where
   pub some : 0 < length name
-  pub short : length name ≤ 64
+  pub short : length name ≤ most_name_bytes
   pub bytes : All IsFileByte name
   pub first : slice_get name 0 ≢ Some 46
   pub other : name ≢ project_name
 
--- a text that may be a symbol: it isn't empty, and it is no flag
+-- a flag that sources may have, which a negative flag `@N.F.V@` isn't yet
+abbrev pub is_known_flag : List ℕ → Bool
+is_known_flag [] = false
+is_known_flag (a ∷ []) = false
+is_known_flag (a ∷ kind ∷ text) = not (kind == 78) && is_flag (a ∷ kind ∷ text)
+
+-- a text that may be a symbol: it isn't empty, and it is no such flag
 abbrev pub may_be_symbol : List ℕ → Bool
-may_be_symbol text = not (length text == 0) && not (is_flag text)
+may_be_symbol text = not (length text == 0) && not (is_known_flag text)
 
 -- a word that stands for a symbol: each `%` takes something, and its text may be one
 abbrev pub is_symbol_word : List ℕ → Bool

@@ -3,7 +3,6 @@
 //! - [`read_manifest`]: the [`Manifest`] of a text, or that it is none.
 #![tactic(auto)]
 
-mod flags;
 mod manifest;
 mod words;
 

@@ -1,12 +1,15 @@
 ghost use Rattle.std.specs.Prelude.{◌≡◌, ◌↔◌, ◌<◌, ◌+◌, ◌++◌, ◌∷◌, List, ℕ, [], Some, All, IfOk, IsTrue, MatchOption, OnOk, length, map, slice_get};
 ghost use Rattle.project_manifest.specs.Manifests.{Declare, IsAlphabetLine, IsBehind, IsFileByte, IsFileName, IsManifestRead, IsSomeManifest, IsXfstLine, ManifestView, lines_of, project_name, sayings, statements_in};
-ghost use Rattle.project_manifest.specs.Sayings.{as_written, saying_of};
+ghost use Rattle.project_manifest.specs.Sayings.{AreTexts, HaveTexts, as_written, saying_of};
 
 use crate::words::{is_silent, lines, symbols_of, text_of_bytes, words};
 use fsm_base::Text;
 use regex_ast::{ReadError, Why};
 use std::alloc::{AllocError, Global};
 use std::marker::Model;
+
+/// The most bytes of a file's name.
+const MOST_NAME_BYTES: usize = 64;
 
 /// What the manifest of a project says: the file that it names, and the further symbols of its alphabet.
 #[derive(Drop)]
@@ -131,7 +134,7 @@ fn is_manifest_name(name: &[u8]) -> bool
 fn is_file_name(name: &[u8]) -> bool
     ensures { IsTrue result ↔ IsFileName name.now }
 {
-    if name.is_empty() || name.len() > 64 {
+    if name.is_empty() || name.len() > MOST_NAME_BYTES {
         return false;
     }
     if begins_with_dot(name) || is_manifest_name(name) {
@@ -181,6 +184,7 @@ fn file_in(words: &[Vec<u8>]) -> Option<&[u8]>
 
 /// The symbols of a line `alphabet SYM ..`, or `None` where it is no such line.
 fn symbols_in(alloc: Global, words: &[Vec<u8>]) -> Result<Option<Vec<Text>>, AllocError>
+    requires { AreTexts (as_written words.now) }
     ensures { IfOk result (λ symbols. MatchOption symbols ((texts : List (List ℕ)) → IsAlphabetLine (as_written words.now) texts → ⊥) (λ texts. IsAlphabetLine (as_written words.now) texts.items)) }
 {
     let Some((keyword, symbols)) = split_first(words) else {
@@ -197,6 +201,7 @@ fn symbols_in(alloc: Global, words: &[Vec<u8>]) -> Result<Option<Vec<Text>>, All
 
 /// The symbols that lines behind the first one declare, or `None` where they declare something else.
 fn symbols_behind(alloc: Global, said: &[Said]) -> Result<Option<Vec<Text>>, AllocError>
+    requires { HaveTexts (map saying_of said.now) }
     ensures { IfOk result (λ symbols. MatchOption symbols ((texts : List (List ℕ)) → IsBehind (map saying_of said.now) texts → ⊥) (λ texts. IsBehind (map saying_of said.now) texts.items)) }
 {
     let Some((first, others)) = said.split_first() else {
@@ -210,6 +215,7 @@ fn symbols_behind(alloc: Global, said: &[Said]) -> Result<Option<Vec<Text>>, All
 
 /// What the lines of a manifest that say something declare, or `None` where they declare nothing.
 fn declared(alloc: Global, said: &[Said]) -> Result<Option<Manifest>, AllocError>
+    requires { HaveTexts (map saying_of said.now) }
     ensures { IfOk result (λ manifest. MatchOption manifest ((m : ManifestView) → Declare (map saying_of said.now) m → ⊥) (Declare (map saying_of said.now))) }
 {
     let Some((first, others)) = said.split_first() else {

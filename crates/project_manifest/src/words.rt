@@ -1,10 +1,11 @@
 ghost use Rattle.std.specs.Prelude.{◌≡◌, ◌==◌, ◌&&◌, ◌++◌, ◌∷◌, List, ℕ, [], not, map, IfOk, OnOk, MatchOption, false, true};
 ghost use Rattle.std.specs.List.{list_all};
-ghost use Rattle.project_manifest.specs.Sayings.{as_written};
-ghost use Rattle.project_manifest.specs.Manifests.{begins_with_mark, is_blank, is_silent, is_symbol_word, may_be_symbol, lines_from, lines_of, some_of, takes_nothing, taken_from, text_of, words_from, words_of};
+ghost use Rattle.std.specs.Str.{IsUtf8};
+ghost use Rattle.project_manifest.specs.Sayings.{AreTexts, as_written};
+ghost use Rattle.project_manifest.specs.Manifests.{begins_with_mark, is_blank, is_known_flag, is_silent, is_symbol_word, may_be_symbol, lines_from, lines_of, some_of, takes_nothing, taken_from, text_of, words_from, words_of};
 
-use crate::flags::is_flag;
 use fsm_base::Text;
+use regex_tokens::is_flag;
 use std::alloc::{AllocError, Global};
 
 /// Puts a byte of a text behind what was read of its line, or ends the line.
@@ -131,12 +132,12 @@ fn begins_with_mark(word: &[u8]) -> bool
 
 /// A text by its bytes.
 pub fn text_of_bytes(alloc: Global, bytes: &[u8]) -> Result<Text, AllocError>
+    requires { IsUtf8 bytes.now }
     ensures { IfOk result (λ text. text ≡ bytes.now) }
 {
     match std::str::from_utf8(bytes) {
         Ok(text) => Text::of(alloc, text),
-        // This never comes, since these are whole characters of a text.
-        Err(_) => Err(AllocError),
+        Err(_) => unreachable!(),
     }
 }
 
@@ -184,15 +185,26 @@ fn take_byte(byte: u8, taking: bool, text: &mut Vec<u8>) -> Result<bool, AllocEr
     Ok(false)
 }
 
+/// Whether a text is a flag diacritic that sources may have. A negative flag, `@N.F.V@`, isn't one yet.
+fn is_known_flag(text: &[u8]) -> bool
+    ensures { result ≡ is_known_flag text.now }
+{
+    match text {
+        [_, kind, ..] => *kind != b'N' && is_flag(text),
+        _ => false,
+    }
+}
+
 /// Whether a text isn't empty and is no flag.
 fn may_be_symbol(text: &[u8]) -> bool
     ensures { result ≡ may_be_symbol text.now }
 {
-    !text.is_empty() && !is_flag(text)
+    !text.is_empty() && !is_known_flag(text)
 }
 
 /// The symbol that a word stands for, or `None` where it stands for none.
 fn symbol_of(alloc: Global, word: &[u8]) -> Result<Option<Text>, AllocError>
+    requires { IsUtf8 word.now }
     ensures { IfOk result (λ symbol. MatchOption symbol (is_symbol_word word.now ≡ false) (λ text. (is_symbol_word word.now ≡ true) × (text ≡ text_of word.now))) }
 {
     if takes_nothing(word) {
@@ -208,6 +220,7 @@ fn symbol_of(alloc: Global, word: &[u8]) -> Result<Option<Text>, AllocError>
 
 /// The symbols that words stand for, or `None` where one stands for none.
 pub fn symbols_of(alloc: Global, words: &[Vec<u8>]) -> Result<Option<Vec<Text>>, AllocError>
+    requires { AreTexts (as_written words.now) }
     ensures { IfOk result (λ symbols. MatchOption symbols (list_all is_symbol_word (as_written words.now) ≡ false) (λ texts. (list_all is_symbol_word (as_written words.now) ≡ true) × (texts.items ≡ map text_of (as_written words.now)))) }
 {
     let mut symbols = Vec::new(alloc);

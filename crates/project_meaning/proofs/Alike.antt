@@ -7,10 +7,11 @@ use Rattle.fsm_words.specs.Relations.{IsConcatenationOfPairs}
 use Rattle.fsm_words.proofs.Members.{Contains-head, Contains-map}
 use Rattle.fsm_words.specs.Operations.{IsIgnoring}
 use Rattle.fsm_words.specs.Relations.{IsComposition}
-use Rattle.regex_ast.specs.Terms.{Term, Terms, Links, Contexts, Steps, empty, any, edge, atom, letters, group, maybe, not_one, cross, suffixed, prefixed, ignore, concat, chain, only, rules, steps, no_term, then_term, no_link, or, and, less, no_context, between, no_step, cross_with, then}
-use Rattle.expr_parts.specs.Leaves.{listed, listed_each, listed_links, listed_contexts, listed_steps}
+use Rattle.regex_ast.specs.Terms.{Term, Terms, Links, Contexts, Steps, Mappings, Groups, empty, any, edge, atom, letters, group, maybe, not_one, cross, suffixed, prefixed, ignore, concat, chain, only, rules, steps, no_term, then_term, no_link, or, and, less, no_context, between, no_step, cross_with, then, no_mapping, plain, markup, insert, no_group, then_group}
+use Rattle.expr_parts.specs.Leaves.{listed, listed_each, listed_links, listed_contexts, listed_steps, listed_mappings, listed_groups}
 use Rattle.expr_meaning.specs.Operators.{inner, IsEmpty, IsItself, WithEdge, AreSuffixed, RelateSuffixed, ArePrefixed, IsNotOne, IsRestricted, HoldsLeft, HoldsRight}
-use Rattle.expr_meaning.specs.Meaning.{InLeaves, In, InEach, InIgnoring, InChain, InContext, InSteps, Relates, RelatesEach, RelatesChain, RelatesSteps}
+use Rattle.expr_meaning.specs.Replacement.{IsAround, IsAllowed, IsRewritten}
+use Rattle.expr_meaning.specs.Meaning.{InLeaves, In, InEach, InIgnoring, InChain, InContext, InSteps, IsCentre, IsMapped, Replaces, Applies, Relates, RelatesEach, RelatesChain, RelatesSteps}
 use Rattle.project_meaning.specs.Trees.{Piece, letter, Form, sides, pairs, Entry, Lexicon, Body, xfst, lexc, twolc}
 use Rattle.project_meaning.specs.Lexicons.{letters_of, flags_pass, IsEntryOf, FormAdds, IsPath, LexiconsRelate}
 use Rattle.project_meaning.specs.Leaves.{Leaf, symbol, named, name_in, names_in, expressions_in, forms_in}
@@ -121,6 +122,60 @@ module _ (means other : List ℕ → Word → Word → Type 0) (alphabet : List 
         same_steps more (back (listed name_in e) (listed_steps name_in more) same) (λ v. P v × In (stands_for means) alphabet e v) (λ v. Q v × In (stands_for other) alphabet e v)
         (λ i v. set i v × first i v)
 
+    same_centre : (maps : Mappings Leaf) → Same (listed_mappings name_in maps) → IsCentre (stands_for means) alphabet maps ≡ IsCentre (stands_for other) alphabet maps
+    same_centre no_mapping same = refl
+    same_centre (plain c r maps) same =
+        let both = front (listed name_in c ++ listed name_in r) (listed_mappings name_in maps) same in
+        let centre = same_set c (front (listed name_in c) (listed name_in r) both) in
+        let rest = same_centre maps (back (listed name_in c ++ listed name_in r) (listed_mappings name_in maps) same) in
+        λ i x. centre i (inner x) ⊎ rest i x
+    same_centre (markup c b a maps) same =
+        let all = front (listed name_in c ++ listed name_in b ++ listed name_in a) (listed_mappings name_in maps) same in
+        let first = front (listed name_in c ++ listed name_in b) (listed name_in a) all in
+        let centre = same_set c (front (listed name_in c) (listed name_in b) first) in
+        let rest = same_centre maps (back (listed name_in c ++ listed name_in b ++ listed name_in a) (listed_mappings name_in maps) same) in
+        λ i x. centre i (inner x) ⊎ rest i x
+    same_centre (insert r maps) same = let rest = same_centre maps (back (listed name_in r) (listed_mappings name_in maps) same) in λ i x. (x ≡ []) ⊎ rest i x
+
+    same_mapping : (maps : Mappings Leaf) → Same (listed_mappings name_in maps) → IsMapped (stands_for means) alphabet maps ≡ IsMapped (stands_for other) alphabet maps
+    same_mapping no_mapping same = refl
+    same_mapping (plain c r maps) same =
+        let both = front (listed name_in c ++ listed name_in r) (listed_mappings name_in maps) same in
+        let centre = same_set c (front (listed name_in c) (listed name_in r) both) in
+        let result = same_set r (back (listed name_in c) (listed name_in r) both) in
+        let rest = same_mapping maps (back (listed name_in c ++ listed name_in r) (listed_mappings name_in maps) same) in
+        λ i x y. (centre i (inner x) × result i (inner y)) ⊎ rest i x y
+    same_mapping (markup c b a maps) same =
+        let all = front (listed name_in c ++ listed name_in b ++ listed name_in a) (listed_mappings name_in maps) same in
+        let first = front (listed name_in c ++ listed name_in b) (listed name_in a) all in
+        let centre = same_set c (front (listed name_in c) (listed name_in b) first) in
+        let before = same_set b (back (listed name_in c) (listed name_in b) first) in
+        let after = same_set a (back (listed name_in c ++ listed name_in b) (listed name_in a) all) in
+        let rest = same_mapping maps (back (listed name_in c ++ listed name_in b ++ listed name_in a) (listed_mappings name_in maps) same) in
+        λ i x y. (centre i (inner x) × IsAround (before i) (after i) x y) ⊎ rest i x y
+    same_mapping (insert r maps) same =
+        let result = same_set r (front (listed name_in r) (listed_mappings name_in maps) same) in
+        let rest = same_mapping maps (back (listed name_in r) (listed_mappings name_in maps) same) in
+        λ i x y. ((x ≡ []) × result i (inner y)) ⊎ rest i x y
+
+    same_replaces : (groups : Groups Leaf) → Same (listed_groups name_in groups) → Replaces (stands_for means) alphabet groups ≡ Replaces (stands_for other) alphabet groups
+    same_replaces no_group same = refl
+    same_replaces (then_group maps side contexts groups) same =
+        let now = front (listed_mappings name_in maps ++ listed_contexts name_in contexts) (listed_groups name_in groups) same in
+        let mapping = same_mapping maps (front (listed_mappings name_in maps) (listed_contexts name_in contexts) now) in
+        let test = same_context contexts (back (listed_mappings name_in maps) (listed_contexts name_in contexts) now) in
+        let rest = same_replaces groups (back (listed_mappings name_in maps ++ listed_contexts name_in contexts) (listed_groups name_in groups) same) in
+        λ i before x y behind. (mapping i x y × IsAllowed contexts (test i) side before behind) ⊎ rest i before x y behind
+
+    same_applies : (groups : Groups Leaf) → Same (listed_groups name_in groups) → Applies (stands_for means) alphabet groups ≡ Applies (stands_for other) alphabet groups
+    same_applies no_group same = refl
+    same_applies (then_group maps side contexts groups) same =
+        let now = front (listed_mappings name_in maps ++ listed_contexts name_in contexts) (listed_groups name_in groups) same in
+        let centre = same_centre maps (front (listed_mappings name_in maps) (listed_contexts name_in contexts) now) in
+        let test = same_context contexts (back (listed_mappings name_in maps) (listed_contexts name_in contexts) now) in
+        let rest = same_applies groups (back (listed_mappings name_in maps ++ listed_contexts name_in contexts) (listed_groups name_in groups) same) in
+        λ i before x behind. (centre i x × IsAllowed contexts (test i) side before behind) ⊎ rest i before x behind
+
     pub same_relation : (e : Term Leaf) → Same (listed name_in e) → Relates (stands_for means) alphabet e ≡ Relates (stands_for other) alphabet e
     same_relation empty same = refl
     same_relation any same = refl
@@ -150,7 +205,10 @@ module _ (means other : List ℕ → Word → Word → Type 0) (alphabet : List 
         let set = same_set e (front (listed name_in e) (listed_contexts name_in contexts) same) in
         let test = same_context contexts (back (listed name_in e) (listed_contexts name_in contexts) same) in
         λ i. IsItself (IsRestricted alphabet (set i) (test i))
-    same_relation (rules optional groups) same = refl
+    same_relation (rules optional groups) same =
+        let replaces = same_replaces groups same in
+        let applies = same_applies groups same in
+        λ i. IsRewritten alphabet (replaces i) (applies i) optional
     same_relation (steps e more) same =
         let now = front (listed name_in e) (listed_steps name_in more) same in
         same_walk more (back (listed name_in e) (listed_steps name_in more) same) (In (stands_for means) alphabet e) (In (stands_for other) alphabet e) (same_set e now)

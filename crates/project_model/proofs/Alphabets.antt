@@ -14,7 +14,7 @@ use Rattle.fsm_base.specs.declared.letters.Sym.{Sym}
 use Rattle.fsm_base.specs.Alphabet.{listed, symbols_of, texts_of, text_of}
 use Rattle.fsm_base.specs.Symbols.{number_of, with_text}
 use Rattle.project_meaning.specs.Projects.{with_texts}
-use Rattle.project_model.specs.Planned.{numbers_in}
+use Rattle.project_model.specs.Numbered.{numbers_in}
 use Rattle.project_model.proofs.Gathering.{with_texts_behind}
 use Rattle.project_model.proofs.Texts.{any_from_has, number_held, text_with}
 
@@ -40,7 +40,7 @@ pub number_within : (table : List (List ℕ)) (text : List ℕ) → Contains tab
 number_within table text among = slice_get_within table (number_of text table) text (at_number table text among)
 
 -- two texts of a table with the same number are the same
-same_text : (table : List (List ℕ)) (text other : List ℕ) → Contains table text → Contains table other → number_of text table ≡ number_of other table
+pub same_text : (table : List (List ℕ)) (text other : List ℕ) → Contains table text → Contains table other → number_of text table ≡ number_of other table
     → text ≡ other
 same_text table text other among is_among same =
     same_Some text other (sym (at_number table text among) ∙ ap (slice_get table) same ∙ at_number table other is_among)

@@ -5,14 +5,12 @@ use Rattle.std.proofs.lemmas.Grind.{flat_map-append}
 use Rattle.std.proofs.lemmas.List.{take_all, take-append-le, length-take}
 use Rattle.std.specs.List.{flat_map, list_any}
 use Rattle.std.specs.Str.{bytes_eq}
-use Rattle.regex_ast.specs.declared.expr.Raw.{Raw}
 use Rattle.regex_ast.specs.Terms.{Term, Terms, Links, Contexts, Steps, Mappings, Groups, empty, any, edge, atom, letters, group, maybe, not_one, cross, suffixed, prefixed, ignore, concat, chain, only, rules, steps, no_term, then_term, no_link, or, and, less, no_context, between, no_step, cross_with, then, no_mapping, plain, markup, insert, no_group, then_group}
 use Rattle.fsm_base.specs.Symbols.{with_text}
 use Rattle.expr_parts.specs.Leaves.{listed, listed_each, listed_links, listed_contexts, listed_steps, listed_mappings, listed_groups}
 use Rattle.project_meaning.specs.Projects.{with_texts}
-use Rattle.project_model.specs.Raws.{is_symbol, symbol_of, symbol_beside}
+use Rattle.project_sources.specs.Limits.{most_symbols}
 use Rattle.project_model.specs.Gathered.{gathered}
-use Rattle.project_model.specs.Together.{most_symbols}
 
 pub with_texts-append : (table first second : List (List ℕ)) → with_texts table (first ++ second) ≡ with_texts (with_texts table first) second
 with_texts-append table [] second = refl
@@ -67,25 +65,6 @@ gathered_all table left whole none short same = sym (gathered_none table short) 
 
 pub still_short : (now table texts : List (List ℕ)) → now ≡ gathered table texts → length now ≤ most_symbols + 1
 still_short now table texts is = omega (arith, ap length is, gathered_short table texts)
-
-module _ (names : List (List ℕ)) (leaf : Raw) (table : List (List ℕ)) (short : length table ≤ most_symbols + 1) where
-  -- a leaf that is no symbol
-  pub leaf_passed : is_symbol names leaf ≡ false → table ≡ gathered table (symbol_beside names leaf)
-  leaf_passed fails = sym (ap (λ b. gathered table (cond b (symbol_of leaf ∷ []) [])) fails ∙ gathered_none table short)
-
-  -- a table without room
-  pub leaf_full : is_symbol names leaf ≡ true → most_symbols < length table → table ≡ gathered table (symbol_beside names leaf)
-  leaf_full passes many =
-      sym (ap (λ b. gathered table (cond b (symbol_of leaf ∷ []) [])) passes ∙ full (most_symbols + 1) (symbol_of leaf ∷ []) table (omega arith) ∙ take_all (most_symbols + 1) table short)
-
-  pub leaf_added : (now : List (List ℕ)) → is_symbol names leaf ≡ true → length table ≤ most_symbols → now ≡ with_text (symbol_of leaf) table
-      → now ≡ gathered table (symbol_beside names leaf)
-  leaf_added now passes room now_is =
-      now_is ∙ sym (ap (λ b. gathered table (cond b (symbol_of leaf ∷ []) [])) passes ∙ take_all (most_symbols + 1) (with_text (symbol_of leaf) table) (few (list_any (bytes_eq (symbol_of leaf)) table)))
-    where
-      few : (b : Bool) → length (cond b table (table ++ symbol_of leaf ∷ [])) ≤ most_symbols + 1
-      few true = omega arith
-      few false = omega (arith, length-append table (symbol_of leaf ∷ []))
 
 -- what is listed of each leaf is listed of the leaves
 module _ {A B : Type 0} (of : A → List B) where

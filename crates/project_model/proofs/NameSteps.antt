@@ -1,15 +1,20 @@
 -- A loop over definitions that gathers their names: a definition more, and where it ends with a fault.
-use Rattle.std.proofs.Common.{◌≡◌, ℕ, ◌+◌, ◌<◌, ◌≤◌, Bool, true, false, not, List, [], ◌∷◌, ◌++◌, map, take, drop, length, get_or, refl, sym, ap, subst, ◌∙◌, arith}
+use Rattle.std.proofs.Common.{◌≡◌, ℕ, ◌+◌, ◌<◌, ◌≤◌, Bool, true, false, not, List, [], ◌∷◌, ◌++◌, map, take, drop, length, get_or, refl, sym, ap, subst, ◌∙◌, inl, inr, arith, length-append}
 use Rattle.std.proofs.lemmas.List.{take_more, map-append, take-append-drop, length-map, length-take}
 use Rattle.std.specs.List.{Contains, list_any}
 use Rattle.std.specs.Str.{bytes_eq}
-use Rattle.fsm_words.specs.Words.{IsDistinct}
 use Rattle.regex_ast.specs.declared.expr.Raw.{Raw}
 use Rattle.regex_ast.specs.declared.expr.Define.{Define}
+use Rattle.regex_ast.specs.declared.fault.Fault.{Fault}
 use Rattle.regex_ast.specs.declared.fault.Why.TheVariants as why
-use Rattle.regex_reader.specs.Files.{FaultAt, Statement, statement_of}
-use Rattle.project_model.specs.Raws.{Definition, names_of}
-use Rattle.project_model.specs.Together.{HaveNames, IsRefusal, IsWhyNoNames, NameFault, again, too_many, defined_by, definitions_of, definition_of, fault, most_names}
+use Rattle.regex_reader.specs.Files.{statement_of}
+use Rattle.project_meaning.specs.Projects.{Written, names_of}
+use Rattle.project_sources.specs.Limits.{most_names}
+use Rattle.project_sources.specs.Rows.{At, First, HaveNone, places, places_from}
+use Rattle.project_sources.specs.Sources.{stated}
+use Rattle.project_sources.specs.Faults.{fault, NameFault, name_rows, NamesFault}
+use Rattle.project_sources.proofs.Firsts.{first_past, none_append, none_more, places_append}
+use Rattle.project_model.specs.Answers.{IsRefusal, IsRefusedBy, definitions_in}
 use Rattle.project_model.specs.declared.plan_error.PlanError.{PlanError}
 use Rattle.project_model.specs.declared.plan_error.PlanError.TheVariants.{Refused, Memory}
 use Rattle.expr_parts.proofs.Behind.{left_behind}
@@ -23,57 +28,84 @@ pub not_true : (b : Bool) → true ≡ not b → b ≡ false
 not_true true e = cc
 not_true false e = refl
 
--- a refusal for a fault that the names have
-why_named : (file : List ℕ) (statements : List Statement) (at : FaultAt) (error : PlanError) → NameFault statements at
-    → IsRefusal (fault file at.line at.why) error → IsWhyNoNames file statements error
-why_named file statements at (Refused found) named is = (at, is, named)
-why_named file statements at (Memory refused) named is = tt
+-- a refusal for such a fault
+pub refused_by : (IsFault : Fault → Type 0) (found : Fault) (error : PlanError) → IsFault found → IsRefusal found error → IsRefusedBy IsFault error
+refused_by IsFault found (Refused other) it is = subst IsFault (sym is) it
+refused_by IsFault found (Memory refused) it is = tt
 
-module _ (xs : List (Define Raw)) (i : ℕ) (d : Define Raw) (below : i < length xs) (is : d ≡ get_or xs i d) where
-  abbrev pub front : List Statement
-  front = map statement_of (take i xs)
+-- what a definition has by its name, behind others
+abbrev pub Has : At Written → Fault → Type 0
+Has place found = First (NameFault place) name_rows found
 
-  -- the statements before a definition, its own, and those behind it
-  pub split_here : map statement_of xs ≡ front ++ statement_of d ∷ map statement_of (drop (i + 1) xs)
-  split_here = ap (map statement_of) (sym (take-append-drop i xs)) ∙ map-append statement_of (take i xs) (drop i xs) ∙ ap (λ (z : List (Define Raw)). front ++ map statement_of z) (left_behind xs i d below is)
+pub none_at_start : HaveNone Has (places [])
+none_at_start found h = h
 
-  front_more : take (i + 1) xs ≡ take i xs ++ d ∷ []
-  front_more = take_more xs i d below ∙ ap (λ (e : Define Raw). take i xs ++ e ∷ []) (sym is)
+module _ (file : List ℕ) (xs : List (Define Raw)) (i : ℕ) (d : Define Raw) (below : i < length xs) (is : d ≡ get_or xs i d) where
+  abbrev pub front : List Written
+  front = definitions_in file (map statement_of (take i xs))
 
-  pub statements_more : map statement_of (take (i + 1) xs) ≡ front ++ statement_of d ∷ []
-  statements_more = ap (map statement_of) front_more ∙ map-append statement_of (take i xs) (d ∷ [])
+  abbrev rest : List Written
+  rest = definitions_in file (map statement_of (drop (i + 1) xs))
 
-  pub names_more : defined_by (map statement_of (take (i + 1) xs)) ≡ defined_by front ++ d.name ∷ []
-  names_more =
-      ap defined_by statements_more
-      ∙ ap names_of (map-append definition_of front (statement_of d ∷ []))
-      ∙ map-append (λ (d : Definition). d.name) (definitions_of front) (definition_of (statement_of d) ∷ [])
+  abbrev here : Written
+  here = stated file (statement_of d)
 
-  length_more : length (map statement_of (take (i + 1) xs)) ≡ i + 1
-  length_more = omega (arith, length-map (take (i + 1) xs) statement_of, length-take (i + 1) xs)
+  abbrev place : At Written
+  place = record { before = front; item = here }
+
+  abbrev step : List (Define Raw) → List Written
+  step ys = definitions_in file (map statement_of ys)
+
+  step_append : (ys zs : List (Define Raw)) → step (ys ++ zs) ≡ step ys ++ step zs
+  step_append ys zs = ap (map (stated file)) (map-append statement_of ys zs) ∙ map-append (stated file) (map statement_of ys) (map statement_of zs)
+
+  whole : step xs ≡ front ++ here ∷ rest
+  whole = ap step (sym (take-append-drop i xs)) ∙ step_append (take i xs) (drop i xs) ∙ ap (λ (z : List (Define Raw)). front ++ step z) (left_behind xs i d below is)
+
+  one_more : step (take (i + 1) xs) ≡ front ++ here ∷ []
+  one_more = ap step (take_more xs i d below ∙ ap (λ (e : Define Raw). take i xs ++ e ∷ []) (sym is)) ∙ step_append (take i xs) (d ∷ [])
+
+  pub names_more : names_of (step (take (i + 1) xs)) ≡ names_of front ++ d.name ∷ []
+  names_more = ap names_of one_more ∙ map-append (λ (w : Written). w.name) front (here ∷ [])
 
   length_front : length front ≡ i
-  length_front = omega (arith, length-map (take i xs) statement_of, length-take i xs)
+  length_front = omega (arith, length-map (map statement_of (take i xs)) (stated file), length-map (take i xs) statement_of, length-take i xs)
 
-  module _ (file : List ℕ) (had : List (List ℕ)) (had_is : had ≡ defined_by front) (formed : HaveNames front) (error : PlanError) where
+  -- the fault of this definition is the first where there is none before
+  fault_here : HaveNone Has (places front) → (found : Fault) → Has place found → NamesFault (step xs) found
+  fault_here none found h =
+      let behind : First Has (places_from [] front ++ places_from front (here ∷ rest)) found = first_past Has (places front) (places_from front (here ∷ rest)) found none (inl h) in
+      let all : First Has (places (front ++ here ∷ rest)) found = subst (λ z. First Has z found) (sym (places_append [] front (here ∷ rest))) behind in
+      subst (λ (z : List Written). NamesFault z found) (sym whole) all
+
+  module _ (had : List (List ℕ)) (had_is : had ≡ names_of front) (none : HaveNone Has (places front)) where
     -- an earlier one has the name
-    pub why_again : list_any (bytes_eq d.name) had ≡ true → IsRefusal (fault file d.line why.Duplicate) error → IsWhyNoNames file (map statement_of xs) error
-    why_again any refusal =
-        let among : Contains (defined_by front) d.name = subst (λ (z : List (List ℕ)). Contains z d.name) had_is (has_from_any d.name had any) in
-        why_named file (map statement_of xs) (record { line = d.line; why = why.Duplicate }) error (again front (map statement_of (drop (i + 1) xs)) (statement_of d) split_here formed among) refusal
+    pub why_again : (error : PlanError) → list_any (bytes_eq d.name) had ≡ true → IsRefusal (fault file d.line why.Duplicate) error → IsRefusedBy (NamesFault (step xs)) error
+    why_again error any refusal =
+        let among : Contains (names_of front) d.name = subst (λ (z : List (List ℕ)). Contains z d.name) had_is (has_from_any d.name had any) in
+        refused_by (NamesFault (step xs)) (fault file d.line why.Duplicate) error (fault_here none (fault file d.line why.Duplicate) (inl (among, refl))) refusal
+
+    new : list_any (bytes_eq d.name) had ≡ false → ¬ (Contains (names_of front) d.name)
+    new fails = subst (λ (z : List (List ℕ)). ¬ (Contains z d.name)) had_is (not_had d.name had fails)
 
     -- it comes behind as many as there may be
-    pub why_too_many : list_any (bytes_eq d.name) had ≡ false → 512 < i + 1 → IsRefusal (fault file d.line why.LimitNames) error
-        → IsWhyNoNames file (map statement_of xs) error
+    pub why_too_many : (error : PlanError) → list_any (bytes_eq d.name) had ≡ false → 512 < length (had ++ d.name ∷ []) → IsRefusal (fault file d.line why.LimitNames) error
+        → IsRefusedBy (NamesFault (step xs)) error
     unfolding most_names
-    why_too_many none many refusal =
-        let new : ¬ (Contains (defined_by front) d.name) = subst (λ (z : List (List ℕ)). ¬ (Contains z d.name)) had_is (not_had d.name had none) in
-        why_named file (map statement_of xs) (record { line = d.line; why = why.LimitNames }) error (too_many front (map statement_of (drop (i + 1) xs)) (statement_of d) split_here formed new (omega (arith, formed.few, length_front))) refusal
+    why_too_many error fails many refusal =
+        let full : most_names ≤ length front = omega (arith, many, length-append had (d.name ∷ []), ap length had_is, length-map front (λ (w : Written). w.name)) in
+        refused_by (NamesFault (step xs)) (fault file d.line why.LimitNames) error
+        (fault_here none (fault file d.line why.LimitNames) (inr ((λ other again. new fails again.0), inl (full, refl)))) refusal
 
-  pub still_formed : (now : List (List ℕ)) → now ≡ defined_by (map statement_of (take (i + 1) xs)) → IsDistinct now → i + 1 ≤ 512
-      → HaveNames (map statement_of (take (i + 1) xs))
-  unfolding most_names
-  still_formed now now_is distinct few = record { distinct = subst IsDistinct now_is distinct; few = omega (arith, length_more) }
-
-  pub names_length : (now : List (List ℕ)) → now ≡ defined_by (map statement_of (take (i + 1) xs)) → length now ≡ i + 1
-  names_length now now_is = omega (arith, ap length now_is, length-map (definitions_of (map statement_of (take (i + 1) xs))) (λ (d : Definition). d.name), length-map (map statement_of (take (i + 1) xs)) definition_of, length_more)
+    pub still_none : list_any (bytes_eq d.name) had ≡ false → length (had ++ d.name ∷ []) ≤ 512 → HaveNone Has (places (step (take (i + 1) xs)))
+    unfolding most_names
+    still_none fails few =
+        let free : (found : Fault) → Has place found → ⊥ = λ found h. elim h as (λ _. ⊥) [
+          | inl again ↦ new fails again.0
+          | inr more ↦ elim more.1 as (λ _. ⊥) [
+            | inl full ↦ let many = full.0 in omega (arith, many, few, length-append had (d.name ∷ []), ap length had_is, length-map front (λ (w : Written). w.name))
+            | inr never ↦ never.1
+          ]
+        ] in
+        let all = none_append Has (places front) (places_from front (here ∷ [])) none (none_more Has place [] free (λ found h. h)) in
+        subst (λ (z : List Written). HaveNone Has (places z)) (sym one_more) (subst (HaveNone Has) (sym (places_append [] front (here ∷ []))) all)

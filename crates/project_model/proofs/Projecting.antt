@@ -1,32 +1,51 @@
 -- The plan of the statements of a file: loops over definitions and over the symbols of an alphabet.
-use Rattle.std.proofs.Common.{◌≡◌, ◌+◌, ◌<◌, ◌≤◌, ℕ, List, [], ◌∷◌, ◌++◌, length, map, take, drop, get_or, Option, Some, None, slice_get, refl, sym, ap, subst, ◌∙◌, arith, All, Contains, Result, Ok, Err}
+use Rattle.std.proofs.Common.{◌≡◌, ◌+◌, ◌<◌, ◌≤◌, ℕ, List, [], ◌∷◌, ◌++◌, length, map, take, drop, get_or, Option, Some, None, slice_get, refl, sym, ap, subst, ◌∙◌, inl, inr, arith, All, Contains, Result, Ok, Err}
 use Rattle.std.proofs.lemmas.List.{take_more, map-append, take-append-drop, take_all, take-append-le, length-take}
-use Rattle.std.proofs.lemmas.List.Elements.{All-append, All-cons, All-nil}
+use Rattle.std.proofs.lemmas.List.Elements.{All-append, All-cons, All-nil, All-head, All-tail, All-weaker, All-contains}
+use Rattle.std.proofs.lemmas.Simd.{map-map}
 use Rattle.std.proofs.lemmas.Option.{slice_get-get_or, get_or_from_slice_get, slice_get_within}
+use Rattle.std.specs.List.{flat_map}
 use Rattle.std.specs.Option.{option_map}
 use Rattle.fsm_base.specs.Symbols.{IsSymbol, IsTable, number_of, with_text}
 use Rattle.fsm_base.specs.declared.letters.Sym.{Sym}
 use Rattle.fsm_words.specs.Words.{IsDistinct}
-use Rattle.project_meaning.specs.Projects.{with_texts}
-use Rattle.project_model.specs.Raws.{names_of, symbols_of_all}
-use Rattle.project_model.specs.Gathered.{gathered}
-use Rattle.project_model.specs.Planned.{DefinitionsSay, unsound, planned, Entry, EntryMeets, FirstFailing, entry_in, entry_of, alphabet_with, resolved, EntriesSay, StatementsSay, names, sized, IsPlanIn, IsPlanOf, IsPlanWith, IsUnsound, entries_of, numbers_in}
-use Rattle.project_model.specs.Plans.{IsPlan, IsSoundOver}
-use Rattle.project_model.specs.Together.{HaveNames, IsWhyNoNames, defined_by, definitions_of, most_symbols, IsRefusal}
-use Rattle.project_model.specs.Written.{IsWrittenOver, Planned, definition_in, written_in}
-use Rattle.project_model.specs.declared.definition.Definition.{Definition}
-use Rattle.project_model.specs.declared.demands.Demand.{Demand}
-use Rattle.project_model.specs.declared.plan_error.PlanError.{PlanError}
-use Rattle.project_model.specs.declared.plan_error.PlanError.TheVariants.{Refused, Memory}
+use Rattle.expr_parts.specs.Mapped.{mapped}
+use Rattle.regex_ast.specs.Terms.{Term}
+use Rattle.regex_ast.specs.declared.expr.Atom.{Atom}
 use Rattle.regex_ast.specs.declared.expr.Define.{Define}
 use Rattle.regex_ast.specs.declared.expr.Raw.{Raw}
 use Rattle.regex_ast.specs.declared.fault.Fault.{Fault}
+use Rattle.regex_ast.specs.declared.fault.Why.TheVariants as why
 use Rattle.regex_reader.specs.Files.{Statement, statement_of}
-use Rattle.project_model.proofs.Alphabets.{numbers_distinct, put}
+use Rattle.project_manifest.specs.Manifests.{project_name}
+use Rattle.project_meaning.specs.Leaves.{leaf_of, symbols_in}
+use Rattle.project_meaning.specs.Projects.{Definition as Meant, Written, definition_in, names_of, with_texts}
+use Rattle.project_sources.specs.Limits.{most_symbols}
+use Rattle.project_sources.specs.Manifests.{Placed, symbols_of}
+use Rattle.project_sources.specs.Rows.{First, HaveNone, Where}
+use Rattle.project_sources.specs.Sources.{Said, project_in, stated}
+use Rattle.project_sources.specs.Faults.{fault, in_names, many_symbols, SaidFault, NamesFault, definitions_so_far, said_so_far}
+use Rattle.project_sources.proofs.Firsts.{first_past, none_more}
+use Rattle.project_model.specs.Answers.{DemandFault, DoesMeet, IsPlanBy, IsRefusal, IsRefusedBy, definitions_in, demands, said_by, why_not}
+use Rattle.project_model.specs.Gathered.{gathered, symbols_beside, symbols_of_all}
+use Rattle.project_model.specs.Numbered.{IsBodyOver, numbered, numbers_in}
+use Rattle.project_model.specs.Plans.{IsPlan, IsSoundOver, PlanView}
+use Rattle.project_model.specs.Resolved.{atom_of}
+use Rattle.project_model.specs.Stands.{Entry, entry_in, entry_of}
+use Rattle.project_model.specs.declared.definition.Definition.{Definition}
+use Rattle.project_model.specs.declared.demands.Demand.{Demand}
+use Rattle.project_model.specs.declared.demands.Demand.TheVariants as demand
+use Rattle.project_model.specs.declared.plan_error.PlanError.{PlanError}
+use Rattle.project_model.specs.declared.plan_error.PlanError.TheVariants.{Refused, Memory}
 use Rattle.expr_parts.proofs.Behind.{left_behind}
+use Rattle.project_model.proofs.Alphabets.{numbers_distinct, put}
 use Rattle.project_model.proofs.Built.{All-front}
+use Rattle.project_model.proofs.Demanded.{demand_fault}
 use Rattle.project_model.proofs.Gathering.{with_texts-append, with_texts_behind}
-use Rattle.project_model.proofs.Sound.{AllMeet, all_meet, names_resolved, names_written, resolved_each, sound_definitions, written_over}
+use Rattle.project_model.proofs.Mapped.{mapped_twice}
+use Rattle.project_model.proofs.NameSteps.{refused_by}
+use Rattle.project_model.proofs.Expressions.{names_said}
+use Rattle.project_model.proofs.Sound.{definitions_over, sound_definitions}
 use Rattle.project_model.proofs.Texts.{one_longer}
 
 -- a loop over items of which a list is made: what was made, and one more
@@ -37,24 +56,27 @@ module _ {X Y : Type 0} (f : X → Y) (xs : List X) (i : ℕ) (x : X) (below : i
   pub made_more : map f (take (i + 1) xs) ≡ map f (take i xs) ++ f x ∷ []
   made_more = ap (map f) front_more ∙ map-append f (take i xs) (x ∷ [])
 
-  pub made_split : map f xs ≡ map f (take i xs) ++ f x ∷ map f (drop (i + 1) xs)
-  made_split = ap (map f) (sym (take-append-drop i xs)) ∙ map-append f (take i xs) (drop i xs) ∙ ap (λ (z : List X). map f (take i xs) ++ map f z) (left_behind xs i x below is)
+-- all so far have the property, and the next one has it
+pub all_more : {X : Type 0} (P : X → Type 0) (xs : List X) (i : ℕ) (x : X) → i < length xs → x ≡ get_or xs i x → All P (take i xs) → P x → All P (take (i + 1) xs)
+all_more {X} P xs i x below is so_far here =
+    subst (All P) (sym (take_more xs i x below ∙ ap (λ (e : X). take i xs ++ e ∷ []) (sym is))) (All-append P (take i xs) (x ∷ []) so_far (All-cons P x [] here (All-nil P)))
 
-  -- all so far have the property, and the next one has it
-  pub all_more : (P : Y → Type 0) → All P (map f (take i xs)) → P (f x) → All P (map f (take (i + 1) xs))
-  all_more P so_far here = subst (All P) (sym made_more) (All-append P (map f (take i xs)) (f x ∷ []) so_far (All-cons P (f x) [] here (All-nil P)))
+abbrev Fault_by : Demand → Definition → Fault → Type 0
+Fault_by asked d found = Where (DoesMeet asked d → ⊥) (fault d.file d.line (why_not asked)) found
 
+-- definitions that all meet what is asked have no fault by it
+pub all_pass : (asked : Demand) (xs : List Definition) → All (DoesMeet asked) xs → (found : Fault) → DemandFault xs asked found → ⊥
+all_pass asked [] all found h = h
+all_pass asked (x ∷ xs) all found h =
+    elim h as (λ _. ⊥) [ inl (fails, is) ↦ fails (All-head (DoesMeet asked) x xs all) | inr later ↦ all_pass asked xs (All-tail (DoesMeet asked) x xs all) found later.1 ]
+
+-- the first definition that fails
 pub first_fails : (asked : Demand) (xs : List Definition) (i : ℕ) (x : Definition) → i < length xs → x ≡ get_or xs i x
-    → All (EntryMeets asked) (map entry_of (take i xs)) → ¬ (EntryMeets asked (entry_of x)) → FirstFailing asked (map entry_of xs) x.line
-first_fails asked xs i x below is before fails = record {
-  front = map entry_of (take i xs);
-  rest = map entry_of (drop (i + 1) xs);
-  first = entry_of x;
-  whole = made_split entry_of xs i x below is;
-  before = before;
-  fails = fails;
-  line_is = refl;
-}
+    → All (DoesMeet asked) (take i xs) → (DoesMeet asked x → ⊥) → DemandFault xs asked (fault x.file x.line (why_not asked))
+first_fails asked xs i x below is before fails =
+    let behind = first_past (Fault_by asked) (take i xs) (x ∷ drop (i + 1) xs) (fault x.file x.line (why_not asked)) (all_pass asked (take i xs) before) (inl (fails, refl)) in
+    let split : xs ≡ take i xs ++ x ∷ drop (i + 1) xs = sym (take-append-drop i xs) ∙ ap (λ (z : List Definition). take i xs ++ z) (left_behind xs i x below is) in
+    subst (λ (z : List Definition). DemandFault z asked (fault x.file x.line (why_not asked))) (sym split) behind
 
 -- a list that is made of another by two functions
 pub made_both : {X Y Z W : Type 0} (f : Y → W) (g : Z → W) (h : X → Z) (xs : List X) (i : ℕ) (x : X) (found new : List Y) (y : Y) → i < length xs
@@ -63,6 +85,21 @@ pub made_both : {X Y Z W : Type 0} (f : Y → W) (g : Z → W) (h : X → Z) (xs
 made_both {W = W} f g h xs i x found new y below is new_is same so_far =
     ap (map f) new_is ∙ map-append f found (y ∷ []) ∙ ap (λ (z : List W). z ++ f y ∷ []) so_far ∙ ap (λ (w : W). map g (map h (take i xs)) ++ w ∷ []) same
     ∙ sym (ap (map g) (made_more h xs i x below is) ∙ map-append g (map h (take i xs)) (h x ∷ []))
+
+-- the same of a list that is made by three
+pub made_each : {X Y Z V W : Type 0} (f : Y → W) (g : V → W) (k : Z → V) (h : X → Z) (xs : List X) (i : ℕ) (x : X) (found new : List Y) (y : Y) → i < length xs
+    → x ≡ get_or xs i x → new ≡ found ++ y ∷ [] → f y ≡ g (k (h x))
+    → map f found ≡ map g (map k (map h (take i xs))) → map f new ≡ map g (map k (map h (take (i + 1) xs)))
+made_each {X = X} f g k h xs i x found new y below is new_is same so_far =
+    let at = λ (z : List X). map-map k h z in
+    made_both f g (λ z. k (h z)) xs i x found new y below is new_is same (so_far ∙ ap (map g) (at (take i xs))) ∙ ap (map g) (sym (at (take (i + 1) xs)))
+
+-- the definition of a statement
+pub entry_is : (names table : List (List ℕ)) (file : List ℕ) (s : Statement) (name other : List ℕ) (t : Term Atom) → name ≡ s.name → other ≡ file → t ≡ mapped (atom_of names table) s.term
+    → ◌≡◌ {A = Entry} (record { name = name; line = s.line; file = other; term = Some t }) (entry_in names table (stated file s))
+entry_is names table file s name other t name_is file_is term_is =
+    let numbers : t ≡ mapped (numbered names table) (mapped (leaf_of names) s.term) = term_is ∙ sym (mapped_twice (numbered names table) (leaf_of names) s.term) in
+    λ i. record { name = name_is i; line = s.line; file = file_is i; term = Some (numbers i) }
 
 -- the text at a place of a table
 pub text_at : {X : Type 0} (f : X → List ℕ) (o : Option X) (table : List (List ℕ)) (n : ℕ) → option_map f o ≡ slice_get table n → n < length table → o ≡ None
@@ -105,96 +142,120 @@ begins_with old now texts now_is =
     let more = with_texts_behind texts old in
     ap (take (length old)) (now_is ∙ more.1) ∙ take-append-le (length old) old more.0 (omega arith) ∙ take_all (length old) old (omega arith)
 
--- the definitions of statements, resolved over an alphabet whose symbols are in the table
-module _ (file : List ℕ) (statements : List Statement) (names alphabet old new : List (List ℕ)) (definitions : List Definition) (names_are : names ≡ defined_by statements) (new_is : new ≡ with_texts old alphabet)
-    (are : map entry_of definitions ≡ map (entry_in file names new) statements) where
-  entries_are : map entry_of definitions ≡ entries_of file (with_texts old alphabet) statements
-  entries_are = are ∙ ap (λ ns. map (entry_in file ns new) statements) names_are ∙ ap (λ t. map (entry_in file (defined_by statements) t) statements) new_is
+-- the symbols of statements are those of their definitions
+symbols_said : (names : List (List ℕ)) (file : List ℕ) (statements : List Statement)
+    → flat_map (λ (d : Meant). symbols_in d.body) (map (definition_in names) (definitions_in file statements)) ≡ symbols_of_all names statements
+symbols_said names file [] = refl
+symbols_said names file (s ∷ statements) = ap (λ (z : List (List ℕ)). symbols_beside names s ++ z) (symbols_said names file statements)
 
-  -- why they aren't sound, as why there is no plan
-  pub why_no_plan : (error : PlanError) → IsUnsound file (map entry_of definitions) error
-      → IsPlanIn (DefinitionsSay file statements alphabet old) old new (Err error)
-  why_no_plan (Refused found) says = unsound found (subst (λ (es : List Entry). EntriesSay file es (Err found)) entries_are says)
-  why_no_plan (Memory refused) says = tt
+-- a plan of what one file's statements say, over an alphabet whose symbols are in the table
+module _ (file : List ℕ) (statements : List Statement) (names alphabet old new : List (List ℕ)) (definitions : List Definition) (names_are : names ≡ names_of (definitions_in file statements))
+    (new_is : new ≡ with_texts old alphabet) (are : map entry_of definitions ≡ map (entry_in names new) (definitions_in file statements)) (held : All (Contains alphabet) (symbols_of_all names statements)) where
+  abbrev written : List Written
+  written = definitions_in file statements
 
-  module _ (symbols : List Sym) (symbols_are : symbols ≡ numbers_in new alphabet) (held : All (Contains alphabet) (symbols_of_all names (definitions_of statements))) (distinct : IsDistinct alphabet)
-      (says : EntriesSay file (map entry_of definitions) (Ok (map entry_of definitions))) where
-    meet : AllMeet (map (entry_in file names new) statements)
-    meet = subst AllMeet are (all_meet file (map entry_of definitions) (Ok (map entry_of definitions)) says)
+  said_are : map entry_of definitions ≡ map (entry_in (names_of written) new) written
+  said_are = are ∙ ap (λ ns. map (entry_in ns new) written) names_are
 
-    over : All (IsWrittenOver names alphabet) (map (written_in file) statements)
-    over = written_over names alphabet new file statements held meet.built
+  symbols_are : All (Contains alphabet) (flat_map (λ (d : Meant). symbols_in d.body) (map (definition_in (names_of written)) written))
+  symbols_are = subst (All (Contains alphabet)) (sym (symbols_said (names_of written) file statements)) (subst (λ ns. All (Contains alphabet) (symbols_of_all ns statements)) names_are held)
+
+  in_table : All (Contains new) (flat_map (λ (d : Meant). symbols_in d.body) (map (definition_in (names_of written)) written))
+  in_table = All-weaker (Contains alphabet) (Contains new) (λ text among. All-contains (Contains new) alphabet text (subst (λ (t : List (List ℕ)). All (Contains t) alphabet) (sym new_is) (put alphabet old)) among) _ symbols_are
+
+  -- why there is no plan
+  pub why_no_plan : (manifest : List Placed) (error : PlanError) → IsRefusedBy (First (DemandFault definitions) demands) error
+      → IsPlanBy definitions_so_far (said_by manifest file statements) old new (Err error)
+  why_no_plan manifest (Refused found) h = (demand_fault (said_by manifest file statements) new definitions said_are in_table found).0 h
+  why_no_plan manifest (Memory refused) h = tt
+
+  module _ (symbols : List Sym) (numbers_are : symbols ≡ numbers_in new alphabet) (distinct : IsDistinct alphabet) (fits : All (DoesMeet demand.Fits) definitions) (light : All (DoesMeet demand.Light) definitions)
+      (built : All (DoesMeet demand.Built) definitions) where
+    over : All (λ (d : Meant). IsBodyOver alphabet d.body) (map (definition_in (names_of written)) written)
+    over = definitions_over (names_of written) alphabet new definitions written said_are symbols_are built
 
     pub is_plan : IsDistinct names → IsPlan (record { definitions = definitions; symbols = symbols })
     is_plan apart = record {
-      distinct = subst IsDistinct (sym symbols_are) (numbers_distinct new alphabet (subst (λ (t : List (List ℕ)). All (Contains t) alphabet) (sym new_is) (put alphabet old)) distinct);
-      names = subst IsDistinct (names_are ∙ sym (names_resolved file names new statements definitions are)) apart;
-      sound = subst (λ (z : List Sym). All (IsSoundOver z) definitions) (sym symbols_are) (sound_definitions names alphabet new file statements definitions are meet.fits over);
+      distinct = subst IsDistinct (sym numbers_are) (numbers_distinct new alphabet (subst (λ (t : List (List ℕ)). All (Contains t) alphabet) (sym new_is) (put alphabet old)) distinct);
+      names = subst IsDistinct (names_are ∙ sym (names_said (names_of written) new definitions written said_are)) apart;
+      sound = subst (λ (z : List Sym). All (IsSoundOver z) definitions) (sym numbers_are) (sound_definitions (names_of written) alphabet new definitions written said_are fits over);
     }
 
-    -- the names of the definitions as they are written
-    named : names ≡ names_of (map definition_in (map (written_in file) statements))
-    named = names_are ∙ sym (names_written file statements)
+    none_fails : (manifest : List Placed) → HaveNone (SaidFault (said_by manifest file statements)) definitions_so_far
+    none_fails manifest found h =
+        let none = none_more (DemandFault definitions) demand.Fits (demand.Light ∷ demand.Built ∷ []) (all_pass demand.Fits definitions fits)
+        (none_more (DemandFault definitions) demand.Light (demand.Built ∷ []) (all_pass demand.Light definitions light)
+        (none_more (DemandFault definitions) demand.Built [] (all_pass demand.Built definitions built) (λ f p. p))) in
+        none found ((demand_fault (said_by manifest file statements) new definitions said_are in_table found).1 h)
 
-    pub is_planned : IsPlanWith (DefinitionsSay file statements alphabet old) old new (record { definitions = definitions; symbols = symbols })
-    is_planned = record {
-      planned = record { definitions = map (written_in file) statements; alphabet = alphabet };
-      says = planned (map entry_of definitions) (subst (λ (es : List Entry). EntriesSay file es (Ok (map entry_of definitions))) entries_are says);
-      definitions = are ∙ resolved_each file names new statements ∙ ap (λ ns. map (resolved ns new) (map (written_in file) statements)) named;
-      symbols = symbols_are;
-      table = new_is;
-      written = subst (λ ns. All (IsWrittenOver ns alphabet) (map (written_in file) statements)) named over;
-      distinct = distinct;
-    }
+    pub is_planned : (manifest : List Placed) → (project_in (said_by manifest file statements)).alphabet ≡ alphabet
+        → IsPlanBy definitions_so_far (said_by manifest file statements) old new (Ok (record { definitions = definitions; symbols = symbols }))
+    is_planned manifest is = (
+      none_fails manifest,
+      record {
+        definitions = said_are;
+        symbols = numbers_are ∙ ap (numbers_in new) (sym is);
+        table = new_is ∙ ap (with_texts old) (sym is);
+        leaves = subst (λ (a : List (List ℕ)). All (λ (d : Meant). IsBodyOver a d.body) (map (definition_in (names_of written)) written)) (sym is) over;
+        distinct = subst IsDistinct (sym is) distinct;
+      },
+    )
 
-module _ (xs : List (Define Raw)) (further names alphabet : List (List ℕ)) (names_is : names ≡ defined_by (map statement_of xs)) (alphabet_is : alphabet ≡ gathered [] (symbols_of_all names (definitions_of (map statement_of xs)) ++ further)) where
-  abbrev pub whole : List (List ℕ)
-  whole = alphabet_with (map statement_of xs) further
+-- the alphabet of statements and of the further symbols that a manifest has
+module _ (file : List ℕ) (xs : List (Define Raw)) (further names alphabet : List (List ℕ)) (names_is : names ≡ names_of (definitions_in file (map statement_of xs)))
+    (alphabet_is : alphabet ≡ gathered [] (symbols_of_all names (map statement_of xs) ++ further)) where
+  abbrev said : List Placed → Said
+  said manifest = said_by manifest file (map statement_of xs)
 
-  cut_is : alphabet ≡ take (most_symbols + 1) whole
-  cut_is = alphabet_is ∙ ap (λ ns. gathered [] (symbols_of_all ns (definitions_of (map statement_of xs)) ++ further)) names_is
+  abbrev whole : List (List ℕ)
+  whole = with_texts [] (symbols_of_all names (map statement_of xs) ++ further)
+
+  said_whole : (manifest : List Placed) → symbols_of manifest ≡ further → (project_in (said manifest)).alphabet ≡ whole
+  said_whole manifest is =
+      let same = symbols_said (names_of (definitions_in file (map statement_of xs))) file (map statement_of xs) ∙ ap (λ ns. symbols_of_all ns (map statement_of xs)) (sym names_is) in
+      λ i. with_texts [] (same i ++ is i)
 
   -- an alphabet beyond the limit, and one within it
-  pub too_large : 1024 < length alphabet → most_symbols < length whole
+  too_large : 1024 < length alphabet → most_symbols < length whole
   unfolding most_symbols
-  too_large many = omega (arith, ap length cut_is, length-take (most_symbols + 1) whole)
+  too_large many = omega (arith, ap length alphabet_is, length-take (most_symbols + 1) whole)
 
   not_large : length alphabet ≤ 1024 → length whole ≤ most_symbols
   unfolding most_symbols
-  not_large few = omega (arith, ap length cut_is, length-take (most_symbols + 1) whole)
+  not_large few = omega (arith, ap length alphabet_is, length-take (most_symbols + 1) whole)
 
   whole_is : length alphabet ≤ 1024 → alphabet ≡ whole
-  whole_is few = cut_is ∙ take_all (most_symbols + 1) whole (omega (arith, not_large few))
+  whole_is few = alphabet_is ∙ take_all (most_symbols + 1) whole (omega (arith, not_large few))
 
   -- it has the symbols of the definitions
-  pub symbols_held : length alphabet ≤ 1024 → All (Contains alphabet) (symbols_of_all names (definitions_of (map statement_of xs)))
+  pub symbols_held : length alphabet ≤ 1024 → All (Contains alphabet) (symbols_of_all names (map statement_of xs))
   symbols_held few =
-      let statements = map statement_of xs in
-      subst (λ ns. All (Contains alphabet) (symbols_of_all ns (definitions_of statements))) (sym names_is) (
-      subst (λ (t : List (List ℕ)). All (Contains t) (symbols_of_all (defined_by statements) (definitions_of statements))) (sym (whole_is few))
-      (All-front (Contains whole) (symbols_of_all (defined_by statements) (definitions_of statements)) further (put (symbols_of_all (defined_by statements) (definitions_of statements) ++ further) []))
-      )
+      subst (λ (t : List (List ℕ)). All (Contains t) (symbols_of_all names (map statement_of xs))) (sym (whole_is few))
+      (All-front (Contains whole) (symbols_of_all names (map statement_of xs)) further (put (symbols_of_all names (map statement_of xs) ++ further) []))
 
-  -- what the definitions say, the statements say
-  pub statements_say : (file : List ℕ) (old : List (List ℕ)) → length alphabet ≤ 1024 → HaveNames (map statement_of xs) → (answer : Result Planned Fault)
-      → DefinitionsSay file (map statement_of xs) alphabet old answer
-      → StatementsSay file (map statement_of xs) further old answer
-  statements_say file old few formed answer says =
-      sized answer formed (not_large few) (subst (λ (t : List (List ℕ)). DefinitionsSay file (map statement_of xs) t old answer) (whole_is few) says)
+  module _ (none : (found : Fault) → NamesFault (definitions_in file (map statement_of xs)) found → ⊥) (manifest : List Placed) (symbols_is : symbols_of manifest ≡ further) (old new : List (List ℕ)) where
+    -- symbols that are too many
+    pub why_large : (error : PlanError) → 1024 < length alphabet → IsRefusal (fault project_name 0 why.LimitSymbols) error → IsPlanBy said_so_far (said manifest) old new (Err error)
+    why_large error many refusal =
+        let much : most_symbols < length (project_in (said manifest)).alphabet = omega (arith, ap length (said_whole manifest symbols_is), too_large many) in
+        refused_by (First (SaidFault (said manifest)) said_so_far) (fault project_name 0 why.LimitSymbols) error (inr (none, inl (much, refl))) refusal
 
--- a refusal for a fault that statements have
-pub why_refused : (file : List ℕ) (statements : List Statement) (further old new : List (List ℕ)) (f : Fault) (error : PlanError)
-    → StatementsSay file statements further old (Err f) → IsRefusal f error → IsPlanOf file statements further old new (Err error)
-why_refused file statements further old new f (Refused found) says is = subst (λ (g : Fault). StatementsSay file statements further old (Err g)) (sym is) says
-why_refused file statements further old new f (Memory refused) says is = tt
+    none_large : length alphabet ≤ 1024 → (found : Fault) → SaidFault (said manifest) many_symbols found → ⊥
+    none_large few found (much, is) = omega (arith, much, ap length (said_whole manifest symbols_is), not_large few)
 
-pub why_unsound : (file : List ℕ) (entries : List Entry) (f : Fault) (error : PlanError) → EntriesSay file entries (Err f) → IsRefusal f error
-    → IsUnsound file entries error
-why_unsound file entries f (Refused found) says is = subst (λ (g : Fault). EntriesSay file entries (Err g)) (sym is) says
-why_unsound file entries f (Memory refused) says is = tt
+    -- what the definitions answer, all that is said does
+    pub planned_whole : length alphabet ≤ 1024 → (answer : Result PlanView PlanError)
+        → ((lines : List Placed) → (project_in (said lines)).alphabet ≡ alphabet → IsPlanBy definitions_so_far (said lines) old new answer) → IsPlanBy said_so_far (said manifest) old new answer
+    planned_whole few answer by_definitions = by answer (by_definitions manifest (said_whole manifest symbols_is ∙ sym (whole_is few)))
+      where
+        by : (answer : Result PlanView PlanError) → IsPlanBy definitions_so_far (said manifest) old new answer → IsPlanBy said_so_far (said manifest) old new answer
+        by (Ok plan) (free, stands) =
+            (none_more (SaidFault (said manifest)) in_names (many_symbols ∷ definitions_so_far) none (none_more (SaidFault (said manifest)) many_symbols definitions_so_far (none_large few) free), stands)
+        by (Err (Refused found)) h = inr (none, inr (none_large few, h))
+        by (Err (Memory refused)) h = tt
 
 -- why there are no names, as why there is no plan
-pub from_names : (file : List ℕ) (statements : List Statement) (further old new : List (List ℕ)) (error : PlanError) → IsWhyNoNames file statements error
-    → IsPlanOf file statements further old new (Err error)
-from_names file statements further old new (Refused found) (fault_at, is, named) = subst (λ (g : Fault). StatementsSay file statements further old (Err g)) (sym is) (names fault_at named)
-from_names file statements further old new (Memory refused) says = tt
+pub from_names : (file : List ℕ) (statements : List Statement) (manifest : List Placed) (old new : List (List ℕ)) (error : PlanError) → IsRefusedBy (NamesFault (definitions_in file statements)) error
+    → IsPlanBy said_so_far (said_by manifest file statements) old new (Err error)
+from_names file statements manifest old new (Refused found) h = inl h
+from_names file statements manifest old new (Memory refused) h = tt

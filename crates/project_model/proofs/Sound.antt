@@ -1,128 +1,96 @@
--- Definitions without fault: their leaves as they are written stand in the alphabet, and so they do resolved.
-use Rattle.std.proofs.Common.{◌≡◌, ℕ, Bool, true, false, cond, List, [], ◌∷◌, map, All, Contains, IsTrue, Result, OnOk, refl, sym, ap, subst, ◌∙◌}
+-- Definitions without fault: their leaves stand in the alphabet, and so they do by their numbers.
+use Rattle.std.proofs.Common.{◌≡◌, ℕ, false, List, [], ◌∷◌, map, All, Contains, IsTrue, Some, None, sym, ap, subst}
 use Rattle.std.proofs.lemmas.List.Elements.{All-nil, All-cons, All-head, All-tail}
-use Rattle.std.proofs.lemmas.Simd.{map-map}
-use Rattle.std.specs.List.{list_any}
-use Rattle.std.specs.Str.{bytes_eq}
-use Rattle.fsm_base.specs.Symbols.{number_of}
-use Rattle.regex_ast.specs.declared.expr.Atom.TheVariants.{Sym as Symbol, Name}
+use Rattle.std.specs.List.{flat_map}
+use Rattle.std.specs.Option.{option_map}
+use Rattle.regex_ast.specs.declared.expr.Atom.{Atom}
 use Rattle.regex_ast.specs.declared.expr.Raw.{Raw}
-use Rattle.regex_ast.specs.declared.fault.Fault.{Fault}
 use Rattle.regex_ast.specs.Terms.{Term}
-use Rattle.regex_reader.specs.Files.{Statement}
-use Rattle.expr_forms.specs.Atoms.{symbols, is_symbol as is_a_symbol}
+use Rattle.expr_forms.specs.Atoms.{symbols, is_symbol}
 use Rattle.expr_forms.specs.Built.{IsBuilt}
 use Rattle.expr_forms.specs.Kinds.{Fits}
 use Rattle.expr_parts.specs.Mapped.{mapped}
-use Rattle.project_model.specs.Raws.{is_symbol, names_of, symbol_beside, symbol_of, symbols_beside, symbols_of_all}
-use Rattle.project_model.specs.Planned.{Entry, EntryMeets, EntriesSay, relation, heavy, unbuilt, sound, entry_in, entry_of, numbers_in, resolved}
-use Rattle.project_model.specs.Plans.{IsSoundOver}
-use Rattle.project_model.specs.Resolved.{atom_of}
+use Rattle.project_meaning.specs.Trees.{Body, xfst, lexc, twolc}
+use Rattle.project_meaning.specs.Leaves.{Leaf, symbol, named, leaf_of, resolved, symbol_in, symbols_in}
+use Rattle.project_meaning.specs.Projects.{Definition as Meant, Written, definition_in}
+use Rattle.project_model.specs.Answers.{DoesMeet}
+use Rattle.project_model.specs.Numbered.{numbered, numbers_in, is_leaf_over, IsBodyOver}
+use Rattle.project_model.specs.Plans.{IsSoundOver, body_term}
 use Rattle.project_model.specs.Sound.{IsSound, is_symbol_of}
-use Rattle.project_model.specs.Together.{defined_by, definitions_of}
-use Rattle.project_model.specs.Written.{IsWrittenOver, Written, definition_in, stands_in, written_in}
-use Rattle.project_model.specs.declared.definition.Definition.{Definition as Defined}
+use Rattle.project_model.specs.Stands.{Entry, entry_of, entry_in, expression_in}
+use Rattle.project_model.specs.declared.definition.Definition.{Definition}
 use Rattle.project_model.specs.declared.demands.Demand.TheVariants as demand
 use Rattle.project_model.proofs.Alphabets.{number_any}
-use Rattle.project_model.proofs.Built.{All-front, All-back, both_hold, first_holds, second_holds, built_here, built_there}
+use Rattle.project_model.proofs.Expressions.{same_some}
+use Rattle.project_model.proofs.Built.{All-front, All-back, built_here, built_there}
 use Rattle.project_model.proofs.Texts.{any_from_has}
 
--- what entries without fault meet
-pub record AllMeet (entries : List Entry) : Type 0 where
-  pub fits : All (EntryMeets demand.Fits) entries
-  pub built : All (EntryMeets demand.Built) entries
-
-pub all_meet : (file : List ℕ) (entries : List Entry) (answer : Result (List Entry) Fault) → EntriesSay file entries answer → OnOk answer (AllMeet entries)
-all_meet file entries _ (relation line failing) = tt
-all_meet file entries _ (heavy line fits failing) = tt
-all_meet file entries _ (unbuilt line fits light failing) = tt
-all_meet file entries _ (sound fits light built) = record { fits = fits; built = built }
-
--- a leaf that resolves to a symbol is one
-symbol_there : (names table : List (List ℕ)) (leaf : Raw) → IsTrue (is_a_symbol (atom_of names table leaf)) → IsTrue (is_symbol names leaf)
-symbol_there names table leaf h = by (is_symbol names leaf) h
-  where
-    by : (b : Bool) → IsTrue (is_a_symbol (cond b (Symbol (record { 0 = number_of (symbol_of leaf) table })) (Name (number_of (symbol_of leaf) names)))) → IsTrue b
-    by true h = refl
-    by false h = h
-
--- where its symbols are of the alphabet, it stands in it
-stands : (names alphabet : List (List ℕ)) (leaf : Raw) → All (Contains alphabet) (symbol_beside names leaf) → IsTrue (is_symbol names leaf)
-    → IsTrue (stands_in names alphabet leaf)
-stands names alphabet leaf held passes =
-    let here : All (Contains alphabet) (symbol_of leaf ∷ []) = subst (λ (b : Bool). All (Contains alphabet) (cond b (symbol_of leaf ∷ []) [])) passes held in
-    both_hold (is_symbol names leaf) (list_any (bytes_eq (symbol_of leaf)) alphabet) passes (any_from_has (symbol_of leaf) alphabet (All-head (Contains alphabet) (symbol_of leaf) [] here))
-
--- a leaf of the alphabet resolves to one of its symbols
-of_alphabet : (names alphabet table : List (List ℕ)) (leaf : Raw) → IsTrue (stands_in names alphabet leaf)
-    → IsTrue (is_symbol_of (numbers_in table alphabet) (atom_of names table leaf))
-of_alphabet names alphabet table leaf h =
-    let passes = first_holds (is_symbol names leaf) (list_any (bytes_eq (symbol_of leaf)) alphabet) h in
-    let any = second_holds (is_symbol names leaf) (list_any (bytes_eq (symbol_of leaf)) alphabet) h in
-    subst (λ (b : Bool). IsTrue (is_symbol_of (numbers_in table alphabet) (cond b (Symbol (record { 0 = number_of (symbol_of leaf) table })) (Name (number_of (symbol_of leaf) names))))) (sym passes)
-    (number_any table alphabet (symbol_of leaf) any)
+never : IsTrue false → ⊥
+never e = cc
 
 module _ (names alphabet table : List (List ℕ)) where
-  written_one : (t : Term Raw) → All (Contains alphabet) (symbols_beside names t) → IsBuilt is_a_symbol (mapped (atom_of names table) t)
-      → IsBuilt (stands_in names alphabet) t
-  written_one t held h =
-      built_here (atom_of names table) (stands_in names alphabet) is_a_symbol (symbol_beside names) (Contains alphabet) (λ leaf held h. stands names alphabet leaf held (symbol_there names table leaf h)) t held h
+  -- a leaf that is a symbol is one of an alphabet that has it, and its number is one of the alphabet's
+  stands : (leaf : Leaf) → All (Contains alphabet) (symbol_in leaf) → IsTrue (is_symbol (numbered names table leaf)) → IsTrue (is_leaf_over alphabet leaf)
+  stands (symbol []) held h = absurd (never h)
+  stands (symbol (b ∷ bs)) held h = any_from_has (b ∷ bs) alphabet (All-head (Contains alphabet) (b ∷ bs) [] held)
+  stands (named name) held h = absurd (never h)
 
-  sound_one : (w : Written) → Fits symbols (mapped (atom_of names table) w.term) → IsWrittenOver names alphabet w
-      → IsSound (numbers_in table alphabet) (mapped (atom_of names table) w.term)
-  sound_one w fits over = record {
-    fits = fits;
-    built = built_there (atom_of names table) (stands_in names alphabet) (is_symbol_of (numbers_in table alphabet)) (of_alphabet names alphabet table) w.term over;
-  }
+  of_alphabet : (leaf : Leaf) → IsTrue (is_leaf_over alphabet leaf) → IsTrue (is_symbol_of (numbers_in table alphabet) (numbered names table leaf))
+  of_alphabet (symbol []) h = absurd (never h)
+  of_alphabet (symbol (b ∷ bs)) h = number_any table alphabet (b ∷ bs) h
+  of_alphabet (named name) h = absurd (never h)
 
-  -- the definitions of statements are written over an alphabet that has their symbols
-  pub written_over : (file : List ℕ) (statements : List Statement) → All (Contains alphabet) (symbols_of_all names (definitions_of statements))
-      → All (EntryMeets demand.Built) (map (entry_in file names table) statements)
-      → All (IsWrittenOver names alphabet) (map (written_in file) statements)
-  written_over file [] held built = All-nil (IsWrittenOver names alphabet)
-  written_over file (s ∷ statements) held built =
-      All-cons (IsWrittenOver names alphabet) (written_in file s) (map (written_in file) statements)
-      (written_one s.term (All-front (Contains alphabet) (symbols_beside names s.term) (symbols_of_all names (definitions_of statements)) held) (All-head (EntryMeets demand.Built) (entry_in file names table s) (map (entry_in file names table) statements) built))
-      (written_over file statements (All-back (Contains alphabet) (symbols_beside names s.term) (symbols_of_all names (definitions_of statements)) held) (All-tail (EntryMeets demand.Built) (entry_in file names table s) (map (entry_in file names table) statements) built))
+  -- a definition that meets what is asked, where the alphabet has its symbols
+  body_over : (body : Body Raw) (t : Term Atom) → Some t ≡ option_map (mapped (numbered names table)) (expression_in (resolved names body)) → All (Contains alphabet) (symbols_in (resolved names body))
+      → IsBuilt is_symbol t → IsBodyOver alphabet (resolved names body)
+  body_over (xfst e) t is held built =
+      let e' = mapped (leaf_of names) e in
+      built_here (numbered names table) (is_leaf_over alphabet) is_symbol symbol_in (Contains alphabet) stands e' held (subst (IsBuilt is_symbol) (same_some t (mapped (numbered names table) e') is) built)
+  body_over (lexc lexicons) t is held built = let no : Some t ≡ None = is in cc
+  body_over (twolc grammar) t is held built = let no : Some t ≡ None = is in cc
 
-  abbrev SoundEntry : Entry → Type 0
-  SoundEntry e = IsSound (numbers_in table alphabet) e.term
+  sound_over : (body : Body Raw) (t : Term Atom) → Some t ≡ option_map (mapped (numbered names table)) (expression_in (resolved names body)) → Fits symbols t → IsBodyOver alphabet (resolved names body)
+      → IsSound (numbers_in table alphabet) t
+  sound_over (xfst e) t is fits over =
+      let e' = mapped (leaf_of names) e in
+      record {
+        fits = fits;
+        built = subst (IsBuilt (is_symbol_of (numbers_in table alphabet))) (sym (same_some t (mapped (numbered names table) e') is))
+            (built_there (numbered names table) (is_leaf_over alphabet) (is_symbol_of (numbers_in table alphabet)) of_alphabet e' over);
+      }
+  sound_over (lexc lexicons) t is fits over = absurd over
+  sound_over (twolc grammar) t is fits over = absurd over
 
-  -- and so they are sound over its symbols
-  sound_entries : (file : List ℕ) (statements : List Statement) → All (EntryMeets demand.Fits) (map (entry_in file names table) statements)
-      → All (IsWrittenOver names alphabet) (map (written_in file) statements)
-      → All SoundEntry (map (entry_in file names table) statements)
-  sound_entries file [] fits over = All-nil SoundEntry
-  sound_entries file (s ∷ statements) fits over =
-      All-cons SoundEntry (entry_in file names table s) (map (entry_in file names table) statements)
-      (sound_one (written_in file s) (All-head (EntryMeets demand.Fits) (entry_in file names table s) (map (entry_in file names table) statements) fits) (All-head (IsWrittenOver names alphabet) (written_in file s) (map (written_in file) statements) over))
-      (sound_entries file statements (All-tail (EntryMeets demand.Fits) (entry_in file names table s) (map (entry_in file names table) statements) fits) (All-tail (IsWrittenOver names alphabet) (written_in file s) (map (written_in file) statements) over))
+  abbrev Over : Meant → Type 0
+  Over d = IsBodyOver alphabet d.body
 
-  of_entries : (definitions : List Defined) → All SoundEntry (map entry_of definitions) → All (IsSoundOver (numbers_in table alphabet)) definitions
-  of_entries [] all = All-nil (IsSoundOver (numbers_in table alphabet))
-  of_entries (d ∷ definitions) all =
-      All-cons (IsSoundOver (numbers_in table alphabet)) d definitions (All-head SoundEntry (entry_of d) (map entry_of definitions) all) (of_entries definitions (All-tail SoundEntry (entry_of d) (map entry_of definitions) all))
+  abbrev in_symbols : Meant → List (List ℕ)
+  in_symbols d = symbols_in d.body
 
-  pub sound_definitions : (file : List ℕ) (statements : List Statement) (definitions : List Defined)
-      → map entry_of definitions ≡ map (entry_in file names table) statements → All (EntryMeets demand.Fits) (map (entry_in file names table) statements)
-      → All (IsWrittenOver names alphabet) (map (written_in file) statements) → All (IsSoundOver (numbers_in table alphabet)) definitions
-  sound_definitions file statements definitions are fits over = of_entries definitions (subst (All SoundEntry) (sym are) (sound_entries file statements fits over))
+  -- definitions of a plan and what was said: all are over the alphabet, and sound over its numbers
+  pub definitions_over : (definitions : List Definition) (written : List Written) → map entry_of definitions ≡ map (entry_in names table) written
+      → All (Contains alphabet) (flat_map in_symbols (map (definition_in names) written)) → All (DoesMeet demand.Built) definitions → All Over (map (definition_in names) written)
+  definitions_over [] [] are held built = All-nil Over
+  definitions_over [] (w ∷ written) are held built = let e : [] ≡ entry_in names table w ∷ map (entry_in names table) written = are in cc
+  definitions_over (d ∷ definitions) [] are held built = let e : entry_of d ∷ map entry_of definitions ≡ [] = are in cc
+  definitions_over (d ∷ definitions) (w ∷ written) are held built =
+      let e : entry_of d ∷ map entry_of definitions ≡ entry_in names table w ∷ map (entry_in names table) written = are in
+      let head : entry_of d ≡ entry_in names table w = cc in
+      let tail : map entry_of definitions ≡ map (entry_in names table) written = cc in
+      let m = definition_in names w in
+      All-cons Over m (map (definition_in names) written)
+      (body_over w.body (body_term d.body) (ap (λ (x : Entry). x.term) head) (All-front (Contains alphabet) (in_symbols m) (flat_map in_symbols (map (definition_in names) written)) held)
+      (All-head (DoesMeet demand.Built) d definitions built))
+      (definitions_over definitions written tail (All-back (Contains alphabet) (in_symbols m) (flat_map in_symbols (map (definition_in names) written)) held) (All-tail (DoesMeet demand.Built) d definitions built))
 
--- the names of definitions as they are written, and resolved, are those of the statements
-pub names_written : (file : List ℕ) (statements : List Statement) → names_of (map definition_in (map (written_in file) statements)) ≡ defined_by statements
-names_written file [] = refl
-names_written file (s ∷ statements) = ap (λ (z : List (List ℕ)). s.name ∷ z) (names_written file statements)
-
-pub names_resolved : (file : List ℕ) (names table : List (List ℕ)) (statements : List Statement) (definitions : List Defined)
-    → map entry_of definitions ≡ map (entry_in file names table) statements → map (λ (d : Defined). d.name) definitions ≡ defined_by statements
-names_resolved file names table statements definitions are =
-    sym (map-map (λ (e : Entry). e.name) entry_of definitions) ∙ ap (map (λ (e : Entry). e.name)) are ∙ both statements
-  where
-    both : (ss : List Statement) → map (λ (e : Entry). e.name) (map (entry_in file names table) ss) ≡ defined_by ss
-    both [] = refl
-    both (s ∷ ss) = ap (λ (z : List (List ℕ)). s.name ∷ z) (both ss)
-
--- resolved one after the other, or at once
-pub resolved_each : (file : List ℕ) (names table : List (List ℕ)) (statements : List Statement)
-    → map (entry_in file names table) statements ≡ map (resolved names table) (map (written_in file) statements)
-resolved_each file names table statements = sym (map-map (resolved names table) (written_in file) statements)
+  pub sound_definitions : (definitions : List Definition) (written : List Written) → map entry_of definitions ≡ map (entry_in names table) written
+      → All (DoesMeet demand.Fits) definitions → All Over (map (definition_in names) written) → All (IsSoundOver (numbers_in table alphabet)) definitions
+  sound_definitions [] written are fits over = All-nil (IsSoundOver (numbers_in table alphabet))
+  sound_definitions (d ∷ definitions) [] are fits over = let e : entry_of d ∷ map entry_of definitions ≡ [] = are in cc
+  sound_definitions (d ∷ definitions) (w ∷ written) are fits over =
+      let e : entry_of d ∷ map entry_of definitions ≡ entry_in names table w ∷ map (entry_in names table) written = are in
+      let head : entry_of d ≡ entry_in names table w = cc in
+      let tail : map entry_of definitions ≡ map (entry_in names table) written = cc in
+      All-cons (IsSoundOver (numbers_in table alphabet)) d definitions
+      (sound_over w.body (body_term d.body) (ap (λ (x : Entry). x.term) head) (All-head (DoesMeet demand.Fits) d definitions fits) (All-head Over (definition_in names w) (map (definition_in names) written) over))
+      (sound_definitions definitions written tail (All-tail (DoesMeet demand.Fits) d definitions fits) (All-tail Over (definition_in names w) (map (definition_in names) written) over))

@@ -1,10 +1,9 @@
+pub mod Answers
 pub mod Gathered
-pub mod Planned
+pub mod Names
+pub mod Numbered
 pub mod Plans
-pub mod Raws
-pub mod Reads
 pub mod Resolved
 pub mod Sound
 pub mod Sources
-pub mod Together
-pub mod Written
+pub mod Stands

@@ -1,9 +1,6 @@
--- Expressions whose leaves are resolved: a leaf is a symbol, by its number in a table, unless it is a run without escape
--- that is a name of the project, which is that definition.
-use Rattle.std.specs.Prelude.{◌≡◌, ℕ, List, cond}
-use Rattle.fsm_base.specs.Symbols.{number_of}
+-- Expressions whose leaves are resolved and numbered, item by item.
+use Rattle.std.specs.Prelude.{◌≡◌, ℕ, List}
 use Rattle.regex_ast.specs.declared.expr.Atom.{Atom}
-use Rattle.regex_ast.specs.declared.expr.Atom.TheVariants.{Sym, Name}
 use Rattle.regex_ast.specs.declared.expr.Context.{Context}
 use Rattle.regex_ast.specs.declared.expr.Group.{Group}
 use Rattle.regex_ast.specs.declared.expr.Link.{Link, Or, And, Less}
@@ -12,11 +9,12 @@ use Rattle.regex_ast.specs.declared.expr.Raw.{Raw}
 use Rattle.regex_ast.specs.declared.expr.Step.{Step, CrossWith, Then}
 use Rattle.regex_ast.specs.Terms.{Links, Contexts, Steps, Mappings, Groups, term, maps_of, side_of, contexts_in, mappings_of, contexts_of, or, and, less, between, cross_with, then, plain, markup, insert, then_group}
 use Rattle.expr_parts.specs.Mapped.{mapped_contexts, mapped_groups, mapped_links, mapped_mappings, mapped_steps}
-use Rattle.project_model.specs.Raws.{is_symbol, symbol_of}
+use Rattle.project_meaning.specs.Leaves.{leaf_of}
+use Rattle.project_model.specs.Numbered.{numbered}
 
 -- what a leaf is where these names are defined and this table has the symbols
 abbrev pub atom_of : List (List ℕ) → List (List ℕ) → Raw → Atom
-atom_of names table leaf = cond (is_symbol names leaf) (Sym (record { 0 = number_of (symbol_of leaf) table })) (Name (number_of (symbol_of leaf) names))
+atom_of names table leaf = numbered names table (leaf_of names leaf)
 
 -- an item of a row in front of others
 abbrev pub link_before : {A : Type 0} → Link A → Links A → Links A

@@ -1,12 +1,10 @@
-ghost use Rattle.std.specs.Prelude.{◌↔◌, All, IsTrue, MatchOption, map};
-ghost use Rattle.project_model.specs.Planned.{EntryMeets, FirstFailing, Meets, entry_of};
+ghost use Rattle.std.specs.Prelude.{◌↔◌, All, IsTrue, MatchOption};
+ghost use Rattle.project_sources.specs.Faults.{fault};
+ghost use Rattle.project_model.specs.Answers.{DemandFault, DoesMeet, Meets, why_not};
 ghost use Rattle.project_model.specs.Plans.{body_term};
 
 use crate::definition::{Body, Definition};
-use expr_forms::form_of;
-
-/// The most that a definition may weigh.
-const MOST_WEIGHT: usize = 4_000_000;
+use expr_forms::{MOST_WEIGHT, form_of};
 
 /// What is asked of each definition.
 #[derive(Clone, Copy, Debug, PartialEq, Eq)]
@@ -33,13 +31,13 @@ fn meets(body: &Body, demand: Demand) -> bool
     }
 }
 
-/// The line of the first definition that doesn't meet it, or `None` where all do.
-pub fn first_failing(definitions: &[Definition], demand: Demand) -> Option<u32>
-    ensures { MatchOption result (All (EntryMeets demand) (map entry_of definitions.now)) (FirstFailing demand (map entry_of definitions.now)) }
+/// The first definition that doesn't meet it, or `None` where all do.
+pub fn first_failing(definitions: &[Definition], demand: Demand) -> Option<&Definition>
+    ensures { MatchOption result (All (DoesMeet demand) definitions.now) (λ d. DemandFault definitions.now demand (fault d.now.file d.now.line (why_not demand))) }
 {
     'definitions: for definition in definitions {
         if !meets(&definition.body, demand) {
-            return Some(definition.line);
+            return Some(definition);
         }
     }
     None

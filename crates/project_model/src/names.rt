@@ -3,29 +3,34 @@ ghost use Rattle.std.specs.List.{list_any};
 ghost use Rattle.std.specs.Str.{bytes_eq};
 ghost use Rattle.fsm_base.specs.Symbols.{number_of, with_text};
 ghost use Rattle.fsm_words.specs.Words.{IsDistinct};
-ghost use Rattle.project_model.specs.Raws.{is_symbol};
+ghost use Rattle.regex_ast.specs.declared.fault.Fault.{Fault};
 ghost use Rattle.regex_reader.specs.Files.{statement_of};
-ghost use Rattle.project_model.specs.Together.{HaveNames, IsWhyNoNames, defined_by, most_names};
+ghost use Rattle.project_meaning.specs.Leaves.{leaf_of};
+ghost use Rattle.project_meaning.specs.Projects.{names_of};
+ghost use Rattle.project_sources.specs.Faults.{NamesFault, is_built_leaf};
+ghost use Rattle.project_sources.specs.Limits.{most_names};
+ghost use Rattle.project_model.specs.Answers.{IsRefusedBy, definitions_in};
+ghost use Rattle.project_model.specs.Names.{is_named};
 
 use crate::plan_error::{PlanError, refused};
+use crate::symbols::symbol_text;
 use indexmap::IndexSet;
+use project_sources::MOST_NAMES;
 use regex_ast::{Define, Raw, Why};
 use std::alloc::{AllocError, Global};
 use std::marker::Model;
 
-/// The most names of a project.
-const MOST_NAMES: usize = 512;
-
 /// Different names, in the order in which they came. Contracts see them as the list of their texts.
 #[derive(Drop)]
 pub struct Names {
+    /// The texts, each once. The place of a name is its number.
     texts: IndexSet<String>,
 }
 
 impl Model for Names {
     ghost use Rattle.std.specs.Prelude.{List, ℕ, map};
     ghost use Rattle.std.specs.String.{string_bytes};
-    ghost use Rattle.project_model.specs.Together.{IsNames};
+    ghost use Rattle.project_model.specs.Names.{IsNames};
 
     ghost Value = { List (List ℕ) };
 
@@ -74,7 +79,7 @@ impl Names {
     }
 
     /// The place of a name, counted from 0, or the number of names where it's none of them.
-    #[tactic(auto, unfolding(crate::specs::Together::most_names))]
+    #[tactic(auto, unfolding(project_sources::specs::Limits::most_names))]
     pub fn number_of(&self, name: &str) -> u32
         ensures { result ≡ number_of name.now self.now }
     {
@@ -84,23 +89,39 @@ impl Names {
         }
     }
 
-    /// Whether a leaf is a symbol where these names are defined.
-    pub fn is_symbol(&self, leaf: &Raw) -> bool
-        ensures { result ≡ is_symbol self.now leaf.now }
+    /// The place behind all names.
+    #[tactic(auto, unfolding(project_sources::specs::Limits::most_names))]
+    pub fn end(&self) -> u32
+        ensures { result ≡ length self.now }
+    {
+        self.texts.len() as u32
+    }
+
+    /// Whether a leaf stands for one of the names.
+    pub fn is_name(&self, leaf: &Raw) -> bool
+        ensures { result ≡ is_named (leaf_of self.now leaf.now) }
     {
         match leaf {
-            Raw::Run(text) => !text.as_str().is_empty() && !self.contains(text.as_str()),
-            Raw::Quoted(text) => !text.as_str().is_empty(),
+            Raw::Run(text) => self.contains(text.as_str()),
+            Raw::Quoted(_) => false,
         }
+    }
+
+    /// Whether a leaf is a symbol where these names are defined: one without text isn't.
+    pub fn is_symbol(&self, leaf: &Raw) -> bool
+        ensures { result ≡ is_built_leaf (leaf_of self.now leaf.now) }
+    {
+        !self.is_name(leaf) && !symbol_text(leaf).is_empty()
     }
 }
 
 /// The names of the definitions of a file, in their order. They are refused at the first definition whose name an
 /// earlier one has, or that comes behind 512.
 pub fn names_of(alloc: Global, file: &str, defines: &[Define<Raw>]) -> Result<Names, PlanError>
-    ensures names { IfOk result (λ names. names ≡ defined_by (map statement_of defines.now)) }
-    ensures formed { OnOk result (HaveNames (map statement_of defines.now)) }
-    ensures error { IfErr result (IsWhyNoNames file.now (map statement_of defines.now)) }
+    ensures names { IfOk result (λ names. names ≡ names_of (definitions_in file.now (map statement_of defines.now))) }
+    ensures distinct { IfOk result IsDistinct }
+    ensures faultless { OnOk result ((found : Fault) → NamesFault (definitions_in file.now (map statement_of defines.now)) found → ⊥) }
+    ensures error { IfErr result (IsRefusedBy (NamesFault (definitions_in file.now (map statement_of defines.now)))) }
 {
     let mut names = Names::new(alloc);
     'defines: for define in defines {

@@ -1,21 +1,28 @@
-ghost use Rattle.std.specs.Prelude.{◌≡◌, ◌≤◌, ◌+◌, ◌++◌, ◌∷◌, [], All, Contains, IfOk, IfErr, OnOk, length, map, take};
+ghost use Rattle.std.specs.Prelude.{◌≡◌, ◌≤◌, ◌+◌, ◌++◌, ◌∷◌, [], List, All, Contains, IfOk, IfErr, OnOk, length, map, take};
 ghost use Rattle.fsm_base.specs.Symbols.{IsSymbol};
 ghost use Rattle.fsm_words.specs.Words.{IsDistinct};
 ghost use Rattle.regex_reader.specs.Files.{statement_of};
-ghost use Rattle.project_meaning.specs.Projects.{with_texts};
-ghost use Rattle.project_model.specs.Raws.{symbols_of_all};
-ghost use Rattle.project_model.specs.Gathered.{gathered};
-ghost use Rattle.project_model.specs.Planned.{DefinitionsSay, EntriesSay, IsPlanIn, IsPlanOf, IsUnsound, entry_in, entry_of, numbers_in};
+ghost use Rattle.project_meaning.specs.Projects.{names_of, with_texts};
+ghost use Rattle.project_sources.specs.Faults.{definitions_so_far, fault, said_so_far};
+ghost use Rattle.project_sources.specs.Limits.{most_before, most_symbols};
+ghost use Rattle.project_sources.specs.Manifests.{Placed, symbols_of};
+ghost use Rattle.project_sources.specs.Rows.{First};
+ghost use Rattle.project_sources.specs.Sources.{project_in, stated};
+ghost use Rattle.project_model.specs.Answers.{DemandFault, DoesMeet, IsPlanBy, IsRefusal, IsRefusedBy, definitions_in, demands, said_by};
+ghost use Rattle.project_model.specs.Gathered.{gathered, symbols_of_all};
+ghost use Rattle.project_model.specs.Numbered.{numbers_in};
 ghost use Rattle.project_model.specs.Plans.{IsPlan};
-ghost use Rattle.project_model.specs.Together.{defined_by, definitions_of, most_symbols};
+ghost use Rattle.project_model.specs.Stands.{entry_in, entry_of};
+ghost use Rattle.project_model.specs.declared.demands.Demand.TheVariants as demand;
 
 use crate::definition::{Body, Definition};
 use crate::demands::{Demand, first_failing};
 use crate::names::{Names, names_of};
 use crate::plan_error::{PlanError, refused};
 use crate::resolve::resolve;
-use crate::symbols::{MOST_SYMBOLS, symbols_of};
+use crate::symbols::symbols_of;
 use fsm_base::{Sym, SymbolTable, Text};
+use project_sources::MOST_SYMBOLS;
 use regex_ast::{Define, Raw, Why};
 use std::alloc::{AllocError, Global};
 use std::marker::Model;
@@ -23,7 +30,9 @@ use std::marker::Model;
 /// The definitions of a project without fault, and the symbols of its alphabet.
 #[derive(Drop)]
 pub struct Plan {
+    /// The definitions, in order; each has a name of its own and can be built over the symbols.
     definitions: Vec<Definition>,
+    /// The symbols of the alphabet, each once.
     symbols: Vec<Sym>,
 }
 
@@ -95,7 +104,7 @@ fn alphabet_of(
     further: &[Text],
 ) -> Result<SymbolTable, AllocError>
     requires { All IsSymbol further.now }
-    ensures { IfOk result (λ table. table ≡ gathered [] (symbols_of_all names.now (definitions_of (map statement_of defines.now)) ++ further.now)) }
+    ensures { IfOk result (λ table. table ≡ gathered [] (symbols_of_all names.now (map statement_of defines.now) ++ further.now)) }
 {
     let mut alphabet = symbols_of(alloc, names, defines)?;
     add_texts(further, &mut alphabet)?;
@@ -143,7 +152,7 @@ fn define(
     table: &SymbolTable,
     define: &Define<Raw>,
 ) -> Result<Definition, AllocError>
-    ensures { IfOk result (λ definition. entry_of definition ≡ entry_in file.now names.now table.now (statement_of define.now)) }
+    ensures { IfOk result (λ definition. entry_of definition ≡ entry_in names.now table.now (stated file.now (statement_of define.now))) }
 {
     let expr = resolve(alloc, names, table, &define.expr)?;
     Ok(Definition {
@@ -162,7 +171,7 @@ fn define_each(
     table: &SymbolTable,
     defines: &[Define<Raw>],
 ) -> Result<Vec<Definition>, AllocError>
-    ensures { IfOk result (λ definitions. map entry_of definitions.items ≡ map (entry_in file.now names.now table.now) (map statement_of defines.now)) }
+    ensures { IfOk result (λ definitions. map entry_of definitions.items ≡ map (entry_in names.now table.now) (definitions_in file.now (map statement_of defines.now))) }
 {
     let mut definitions = Vec::new(alloc);
     'defines: for one in defines {
@@ -171,19 +180,28 @@ fn define_each(
     Ok(definitions)
 }
 
-/// That the definitions of a file are sound: each fits, none is too heavy, each can be built.
-fn check(alloc: Global, file: &str, definitions: &[Definition]) -> Result<(), PlanError>
-    ensures sound { OnOk result (EntriesSay file.now (map entry_of definitions.now) (Ok (map entry_of definitions.now))) }
-    ensures error { IfErr result (IsUnsound file.now (map entry_of definitions.now)) }
+/// Refuses a definition.
+fn refused_at(alloc: Global, definition: &Definition, why: Why) -> PlanError
+    ensures { IsRefusal (fault definition.now.file definition.now.line why) result }
 {
-    if let Some(line) = first_failing(definitions, Demand::Fits) {
-        return Err(refused(alloc, file, line, Why::NotALanguage));
+    refused(alloc, definition.file.as_str(), definition.line, why)
+}
+
+/// That definitions are sound: each fits, none is too heavy, each can be built.
+fn check(alloc: Global, definitions: &[Definition]) -> Result<(), PlanError>
+    ensures fits { OnOk result (All (DoesMeet demand.Fits) definitions.now) }
+    ensures light { OnOk result (All (DoesMeet demand.Light) definitions.now) }
+    ensures built { OnOk result (All (DoesMeet demand.Built) definitions.now) }
+    ensures error { IfErr result (IsRefusedBy (First (DemandFault definitions.now) demands)) }
+{
+    if let Some(definition) = first_failing(definitions, Demand::Fits) {
+        return Err(refused_at(alloc, definition, Why::NotALanguage));
     }
-    if let Some(line) = first_failing(definitions, Demand::Light) {
-        return Err(refused(alloc, file, line, Why::LimitWeight));
+    if let Some(definition) = first_failing(definitions, Demand::Light) {
+        return Err(refused_at(alloc, definition, Why::LimitWeight));
     }
-    if let Some(line) = first_failing(definitions, Demand::Built) {
-        return Err(refused(alloc, file, line, Why::NotBuilt));
+    if let Some(definition) = first_failing(definitions, Demand::Built) {
+        return Err(refused_at(alloc, definition, Why::NotBuilt));
     }
     Ok(())
 }
@@ -199,17 +217,17 @@ fn plan_over(
     defines: &[Define<Raw>],
     table: &mut SymbolTable,
 ) -> Result<Plan, PlanError>
-    requires names { names.now ≡ defined_by (map statement_of defines.now) }
+    requires names { names.now ≡ names_of (definitions_in file.now (map statement_of defines.now)) }
     requires apart { IsDistinct names.now }
-    requires symbols { All (Contains alphabet.now) (symbols_of_all names.now (definitions_of (map statement_of defines.now))) }
+    requires symbols { All (Contains alphabet.now) (symbols_of_all names.now (map statement_of defines.now)) }
     requires distinct { IsDistinct alphabet.now }
     requires room { length table.old + length alphabet.now ≤ 16777216 }
-    ensures plan { IsPlanIn (DefinitionsSay file.now (map statement_of defines.now) alphabet.now table.old) table.old table.new result }
+    ensures plan { (manifest : List Placed) → (project_in (said_by manifest file.now (map statement_of defines.now))).alphabet ≡ alphabet.now → IsPlanBy definitions_so_far (said_by manifest file.now (map statement_of defines.now)) table.old table.new result }
     ensures front { take (length table.old) table.new ≡ table.old }
 {
     intern_all(alphabet, table)?;
     let definitions = define_each(alloc, file, names, table, defines)?;
-    match check(alloc, file, &definitions) {
+    match check(alloc, &definitions) {
         Ok(()) => {}
         Err(error) => return Err(error),
     }
@@ -231,8 +249,8 @@ pub fn plan_of_statements(
     table: &mut SymbolTable,
 ) -> Result<Plan, PlanError>
     requires symbols { All IsSymbol further.now }
-    requires room { length table.old ≤ 16776192 }
-    ensures plan { IsPlanOf file.now (map statement_of defines.now) further.now table.old table.new result }
+    requires room { length table.old ≤ most_before }
+    ensures plan { (manifest : List Placed) → symbols_of manifest ≡ further.now → IsPlanBy said_so_far (said_by manifest file.now (map statement_of defines.now)) table.old table.new result }
     ensures front { take (length table.old) table.new ≡ table.old }
 {
     let names = match names_of(alloc, file, defines) {

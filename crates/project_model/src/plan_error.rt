@@ -1,4 +1,5 @@
-ghost use Rattle.project_model.specs.Together.{IsRefusal, fault};
+ghost use Rattle.project_sources.specs.Faults.{fault};
+ghost use Rattle.project_model.specs.Answers.{IsRefusal};
 
 use fsm_base::Text;
 use regex_ast::{Fault, Why};

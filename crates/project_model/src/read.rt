@@ -1,26 +1,25 @@
-ghost use Rattle.std.specs.Prelude.{◌≡◌, ◌*◌, ◌<◌, ◌≤◌, List, ℕ, All, Err, IfErr, IfOk, OnErr, length, take};
+ghost use Rattle.std.specs.Prelude.{◌≡◌, ◌*◌, ◌<◌, ◌≤◌, List, ℕ, All, Err, Ok, IfErr, IfOk, OnErr, length, map, take};
 ghost use Rattle.fsm_base.specs.Normal.{IsWhyNoText, most_growth, source_text};
-ghost use Rattle.fsm_base.specs.Symbols.{IsSymbol};
-ghost use Rattle.project_manifest.specs.Manifests.{IsManifestRead, IsSomeManifest};
-ghost use Rattle.project_model.specs.Planned.{IsPlanIn};
-ghost use Rattle.project_model.specs.Reads.{ContentSays, HasText, IsManifestFile, IsProjectRead, IsWhyNoManifest, IsWhyNoTextOf, ManifestSays, TextSays, most_bytes};
-ghost use Rattle.project_model.specs.Together.{project_name};
+ghost use Rattle.project_manifest.specs.Manifests.{IsManifest, IsManifestRead, IsSomeManifest, project_name};
+ghost use Rattle.regex_reader.specs.Files.{FaultAt, ReadsAs, statement_of};
+ghost use Rattle.project_sources.specs.Faults.{HasNoText, fault};
+ghost use Rattle.project_sources.specs.Limits.{most_before, most_bytes};
+ghost use Rattle.project_sources.specs.Sources.{HasText, HaveText};
+ghost use Rattle.project_model.specs.Answers.{IsManifestFile, IsNoManifest, IsProjectRead, IsReadAs, IsRefusedBy, IsUnread};
 
 use crate::plan::{Plan, plan_of_statements};
 use crate::plan_error::{PlanError, refused};
 use crate::sources::Sources;
 use fsm_base::{SymbolTable, Text, TextError, normal};
 use project_manifest::{Manifest, read_manifest};
-use regex_ast::{ReadError, Why};
+use project_sources::MOST_BYTES;
+use regex_ast::{Define, Raw, ReadError, Why};
 use regex_reader::read_xfst;
 use std::alloc::Global;
 
-/// The most bytes of a file.
-const MOST_BYTES: usize = 1_048_576;
-
 /// That bytes are no text.
 fn no_text(alloc: Global, name: &str, error: TextError) -> PlanError
-    ensures { (bytes : List ℕ) → length bytes ≤ most_bytes → IsWhyNoText (source_text bytes) error → IsWhyNoTextOf name.now bytes result }
+    ensures { (bytes : List ℕ) → length bytes ≤ most_bytes → IsWhyNoText (source_text bytes) error → IsRefusedBy (HasNoText name.now bytes) result }
 {
     match error {
         TextError::NotUtf8 { line } => refused(alloc, name, line, Why::NotUtf8),
@@ -30,11 +29,11 @@ fn no_text(alloc: Global, name: &str, error: TextError) -> PlanError
 }
 
 /// The text of a file of this name, by its content.
-#[tactic(auto, unfolding(crate::specs::Reads::most_bytes))]
+#[tactic(auto, unfolding(project_sources::specs::Limits::most_bytes))]
 fn text_of_file(alloc: Global, name: &str, bytes: &[u8]) -> Result<Text, PlanError>
     ensures text { IfOk result (λ text. HasText bytes.now text) }
     ensures short { IfOk result (λ text. length text ≤ most_growth * most_bytes) }
-    ensures error { IfErr result (IsWhyNoTextOf name.now bytes.now) }
+    ensures error { IfErr result (IsRefusedBy (HasNoText name.now bytes.now)) }
 {
     if bytes.len() > MOST_BYTES {
         return Err(refused(alloc, name, 0, Why::LimitFile));
@@ -47,7 +46,7 @@ fn text_of_file(alloc: Global, name: &str, bytes: &[u8]) -> Result<Text, PlanErr
 
 /// That a file without text is no manifest.
 fn no_manifest(alloc: Global, error: PlanError) -> PlanError
-    ensures { (bytes : List ℕ) → IsWhyNoTextOf project_name bytes error → IsWhyNoManifest bytes result }
+    ensures { (bytes : List ℕ) → IsRefusedBy (HasNoText project_name bytes) error → IsRefusedBy (IsNoManifest bytes) result }
 {
     match error {
         PlanError::Refused(_fault) => refused(alloc, "project", 0, Why::NotBuilt),
@@ -57,7 +56,7 @@ fn no_manifest(alloc: Global, error: PlanError) -> PlanError
 
 /// That a text is no manifest.
 fn unread(alloc: Global, error: ReadError) -> PlanError
-    ensures { (bytes text : List ℕ) → HasText bytes text → IsManifestRead text (Err error) → IsWhyNoManifest bytes result }
+    ensures { (bytes text : List ℕ) → HasText bytes text → IsManifestRead text (Err error) → IsRefusedBy (IsNoManifest bytes) result }
 {
     match error {
         ReadError::Fault { .. } => refused(alloc, "project", 0, Why::NotBuilt),
@@ -73,7 +72,7 @@ fn unread(alloc: Global, error: ReadError) -> PlanError
 /// no memory.
 pub fn manifest_of(alloc: Global, bytes: &[u8]) -> Result<Manifest, PlanError>
     ensures manifest { IfOk result (λ manifest. IsManifestFile bytes.now manifest) }
-    ensures error { IfErr result (IsWhyNoManifest bytes.now) }
+    ensures error { IfErr result (IsRefusedBy (IsNoManifest bytes.now)) }
 {
     let text = match text_of_file(alloc, "project", bytes) {
         Ok(text) => text,
@@ -85,42 +84,26 @@ pub fn manifest_of(alloc: Global, bytes: &[u8]) -> Result<Manifest, PlanError>
     }
 }
 
-/// The plan of the text of a file of this name and of further symbols.
-fn plan_of_text(
-    alloc: Global,
-    name: &str,
-    text: &str,
-    further: &[Text],
-    table: &mut SymbolTable,
-) -> Result<Plan, PlanError>
-    requires short { length text.now ≤ most_growth * most_bytes }
-    requires symbols { All IsSymbol further.now }
-    requires room { length table.old ≤ 16776192 }
-    ensures plan { IsPlanIn (TextSays name.now text.now further.now table.old) table.old table.new result }
-    ensures front { take (length table.old) table.new ≡ table.old }
+/// The statements of a text of this file.
+fn statements_in(alloc: Global, file: &str, text: &str) -> Result<Vec<Define<Raw>>, PlanError>
+    requires { length text.now ≤ most_growth * most_bytes }
+    ensures read { IfOk result (λ defines. ReadsAs text.now (Ok (map statement_of defines.items))) }
+    ensures error { IfErr result (IsRefusedBy (λ found. (at : FaultAt) × ReadsAs text.now (Err at) × (found ≡ fault file.now at.line at.why))) }
 {
     match read_xfst(alloc, text) {
-        Ok(defines) => plan_of_statements(alloc, name, &defines, further, table),
-        Err(ReadError::Fault { line, why }) => Err(refused(alloc, name, line, why)),
+        Ok(defines) => Ok(defines),
+        Err(ReadError::Fault { line, why }) => Err(refused(alloc, file, line, why)),
         Err(ReadError::Memory(error)) => Err(PlanError::Memory(error)),
     }
 }
 
-/// The plan of a file of this name, by its content, and of further symbols.
-fn plan_of_file(
-    alloc: Global,
-    name: &str,
-    bytes: &[u8],
-    further: &[Text],
-    table: &mut SymbolTable,
-) -> Result<Plan, PlanError>
-    requires symbols { All IsSymbol further.now }
-    requires room { length table.old ≤ 16776192 }
-    ensures plan { IsPlanIn (ContentSays name.now bytes.now further.now table.old) table.old table.new result }
-    ensures front { take (length table.old) table.new ≡ table.old }
+/// The statements of this file, by its content.
+fn statements_of(alloc: Global, file: &str, bytes: &[u8]) -> Result<Vec<Define<Raw>>, PlanError>
+    ensures read { IfOk result (λ defines. IsReadAs bytes.now (Ok (map statement_of defines.items))) }
+    ensures error { IfErr result (IsRefusedBy (IsUnread file.now bytes.now)) }
 {
-    match text_of_file(alloc, name, bytes) {
-        Ok(text) => plan_of_text(alloc, name, text.as_str(), further, table),
+    match text_of_file(alloc, file, bytes) {
+        Ok(text) => statements_in(alloc, file, text.as_str()),
         Err(error) => Err(error),
     }
 }
@@ -131,7 +114,7 @@ fn plan_of_sources(
     sources: &Sources,
     table: &mut SymbolTable,
 ) -> Result<Plan, PlanError>
-    requires { length table.old ≤ 16776192 }
+    requires { length table.old ≤ most_before }
     ensures plan { IsProjectRead sources.now table.old table.new result }
     ensures front { take (length table.old) table.new ≡ table.old }
 {
@@ -152,14 +135,19 @@ fn plan_by(
     table: &mut SymbolTable,
 ) -> Result<Plan, PlanError>
     requires manifest { IsSomeManifest manifest.now }
-    requires room { length table.old ≤ 16776192 }
-    ensures plan { IsPlanIn (ManifestSays sources.now manifest.now table.old) table.old table.new result }
+    requires room { length table.old ≤ most_before }
+    ensures plan { (text : List ℕ) → HaveText sources.now project_name text → IsManifest text manifest.now → IsProjectRead sources.now table.old table.new result }
     ensures front { take (length table.old) table.new ≡ table.old }
 {
     let file = manifest.file();
-    match sources.get(file.as_str()) {
-        Some(content) => plan_of_file(alloc, file.as_str(), content, manifest.symbols(), table),
-        None => Err(refused(alloc, "project", manifest.line(), Why::NoFile)),
+    let Some(content) = sources.get(file.as_str()) else {
+        return Err(refused(alloc, "project", manifest.line(), Why::NoFile));
+    };
+    match statements_of(alloc, file.as_str(), content) {
+        Ok(defines) => {
+            plan_of_statements(alloc, file.as_str(), &defines, manifest.symbols(), table)
+        }
+        Err(error) => Err(error),
     }
 }
 
@@ -185,7 +173,7 @@ pub fn read_project(
     sources: &Sources,
     table: &mut SymbolTable,
 ) -> Result<Plan, PlanError>
-    requires { length table.old ≤ 16776192 }
+    requires { length table.old ≤ most_before }
     ensures plan { IsProjectRead sources.now table.old table.new result }
     ensures held { IfOk result (λ plan. All (λ s. s.0 < length table.new) plan.symbols) }
     ensures error { OnErr result (table.new ≡ table.old) }

@@ -10,16 +10,18 @@ use regex_ast::{Atom, Context, Expr, Group, Link, Mapping, Raw, RuleSet, Step};
 use std::alloc::{AllocError, Global};
 
 /// What a leaf is where these names are defined and this table has the symbols: a symbol, by its number, or a
-/// definition, by its place. The reader gives no leaf without a text; such a one counts as a name, so that what it
-/// stands in can't be built.
+/// definition, by its place. The reader gives no leaf without a text; such a one counts as a name behind all others, so
+/// that what it stands in can't be built.
 fn atom_of(names: &Names, table: &SymbolTable, leaf: &Raw) -> Atom
     ensures { result ≡ atom_of names.now table.now leaf.now }
 {
     let text = symbol_text(leaf);
     if names.is_symbol(leaf) {
         Atom::Sym(table.number_of(text))
-    } else {
+    } else if names.is_name(leaf) {
         Atom::Name(names.number_of(text))
+    } else {
+        Atom::Name(names.end())
     }
 }
 

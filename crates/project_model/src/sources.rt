@@ -10,6 +10,7 @@ use std::marker::Model;
 /// The files of a project, by their names. Contracts see them as a list of names and contents.
 #[derive(Drop)]
 pub struct Sources {
+    /// The content of each file, by its name.
     files: IndexMap<String, Vec<u8>>,
 }
 

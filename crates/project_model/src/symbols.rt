@@ -2,22 +2,20 @@ ghost use Rattle.std.specs.Prelude.{◌≡◌, ◌≤◌, ◌+◌, [], length, m
 ghost use Rattle.std.specs.List.{flat_map};
 ghost use Rattle.regex_reader.specs.Files.{statement_of};
 ghost use Rattle.expr_parts.specs.Leaves.{seen};
-ghost use Rattle.project_model.specs.Raws.{symbol_of, symbol_beside, symbols_of_all};
-ghost use Rattle.project_model.specs.Gathered.{gathered};
-ghost use Rattle.project_model.specs.Together.{definitions_of, most_symbols};
+ghost use Rattle.project_meaning.specs.Leaves.{written};
+ghost use Rattle.project_sources.specs.Limits.{most_symbols};
+ghost use Rattle.project_model.specs.Gathered.{gathered, symbol_beside, symbols_of_all};
 
 use crate::names::Names;
 use expr_parts::leaves;
 use fsm_base::SymbolTable;
+use project_sources::MOST_SYMBOLS;
 use regex_ast::{Define, Raw};
 use std::alloc::{AllocError, Global};
 
-/// The most symbols of a project.
-pub const MOST_SYMBOLS: usize = 1024;
-
 /// The text of the symbol that a leaf stands for.
 pub fn symbol_text(leaf: &Raw) -> &str
-    ensures { result.now ≡ symbol_of leaf.now }
+    ensures { result.now ≡ written leaf.now }
 {
     match leaf {
         Raw::Run(text) => text.as_str(),
@@ -54,7 +52,7 @@ pub fn symbols_of(
     names: &Names,
     defines: &[Define<Raw>],
 ) -> Result<SymbolTable, AllocError>
-    ensures { IfOk result (λ table. table ≡ gathered [] (symbols_of_all names.now (definitions_of (map statement_of defines.now)))) }
+    ensures { IfOk result (λ table. table ≡ gathered [] (symbols_of_all names.now (map statement_of defines.now))) }
 {
     let mut table = SymbolTable::new(alloc);
     'defines: for define in defines {

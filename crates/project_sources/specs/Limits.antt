@@ -16,3 +16,7 @@ most_names = 512
 -- the most symbols of the alphabet
 unfoldable pub most_symbols : ℕ
 most_symbols = 1024
+
+-- the most symbols that a table holds before those of a project: with these their numbers stay below 2 ^ 24
+abbrev pub most_before : ℕ
+most_before = 16776192

@@ -2,7 +2,8 @@
 //! sources. Definitions, which the contracts of the crates above cite, and their laws. Read `specs/Manifests.antt`,
 //! `Sources.antt`, `Rows.antt` and `Faults.antt`, in this order; then `Edits.antt`.
 //!
-//! The functions do nothing when they run: each names a law, which its contract states.
+//! [`MOST_BYTES`], [`MOST_NAMES`] and [`MOST_SYMBOLS`] are the limits of a project. The functions do nothing when they run: each
+//! names a law, which its contract states.
 //!
 //! - [`one_fault`], [`one_answer`]: sources are one project, or have one first fault.
 //! - [`projects_are_sound`]: without a fault names end, and weigh little.
@@ -12,7 +13,9 @@
 #![tactic(auto)]
 
 mod laws;
+mod limits;
 
 pub use laws::{
     centres_come_last, no_files_no_project, one_answer, one_fault, one_outcome, projects_are_sound,
 };
+pub use limits::{MOST_BYTES, MOST_NAMES, MOST_SYMBOLS};

@@ -8,7 +8,7 @@
 //! - `again TEXT` reads an expression, prints its tree and reads that again. Such a row is only printed where the tree
 //!   isn't the same then; how many are is told at the end. `bench/expressions.py` writes these rows.
 //!
-//! A line with another field, as `#`, does nothing.
+//! An empty line, and one that begins with `#`, says nothing; a line with another field is told.
 #![tactic(auto)]
 
 mod again;
@@ -27,7 +27,9 @@ const MOST_READ: usize = 1_000_000;
 /// How many rows `again` there were, and how many of their trees stayed the same.
 #[derive(Drop)]
 struct Trees {
+    /// How many were read.
     read: u64,
+    /// How many were the same again.
     same: u64,
 }
 
@@ -42,7 +44,8 @@ fn obey(alloc: Global, trees: &mut Trees, row: &str) -> Result<Option<String>, A
         "text" => Ok(Some(said_of_text(alloc, text)?)),
         "entry" => Ok(Some(said_of_entry(alloc, text)?)),
         "again" => print_again(alloc, trees, text),
-        _ => Ok(None),
+        "" | "#" => Ok(None),
+        _ => Ok(Some(String::from_str(alloc, "no such field")?)),
     }
 }
 

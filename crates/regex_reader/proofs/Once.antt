@@ -11,6 +11,7 @@ use Rattle.regex_tokens.specs.declared.token.Operator.TheVariants.{Semicolon}
 use Rattle.regex_tokens.specs.declared.token.Token.{Token}
 use Rattle.regex_tokens.specs.declared.token.Token.TheVariants.{Operator as operator}
 use Rattle.regex_tokens.proofs.Texts.{cuts_once}
+use Rattle.regex_tokens.specs.declared.comments.Comments.TheVariants.{OfDefinitions, OfEntries}
 use Rattle.regex_reader.specs.Files.{Placed, Statement, FaultAt, Verdict, deep, unread, power, rule, fine, IsOne, Says, nothing, no_token, unended, read, later, refused, ExpressionSays, IsEntry, tokens_of, places_of, first_line, is_semicolon}
 use Rattle.regex_reader.specs.Reads.{OneReading, OneExpression}
 use Rattle.regex_reader.specs.Tests.{nodes, has_high_power, has_large_rule}
@@ -166,7 +167,7 @@ placed_same p q tokens places = sym (placed_again p) ∙ ap (λ (ts : List Token
 
 pub one_reading : OneReading
 one_reading text a b r s =
-    let cut = cuts_once (tokens_of r.placed) 1 text (places_of r.placed) r.ending (tokens_of s.placed) (places_of s.placed) s.ending r.cut s.cut in
+    let cut = cuts_once OfDefinitions (tokens_of r.placed) 1 text (places_of r.placed) r.ending (tokens_of s.placed) (places_of s.placed) s.ending r.cut s.cut in
     one_saying r.placed s.placed r.ending s.ending a b (placed_same r.placed s.placed cut.0 cut.1) cut.2 r.says s.says
 
 -- Expressions alone.
@@ -209,5 +210,5 @@ one_saying_of_entry line tokens e d r t end (fine t1 d1 f1 h1) (fine t2 d2 f2 h2
 
 pub one_expression : OneExpression
 one_expression text line a b r s =
-    let cut = cuts_once r.tokens line text r.places r.ending s.tokens s.places s.ending r.cut s.cut in
+    let cut = cuts_once OfEntries r.tokens line text r.places r.ending s.tokens s.places s.ending r.cut s.cut in
     one_saying_of_entry line s.tokens r.ending s.ending a b cut.2 (subst (λ (ts : List Token). ExpressionSays line ts r.ending a) cut.0 r.says) s.says

@@ -11,6 +11,7 @@ use Rattle.regex_ast.specs.declared.fault.Why.{Why}
 use Rattle.regex_ast.specs.declared.fault.Why.TheVariants as why
 use Rattle.regex_tokens.specs.Bytes.{begins}
 use Rattle.regex_tokens.specs.Cuts.{Cuts}
+use Rattle.regex_tokens.specs.declared.comments.Comments.TheVariants.{OfDefinitions, OfEntries}
 use Rattle.regex_tokens.specs.declared.token.Ending.{Ending}
 use Rattle.regex_tokens.specs.declared.token.Ending.TheVariants.{Whole, NoToken}
 use Rattle.regex_tokens.specs.declared.token.Operator.TheVariants.{OpenSquare, CloseSquare, OpenRound, CloseRound, Semicolon, Arrow, Optional, Only}
@@ -19,6 +20,7 @@ use Rattle.regex_tokens.specs.declared.token.Token.{Token}
 use Rattle.regex_tokens.specs.declared.token.Token.TheVariants.{Operator as operator, Run as run}
 use Rattle.regex_grammar.specs.Whole.{IsReading}
 use Rattle.regex_reader.specs.Tests.{nodes, is_misplaced, has_high_power, has_large_rule}
+use Rattle.regex_reader.specs.Limits.{most_characters, most_open}
 
 -- what a statement says: the line of its first token, counted from 1, the name and what it stands for
 pub record Statement : Type 0 where
@@ -59,10 +61,10 @@ open_round count token = if closes token then count - 1 else count
 abbrev pub open_behind : ℕ → Token → ℕ
 open_behind count token = if opens token then count + 1 else open_round count token
 
--- a token stands inside more than 64 open brackets, where so many are open before the tokens
+-- a token stands inside more open brackets than may be, where so many are open before the tokens
 abbrev pub is_too_deep : ℕ → List Token → Bool
 is_too_deep count [] = false
-is_too_deep count (token ∷ tokens) = nat_lt 64 (open_round count token) || is_too_deep (open_behind count token) tokens
+is_too_deep count (token ∷ tokens) = nat_lt most_open (open_round count token) || is_too_deep (open_behind count token) tokens
 
 -- Names.
 
@@ -76,9 +78,9 @@ abbrev pub begins_with_digit : List ℕ → Bool
 begins_with_digit [] = false
 begins_with_digit (b ∷ bs) = is_digit b
 
--- 1 to 64 characters, each an ASCII letter or digit or a character above U+007F, the first no digit
+-- a character or more, but not too many, each an ASCII letter or digit or a character above U+007F, the first no digit
 abbrev pub is_name : List ℕ → Bool
-is_name text = nat_lt 0 (characters text) && (nat_le (characters text) 64 && (not (begins_with_digit text) && list_all (λ b. is_letter b || (is_digit b || nat_le 128 b)) text))
+is_name text = nat_lt 0 (characters text) && (nat_le (characters text) most_characters && (not (begins_with_digit text) && list_all (λ b. is_letter b || (is_digit b || nat_le 128 b)) text))
 
 -- Statements.
 
@@ -157,7 +159,7 @@ pub data Says : List Placed → Ending → Result (List Statement) FaultAt → T
 pub record ReadsAs (text : List ℕ) (answer : Result (List Statement) FaultAt) : Type 0 where
   pub placed : List Placed
   pub ending : Ending
-  pub cut : Cuts 1 text (tokens_of placed) (places_of placed) ending
+  pub cut : Cuts OfDefinitions 1 text (tokens_of placed) (places_of placed) ending
   pub says : Says placed ending answer
 
 -- Expressions alone, in an entry of a lexicon: levels 1 to 8 and 10. Neither an arrow nor `=>` stands there.
@@ -185,5 +187,5 @@ pub record ReadsExpression (text : List ℕ) (line : ℕ) (answer : Result (Term
   pub tokens : List Token
   pub places : List Place
   pub ending : Ending
-  pub cut : Cuts line text tokens places ending
+  pub cut : Cuts OfEntries line text tokens places ending
   pub says : ExpressionSays line tokens ending answer

@@ -5,6 +5,7 @@ use Rattle.regex_ast.specs.declared.expr.Raw.{Raw}
 use Rattle.regex_ast.specs.declared.expr.Suffix.{Suffix}
 use Rattle.regex_ast.specs.declared.expr.Suffix.TheVariants.{Power}
 use Rattle.regex_ast.specs.Terms.{Term, Terms, Links, Contexts, Steps, Mappings, Groups, edge, group, maybe, not_one, cross, suffixed, prefixed, ignore, concat, chain, only, rules, steps, no_term, then_term, no_link, or, and, less, no_context, between, no_step, cross_with, then, no_mapping, plain, markup, insert, no_group, then_group}
+use Rattle.regex_reader.specs.Limits.{highest_power, most_in_rules}
 
 -- an expression or a part of one, and whether it stands inside a context
 pub record Node : Type 0 where
@@ -88,9 +89,9 @@ is_misplaced node = is_edge node.term && not node.inside
     is_edge edge = true
     is_edge _ = false
 
--- `^n` with n above 255
+-- `^n` with too high a number
 abbrev pub is_high : Suffix → Bool
-is_high (Power n) = nat_lt 255 n
+is_high (Power n) = nat_lt highest_power n
 is_high _ = false
 
 abbrev pub has_high_power : Node → Bool
@@ -100,11 +101,11 @@ has_high_power node = of_term node.term
     of_term (suffixed e suffixes) = list_any is_high suffixes
     of_term _ = false
 
--- more than 64 mappings or contexts in one set of rules, or contexts of one `=>`; one inside another counts by itself
+-- too many mappings or contexts in one set of rules, or contexts of one `=>`; one inside another counts by itself
 abbrev pub has_large_rule : Node → Bool
 has_large_rule node = of_term node.term
   where
     of_term : Term Raw → Bool
-    of_term (only e contexts) = nat_lt 64 (context_count contexts)
-    of_term (rules optional groups) = nat_lt 64 (mappings_in groups) || nat_lt 64 (contexts_in groups)
+    of_term (only e contexts) = nat_lt most_in_rules (context_count contexts)
+    of_term (rules optional groups) = nat_lt most_in_rules (mappings_in groups) || nat_lt most_in_rules (contexts_in groups)
     of_term _ = false

@@ -8,11 +8,12 @@ ghost use Rattle.regex_reader.specs.Verdicts.{IsEntryAnswer};
 use crate::brackets::is_too_deep;
 use crate::statement::checked;
 use regex_ast::{Expr, Raw, ReadError, Why};
-use regex_tokens::{Ending, Operator, Token, tokens};
+use regex_tokens::{Comments, Ending, Operator, Token, tokens};
 use std::alloc::Global;
 
 /// Reads a text that begins in this line, counted from 1, as one expression without `->`, `(->)` and `=>`, as an entry
-/// of a lexicon has one (Beesley and Karttunen, Finite State Morphology, 2003, chapters 2 and 4).
+/// of a lexicon has one (Beesley and Karttunen, Finite State Morphology, 2003, chapters 2 and 4). A comment begins with `!`
+/// alone there.
 ///
 /// # Errors
 ///
@@ -28,7 +29,7 @@ pub fn read_expr(alloc: Global, text: &str, line: u32) -> Result<Expr<Raw>, Read
     requires { line + newlines text.now < 2 ^ 32 - 1 }
     ensures { IsReadExpression text.now line result }
 {
-    let found = match tokens(alloc, text, line) {
+    let found = match tokens(alloc, text, line, Comments::OfEntries) {
         Ok(found) => found,
         Err(error) => return Err(ReadError::Memory(error)),
     };

@@ -1,6 +1,7 @@
 ghost use Rattle.std.specs.Prelude.{◌≡◌, ◌||◌, [], ◌∷◌, false, not, nat_lt, map};
 ghost use Rattle.std.specs.List.{list_any};
 ghost use Rattle.regex_ast.specs.Terms.{term, terms_of, links_of, contexts_of, steps_by, mappings_of, groups_of};
+ghost use Rattle.regex_reader.specs.Limits.{most_in_rules};
 ghost use Rattle.regex_reader.specs.Found.{found_in, either};
 ghost use Rattle.regex_reader.specs.Tests.{nodes, each_of, each_link, each_context, each_step, each_mapping, each_group, is_high, mappings_in, contexts_in};
 
@@ -215,7 +216,7 @@ fn in_mapping(mapping: &Mapping<Raw>, inside: bool) -> Findings
 
 /// Whether groups have more than 64 mappings or more than 64 contexts together.
 fn are_large(groups: &[Group<Raw>]) -> bool
-    ensures { result ≡ (nat_lt 64 (mappings_in (groups_of groups.now)) || nat_lt 64 (contexts_in (groups_of groups.now))) }
+    ensures { result ≡ (nat_lt most_in_rules (mappings_in (groups_of groups.now)) || nat_lt most_in_rules (contexts_in (groups_of groups.now))) }
 {
     let mut mappings: usize = 0;
     let mut contexts: usize = 0;

@@ -8,7 +8,7 @@ ghost use Rattle.regex_reader.specs.Verdicts.{placed, IsEnd};
 use crate::brackets::is_too_deep;
 use crate::statement::{first_line, statement};
 use regex_ast::{Define, Raw, ReadError, Why};
-use regex_tokens::{Ending, Operator, Place, Token, tokens};
+use regex_tokens::{Comments, Ending, Operator, Place, Token, tokens};
 use std::alloc::Global;
 
 /// Reads the definitions of a text, which is a sequence of statements `define NAME EXPRESSION ;` (Beesley and
@@ -34,7 +34,7 @@ pub fn read_xfst(alloc: Global, text: &str) -> Result<Vec<Define<Raw>>, ReadErro
     requires { newlines text.now + 1 < 2 ^ 32 - 1 }
     ensures { IsRead text.now result }
 {
-    let found = match tokens(alloc, text, 1) {
+    let found = match tokens(alloc, text, 1, Comments::OfDefinitions) {
         Ok(found) => found,
         Err(error) => return Err(ReadError::Memory(error)),
     };

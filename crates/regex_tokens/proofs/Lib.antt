@@ -1,6 +1,5 @@
 pub mod Fronts
 pub mod Lists
-pub mod Cases
 pub mod Flags
 pub mod Pieces
 pub mod Spells

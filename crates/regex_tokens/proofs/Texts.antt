@@ -5,6 +5,7 @@ use Rattle.std.specs.Str.{bytes_eq}
 use Rattle.regex_ast.specs.Flags.{IsFlag, IsNegativeFlag}
 use Rattle.regex_tokens.specs.Bytes.{is_quoted_byte, is_braced_byte, is_run_byte}
 use Rattle.regex_tokens.specs.Spelling.{spelling, IsSpaced, is_escape, written, meant, IsQuoted, IsBraced, IsRun, Spells}
+use Rattle.regex_tokens.specs.declared.comments.Comments.{Comments}
 use Rattle.regex_tokens.specs.Cuts.{IsLongest, IsFirst, HasNoFirst, IsRefused, Cuts, behind_gap, newlines}
 use Rattle.regex_tokens.specs.Reading.{longest_first, is_flag, is_refused, HasNone, IsRead, IsTaken}
 use Rattle.regex_tokens.specs.declared.token.Run.{Run}
@@ -183,31 +184,32 @@ place_same p q line apart = λ i. record { line = line i; apart = apart i }
 abbrev pub AreSame : List Token → List Place → Ending → List Token → List Place → Ending → Type 0
 AreSame ts ps e us qs d = (ts ≡ us) × (ps ≡ qs) × (e ≡ d)
 
-ends_once : (line : ℕ) (text : List ℕ) (e d : Ending) → Cuts line text [] [] e → Cuts line text [] [] d → e ≡ d
-ends_once line text Whole Whole h g = refl
-ends_once line text Whole (NoToken b) h g = absurd (g.0 h)
-ends_once line text (NoToken a) Whole h g = absurd (h.0 g)
-ends_once line text (NoToken a) (NoToken b) h g = ap NoToken (h.2 ∙ sym g.2)
+module _ (marks : Comments) where
+  ends_once : (line : ℕ) (text : List ℕ) (e d : Ending) → Cuts marks line text [] [] e → Cuts marks line text [] [] d → e ≡ d
+  ends_once line text Whole Whole h g = refl
+  ends_once line text Whole (NoToken b) h g = absurd (g.0 h)
+  ends_once line text (NoToken a) Whole h g = absurd (h.0 g)
+  ends_once line text (NoToken a) (NoToken b) h g = ap NoToken (h.2 ∙ sym g.2)
 
-ends_first : (line : ℕ) (text : List ℕ) (e : Ending) (t : Token) (front rest : List ℕ) → Cuts line text [] [] e → IsFirst (behind_gap text) t front rest → ⊥
-ends_first line text Whole t front rest h g = empty_none (behind_gap text) h t front rest g
-ends_first line text (NoToken a) t front rest h g = h.1 t front rest g
+  ends_first : (line : ℕ) (text : List ℕ) (e : Ending) (t : Token) (front rest : List ℕ) → Cuts marks line text [] [] e → IsFirst (behind_gap marks text) t front rest → ⊥
+  ends_first line text Whole t front rest h g = empty_none (behind_gap marks text) h t front rest g
+  ends_first line text (NoToken a) t front rest h g = h.1 t front rest g
 
-pub cuts_once : (ts : List Token) (line : ℕ) (text : List ℕ) (ps : List Place) (e : Ending) (us : List Token) (qs : List Place) (d : Ending) → Cuts line text ts ps e → Cuts line text us qs d → AreSame ts ps e us qs d
-cuts_once [] line text [] e [] [] d h g = (refl, refl, ends_once line text e d h g)
-cuts_once [] line text [] e (u ∷ us) (q ∷ qs) d h g = absurd (ends_first line text e u g.0 g.1 h g.2)
-cuts_once (t ∷ ts) line text (p ∷ ps) e [] [] d h g = absurd (ends_first line text d t h.0 h.1 g h.2)
-cuts_once (t ∷ ts) line text (p ∷ ps) e (u ∷ us) (q ∷ qs) d h g =
-    let same = first_once (behind_gap text) t u h.0 h.1 g.0 g.1 h.2 g.2 in
-    let place : p ≡ q = place_same p q (h.3 ∙ sym g.3) (h.4 ∙ sym g.4) in
-    let next : p.line + newlines h.0 ≡ q.line + newlines g.0 = ap (λ x. x.line + newlines h.0) place ∙ ap (λ bs. q.line + newlines bs) same.1 in
-    let there : Cuts (q.line + newlines g.0) g.1 ts ps e = subst (λ n. Cuts n g.1 ts ps e) next (subst (λ bs. Cuts (p.line + newlines h.0) bs ts ps e) same.2 h.5) in
-    let more : AreSame ts ps e us qs d = cuts_once ts (q.line + newlines g.0) g.1 ps e us qs d there g.5 in
-    (cons t u ts us same.0 more.0, cons p q ps qs place more.1, more.2)
-  where
-    cons : {A : Type 0} (x y : A) (xs ys : List A) → x ≡ y → xs ≡ ys → x ∷ xs ≡ y ∷ ys
-    cons x y xs ys e f = rw (e, f) refl
-cuts_once [] line text (p ∷ ps) e us qs d h g = absurd h
-cuts_once (t ∷ ts) line text [] e us qs d h g = absurd h
-cuts_once ts line text ps e [] (q ∷ qs) d h g = absurd g
-cuts_once ts line text ps e (u ∷ us) [] d h g = absurd g
+  pub cuts_once : (ts : List Token) (line : ℕ) (text : List ℕ) (ps : List Place) (e : Ending) (us : List Token) (qs : List Place) (d : Ending) → Cuts marks line text ts ps e → Cuts marks line text us qs d → AreSame ts ps e us qs d
+  cuts_once [] line text [] e [] [] d h g = (refl, refl, ends_once line text e d h g)
+  cuts_once [] line text [] e (u ∷ us) (q ∷ qs) d h g = absurd (ends_first line text e u g.0 g.1 h g.2)
+  cuts_once (t ∷ ts) line text (p ∷ ps) e [] [] d h g = absurd (ends_first line text d t h.0 h.1 g h.2)
+  cuts_once (t ∷ ts) line text (p ∷ ps) e (u ∷ us) (q ∷ qs) d h g =
+      let same = first_once (behind_gap marks text) t u h.0 h.1 g.0 g.1 h.2 g.2 in
+      let place : p ≡ q = place_same p q (h.3 ∙ sym g.3) (h.4 ∙ sym g.4) in
+      let next : p.line + newlines h.0 ≡ q.line + newlines g.0 = ap (λ x. x.line + newlines h.0) place ∙ ap (λ bs. q.line + newlines bs) same.1 in
+      let there : Cuts marks (q.line + newlines g.0) g.1 ts ps e = subst (λ n. Cuts marks n g.1 ts ps e) next (subst (λ bs. Cuts marks (p.line + newlines h.0) bs ts ps e) same.2 h.5) in
+      let more : AreSame ts ps e us qs d = cuts_once ts (q.line + newlines g.0) g.1 ps e us qs d there g.5 in
+      (cons t u ts us same.0 more.0, cons p q ps qs place more.1, more.2)
+    where
+      cons : {A : Type 0} (x y : A) (xs ys : List A) → x ≡ y → xs ≡ ys → x ∷ xs ≡ y ∷ ys
+      cons x y xs ys e f = rw (e, f) refl
+  cuts_once [] line text (p ∷ ps) e us qs d h g = absurd h
+  cuts_once (t ∷ ts) line text [] e us qs d h g = absurd h
+  cuts_once ts line text ps e [] (q ∷ qs) d h g = absurd g
+  cuts_once ts line text ps e (u ∷ us) [] d h g = absurd g

@@ -2,14 +2,17 @@
 -- chapter 2). A text is the list of its bytes in UTF-8 (RFC 3629).
 use Rattle.std.specs.Prelude.{ℕ, Bool, false, not, ◌&&◌, ◌||◌, ◌==◌, nat_le, nat_lt, List, [], ◌∷◌, codes}
 use Rattle.std.specs.List.{list_any, list_all}
+use Rattle.regex_tokens.specs.declared.comments.Comments.{Comments}
+use Rattle.regex_tokens.specs.declared.comments.Comments.TheVariants.{OfDefinitions, OfEntries}
 
 -- space, tab and newline
 abbrev pub is_blank : ℕ → Bool
 is_blank b = b == 32 || (b == 9 || b == 10)
 
--- `!` and `#`
-abbrev pub begins_comment : ℕ → Bool
-begins_comment b = b == 33 || b == 35
+-- `!`, and in a file of definitions `#`
+abbrev pub begins_comment : Comments → ℕ → Bool
+begins_comment OfDefinitions b = b == 33 || b == 35
+begins_comment OfEntries b = b == 33
 
 -- operators, brackets, what begins a comment, quotes, `@` and the escape `%`
 abbrev pub special : List ℕ

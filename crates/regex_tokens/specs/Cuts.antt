@@ -4,6 +4,7 @@ use Rattle.std.specs.Prelude.{◌≡◌, ◌≢◌, ◌≤◌, ◌+◌, ℕ, Boo
 use Rattle.regex_ast.specs.Flags.{IsFlag, IsNegativeFlag}
 use Rattle.regex_tokens.specs.Bytes.{is_blank, begins_comment}
 use Rattle.regex_tokens.specs.Spelling.{Spells}
+use Rattle.regex_tokens.specs.declared.comments.Comments.{Comments}
 use Rattle.regex_tokens.specs.declared.token.Ending.{Ending}
 use Rattle.regex_tokens.specs.declared.token.Ending.TheVariants.{Whole, NoToken}
 use Rattle.regex_tokens.specs.declared.token.Place.{Place}
@@ -13,23 +14,23 @@ use Rattle.regex_tokens.specs.declared.token.Token.TheVariants.{Operator as oper
 abbrev pub newlines : List ℕ → ℕ
 newlines text = count_by (λ b. b == 10) text
 
--- The blanks and comments in front of a text, and what is behind them. A comment begins with `!` or `#` and goes
--- to the end of its line; `inside` says whether the text begins inside one.
-abbrev pub gap_from : Bool → List ℕ → List ℕ
-gap_from inside [] = []
-gap_from false (b ∷ bs) = if is_blank b then b ∷ gap_from false bs else if begins_comment b then b ∷ gap_from true bs else []
-gap_from true (b ∷ bs) = b ∷ gap_from (not (b == 10)) bs
+-- The blanks and comments in front of a text, and what is behind them. A comment goes to the end of its line; `inside` says
+-- whether the text begins inside one.
+abbrev pub gap_from : Comments → Bool → List ℕ → List ℕ
+gap_from marks inside [] = []
+gap_from marks false (b ∷ bs) = if is_blank b then b ∷ gap_from marks false bs else if begins_comment marks b then b ∷ gap_from marks true bs else []
+gap_from marks true (b ∷ bs) = b ∷ gap_from marks (not (b == 10)) bs
 
-abbrev pub behind_gap_from : Bool → List ℕ → List ℕ
-behind_gap_from inside [] = []
-behind_gap_from false (b ∷ bs) = if is_blank b then behind_gap_from false bs else if begins_comment b then behind_gap_from true bs else b ∷ bs
-behind_gap_from true (b ∷ bs) = behind_gap_from (not (b == 10)) bs
+abbrev pub behind_gap_from : Comments → Bool → List ℕ → List ℕ
+behind_gap_from marks inside [] = []
+behind_gap_from marks false (b ∷ bs) = if is_blank b then behind_gap_from marks false bs else if begins_comment marks b then behind_gap_from marks true bs else b ∷ bs
+behind_gap_from marks true (b ∷ bs) = behind_gap_from marks (not (b == 10)) bs
 
-abbrev pub gap : List ℕ → List ℕ
-gap text = gap_from false text
+abbrev pub gap : Comments → List ℕ → List ℕ
+gap marks text = gap_from marks false text
 
-abbrev pub behind_gap : List ℕ → List ℕ
-behind_gap text = behind_gap_from false text
+abbrev pub behind_gap : Comments → List ℕ → List ℕ
+behind_gap marks text = behind_gap_from marks false text
 
 -- the longest token that is spelled by a front of the text, which these bytes are
 pub record IsLongest (text : List ℕ) (token : Token) (front rest : List ℕ) : Type 0 where
@@ -54,20 +55,20 @@ abbrev pub HasNoFirst : List ℕ → Type 0
 HasNoFirst text = (token : Token) (front rest : List ℕ) → IsFirst text token front rest → ⊥
 
 -- A text that begins in this line has these tokens, at these places, and they end so.
-abbrev pub Cuts : ℕ → List ℕ → List Token → List Place → Ending → Type 0
-Cuts line text [] [] Whole = behind_gap text ≡ []
-Cuts line text [] [] (NoToken at) = (behind_gap text ≢ []) × HasNoFirst (behind_gap text) × (at ≡ line + newlines (gap text))
-Cuts line text (token ∷ tokens) (place ∷ places) ending =
-    (front : List ℕ) × (rest : List ℕ) × IsFirst (behind_gap text) token front rest
-    × (place.line ≡ line + newlines (gap text))
-    × (place.apart ≡ not (length (gap text) == 0))
-    × Cuts (place.line + newlines front) rest tokens places ending
-Cuts line text [] (place ∷ places) ending = ⊥
-Cuts line text (token ∷ tokens) [] ending = ⊥
+abbrev pub Cuts : Comments → ℕ → List ℕ → List Token → List Place → Ending → Type 0
+Cuts marks line text [] [] Whole = behind_gap marks text ≡ []
+Cuts marks line text [] [] (NoToken at) = (behind_gap marks text ≢ []) × HasNoFirst (behind_gap marks text) × (at ≡ line + newlines (gap marks text))
+Cuts marks line text (token ∷ tokens) (place ∷ places) ending =
+    (front : List ℕ) × (rest : List ℕ) × IsFirst (behind_gap marks text) token front rest
+    × (place.line ≡ line + newlines (gap marks text))
+    × (place.apart ≡ not (length (gap marks text) == 0))
+    × Cuts marks (place.line + newlines front) rest tokens places ending
+Cuts marks line text [] (place ∷ places) ending = ⊥
+Cuts marks line text (token ∷ tokens) [] ending = ⊥
 
 -- a text is cut in one way
 abbrev pub HasOneCut : Type 0
 HasOneCut =
-    (line : ℕ) (text : List ℕ) (tokens others : List Token) (places them : List Place) (ending other : Ending)
-    → Cuts line text tokens places ending → Cuts line text others them other
+    (marks : Comments) (line : ℕ) (text : List ℕ) (tokens others : List Token) (places them : List Place) (ending other : Ending)
+    → Cuts marks line text tokens places ending → Cuts marks line text others them other
     → (tokens ≡ others) × (places ≡ them) × (ending ≡ other)

@@ -5,6 +5,7 @@ use Rattle.std.specs.Str.{IsCharBoundary}
 use Rattle.regex_tokens.specs.Bytes.{begins, is_blank, begins_comment, is_escapable, is_run_byte, is_quoted_byte, is_braced_byte}
 use Rattle.regex_tokens.specs.Spelling.{Piece, is_piece, written, spelling, Spells}
 use Rattle.regex_tokens.specs.Cuts.{IsLongest, IsFirst, HasNoFirst}
+use Rattle.regex_tokens.specs.declared.comments.Comments.{Comments}
 use Rattle.regex_tokens.specs.declared.bytes.ByteClass.{ByteClass}
 use Rattle.regex_tokens.specs.declared.bytes.ByteClass.TheVariants.{Blank, Line, Run, Quoted, Braced, Feature}
 use Rattle.regex_tokens.specs.declared.token.Operator.{Operator}
@@ -94,9 +95,9 @@ undone_from true (b ∷ bs) = b ∷ undone_from false bs
 -- Gaps.
 
 -- the length of the blank or comment in front
-abbrev pub gap_step : List ℕ → Option ℕ
-gap_step [] = None
-gap_step (b ∷ bs) = if is_blank b then Some 1 else if begins_comment b then Some (prefix_len (λ c. not (c == 10)) (b ∷ bs)) else None
+abbrev pub gap_step : Comments → List ℕ → Option ℕ
+gap_step marks [] = None
+gap_step marks (b ∷ bs) = if is_blank b then Some 1 else if begins_comment marks b then Some (prefix_len (λ c. not (c == 10)) (b ∷ bs)) else None
 
 -- Operators.
 

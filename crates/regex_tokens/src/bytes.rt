@@ -1,6 +1,6 @@
 ghost use Rattle.std.specs.Prelude.{◌≡◌, ◌==◌};
 ghost use Rattle.std.specs.List.{list_any, prefix_len};
-ghost use Rattle.regex_tokens.specs.Bytes.{begins, begins_comment, is_blank, is_escapable, is_run_byte};
+ghost use Rattle.regex_tokens.specs.Bytes.{begins, is_blank, is_escapable, is_run_byte};
 ghost use Rattle.regex_tokens.specs.Cuts.{newlines};
 ghost use Rattle.regex_tokens.specs.Reading.{IsPiecesLen, is_of, piece_len, taken, left};
 
@@ -45,13 +45,6 @@ pub fn is_blank(byte: u8) -> bool
     ensures { result ≡ is_blank byte }
 {
     matches!(byte, b' ' | b'\t' | b'\n')
-}
-
-/// Whether a byte begins a comment.
-pub fn begins_comment(byte: u8) -> bool
-    ensures { result ≡ begins_comment byte }
-{
-    matches!(byte, b'!' | b'#')
 }
 
 /// Whether a byte may stand in a run without an escape.

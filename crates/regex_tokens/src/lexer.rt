@@ -7,6 +7,7 @@ use crate::bytes::{
     ByteClass, begins_with, front_len, has_escape, is_run_byte, newlines, pieces_len,
 };
 use crate::characters::{letters, undone};
+use crate::comments::Comments;
 use crate::flag::is_flag;
 use crate::gap::split_gap;
 use crate::operator::operator;
@@ -17,8 +18,8 @@ use std::alloc::{AllocError, Global};
 /// The tokens of a text that begins in this line, counted from 1: at each place the longest (Beesley and Karttunen,
 /// Finite State Morphology, 2003, chapters 2 and 3).
 ///
-/// - Blanks are space, tab and newline. A comment begins with `!` or `#` and goes to the end of its line. Both stand
-///   between tokens and are none.
+/// - Blanks are space, tab and newline. A comment begins with what `comments` says and goes to the end of its line. Both
+///   stand between tokens and are none.
 /// - Each [`Operator`](crate::Operator) is a token.
 /// - `".."` is a quoted text. It has no `"`, backslash, tab or newline, and `%` stands for itself.
 /// - `{..}` is a text in braces, each character for itself. A `%` takes the next character as it is. It has no tab or
@@ -32,16 +33,21 @@ use std::alloc::{AllocError, Global};
 /// # Errors
 ///
 /// Where there was no memory.
-pub fn tokens(alloc: Global, text: &str, line: u32) -> Result<Tokens, AllocError>
+pub fn tokens(
+    alloc: Global,
+    text: &str,
+    line: u32,
+    comments: Comments,
+) -> Result<Tokens, AllocError>
     requires { line + newlines text.now < 2 ^ 32 - 1 }
-    ensures { IfOk result (λ found. Cuts line text.now found.tokens.items found.places.items found.ending) }
+    ensures { IfOk result (λ found. Cuts comments line text.now found.tokens.items found.places.items found.ending) }
 {
     let mut tokens = Vec::new(alloc);
     let mut places = Vec::new(alloc);
     let mut rest = text;
     let mut here = line;
     'tokens: loop {
-        let (gap, behind) = split_gap(rest);
+        let (gap, behind) = split_gap(rest, comments);
         here = line_behind(here, gap);
         if behind.is_empty() {
             return Ok(Tokens {

@@ -2,12 +2,15 @@
 //!
 //! - [`tokens`]: the tokens of a text, with their places.
 //! - [`Token`]: an [`Operator`], a quoted text, [`Letters`] in braces or a [`Run`].
+//! - [`Comments`]: what begins a comment.
 //! - [`after`]: the tokens behind an operator.
+//! - [`is_flag`]: whether a text is a flag diacritic, which is no token.
 //! - [`one_cut`]: the law that a text is cut in one way, as a contract.
 #![tactic(auto)]
 
 mod bytes;
 mod characters;
+mod comments;
 mod flag;
 mod front;
 mod gap;
@@ -16,6 +19,8 @@ mod lexer;
 mod operator;
 mod token;
 
+pub use comments::Comments;
+pub use flag::is_flag;
 pub use front::after;
 pub use laws::one_cut;
 pub use lexer::tokens;

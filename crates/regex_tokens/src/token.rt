@@ -86,6 +86,7 @@ pub enum Operator {
 /// Contracts see them as the list of their texts.
 #[derive(Debug, Drop)]
 pub struct Letters {
+    /// The texts, each of one character.
     inner: Vec<Text>,
 }
 

@@ -25,8 +25,11 @@ enum State {
 /// The bytes so far, and the part of them that is to be repeated: where it begins, and how many times it is wanted.
 #[derive(Drop)]
 struct Undoing {
+    /// The bytes so far.
     bytes: Vec<u8>,
+    /// Where the part begins.
     start: usize,
+    /// How many times it is wanted.
     times: usize,
 }
 

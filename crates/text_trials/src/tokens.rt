@@ -1,4 +1,4 @@
-use regex_tokens::{Ending, Token, tokens};
+use regex_tokens::{Comments, Ending, Token, tokens};
 use std::alloc::{AllocError, Global};
 
 /// The most bytes of a text that is read.
@@ -21,7 +21,7 @@ pub fn said_of_tokens(alloc: Global, text: &str) -> Result<String, AllocError> {
     if text.len() > MOST_READ {
         return String::from_str(alloc, "too long");
     }
-    let found = tokens(alloc, text, 1)?;
+    let found = tokens(alloc, text, 1, Comments::OfDefinitions)?;
     let mut said = String::new(alloc);
     for (token, place) in found.tokens.iter().zip(found.places.iter()) {
         let apart = if place.apart { " behind a blank" } else { "" };

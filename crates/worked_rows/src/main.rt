@@ -1,12 +1,12 @@
-//! Runs the program on the rows of the standard input, each a folder, words and streams in memory, and prints what came
-//! of each: its name, the status, and what was written. The gate compares that with what is wanted, in the file
-//! `stdout`.
+//! Runs the program on the rows of the standard input, each a folder, words and streams in memory, and prints each row whose
+//! outcome isn't the one that it wants, and how many there are. The gate compares that with the file `stdout`.
 //!
 //! A line is a field and its value. `row NAME` begins a row; `file NAME TEXT`, `words WORD ..`, `input TEXT`,
 //! `fails FOLDER INPUT OUTPUT` (which call of each fails, counted from 1, where 0 is none) and `sizes READ WRITE ROOM`
 //! (how many bytes the input gives and the output takes at once, and how many the output takes at all) describe it;
-//! `run` runs it, and `loop` runs one whose answer is a loop and tells whether that is lawful. A text has the escapes of
-//! `row_texts`.
+//! `run STATUS TEXT` runs it and says which status and what output is wanted, as `row_texts` shows it, and `loop` runs one
+//! whose answer must be a lawful loop. A text has the escapes of `row_texts`. An empty line, and one that begins with `#`,
+//! says nothing; a line with another field is told.
 #![tactic(auto)]
 
 mod row;
@@ -15,19 +15,53 @@ use crate::row::Row;
 use std::alloc::{AllocError, Global};
 use std::io::{self, Read};
 
-/// Adds what a line says to the row. Returns what it printed, if it ran the row.
-fn obey(alloc: Global, row: &mut Row, line: &str) -> Result<Option<String>, AllocError> {
+/// How many rows were run, and how many of them had the outcome that they want.
+#[derive(Drop)]
+struct Count {
+    /// How many rows were run.
+    run: u64,
+    /// How many of them had the outcome that they want.
+    right: u64,
+}
+
+impl Count {
+    /// Counts a row. Returns what is told of it, if it hasn't the outcome that it wants.
+    fn judge(
+        &mut self,
+        alloc: Global,
+        row: &Row,
+        outcome: &str,
+        wanted: &str,
+    ) -> Result<Option<String>, AllocError> {
+        self.run = self.run.saturating_add(1);
+        if outcome.trim_ascii() == wanted.trim_ascii() {
+            self.right = self.right.saturating_add(1);
+            return Ok(None);
+        }
+        let name = row.name();
+        Ok(Some(format!(in alloc; "{name}\n    wants {wanted}\n    gives {outcome}")?))
+    }
+}
+
+/// Adds what a line says to the row, or runs it. Returns what is told of the line, if it isn't as it should be.
+fn obey(
+    alloc: Global,
+    count: &mut Count,
+    row: &mut Row,
+    line: &str,
+) -> Result<Option<String>, AllocError> {
     let (field, value) = line.split_once(' ').unwrap_or((line, ""));
     match field {
+        "" | "#" => {}
         "row" => *row = Row::named(alloc, value)?,
         "file" => row.add_file(alloc, value)?,
         "words" => row.set_words(alloc, value)?,
         "input" => row.set_input(alloc, value)?,
         "fails" => row.set_fails(value),
         "sizes" => row.set_sizes(value),
-        "run" => return Ok(Some(row.outcome(alloc)?)),
-        "loop" => return Ok(Some(row.loop_outcome(alloc)?)),
-        _ => {}
+        "run" => return count.judge(alloc, row, row.outcome(alloc)?.as_str(), value),
+        "loop" => return count.judge(alloc, row, row.loop_outcome(alloc)?, ""),
+        _ => return Ok(Some(format!(in alloc; "no such field: {line}")?)),
     }
     Ok(None)
 }
@@ -36,11 +70,16 @@ fn main(rt: HostRuntime) -> io::Result<()> {
     let alloc = rt.alloc();
     let mut text = String::new(alloc);
     rt.stdin().read_to_string(&mut text)?;
+    let mut count = Count { run: 0, right: 0 };
     let mut row = Row::named(alloc, "")?;
     'lines: for line in text.as_str().lines() {
-        if let Some(outcome) = obey(alloc, &mut row, line)? {
-            println!(rt; "{}", outcome.as_str())?;
+        if let Some(told) = obey(alloc, &mut count, &mut row, line)? {
+            println!(rt; "{}", told.as_str())?;
         }
     }
+    println!(rt;
+        "{} of {} rows are as they want to be",
+        count.right, count.run
+    )?;
     Ok(())
 }

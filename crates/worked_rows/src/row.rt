@@ -10,11 +10,17 @@ const WHOLE: usize = 10_000_000;
 /// A folder, words, and streams.
 #[derive(Drop)]
 pub struct Row {
+    /// Its name.
     name: Text,
+    /// The files of its folder.
     files: Vec<(Text, Vec<u8>)>,
+    /// The words of its command.
     words: Vec<String>,
+    /// The bytes of its input.
     input: Vec<u8>,
+    /// Which call of the folder, the input and the output fails, counted from 1; 0 for none.
     fails: [u64; 3],
+    /// How many bytes the input gives at once, the output takes at once, and the output takes at all.
     sizes: [usize; 3],
 }
 
@@ -112,11 +118,15 @@ impl Row {
         Ok((status, Vec::from_slice(alloc, sink.bytes())?))
     }
 
-    /// Runs the row: its name, the status, and what was written.
+    /// The row's name.
+    pub fn name(&self) -> &str {
+        self.name.as_str()
+    }
+
+    /// Runs the row: the status, and what was written.
     pub fn outcome(&self, alloc: Global) -> Result<String, AllocError> {
         let (status, written) = self.answer(alloc, &self.words, &self.input)?;
-        let written = shown(alloc, &written)?;
-        format!(in alloc; "{} {status} {}", self.name.as_str(), written.as_str())
+        format!(in alloc; "{status} {}", shown(alloc, &written)?.as_str())
     }
 
     /// The row's words, the first of which is `down` now.
@@ -129,20 +139,15 @@ impl Row {
         Ok(words)
     }
 
-    /// Runs a row that looks up one word: its name, and whether the reply is a loop that goes round, and `down` gives the
+    /// Runs a row that looks up one word: nothing where the reply is a loop that goes round, and `down` gives the
     /// word alone for the three shortest words that the loop stands for.
-    pub fn loop_outcome(&self, alloc: Global) -> Result<String, AllocError> {
+    pub fn loop_outcome(&self, alloc: Global) -> Result<&'static str, AllocError> {
         let (_, reply) = self.answer(alloc, &self.words, &self.input)?;
         let words = turned(alloc, &reply)?;
         let (_, lower) = self.answer(alloc, &self.down_words(alloc)?, &words)?;
         let wanted = each_with(alloc, &words, &self.input)?;
         let is_lawful = reply.starts_with(b"1 loop ") && goes_round(&reply) && lower == wanted;
-        let verdict = if is_lawful {
-            "a lawful loop"
-        } else {
-            "no lawful loop"
-        };
-        format!(in alloc; "{} {verdict}", self.name.as_str())
+        Ok(if is_lawful { "" } else { "no lawful loop" })
     }
 }
 

@@ -4,12 +4,4 @@ use Rattle.automata_bench.proofs.states_after.Goals as goal
 
 pub determine-requires-clause-all : goal.determine-requires-clause-all
 determine-requires-clause-all g x uses =
-    subst (λ (letters : List Sym). Contains letters x) (g.deref.ensures.value ∙ sym g.deref-in-determine.ensures.value) (g.in_ok-m.ensures x uses)
-
-pub determine-requires-in-both-clause-all : goal.determine-requires-in-both-clause-all
-determine-requires-in-both-clause-all g x uses =
-    subst (λ (letters : List Sym). Contains letters x) (g.deref.ensures.value ∙ sym g.deref-in-both.ensures.value) (g.in_ok-m.ensures x uses)
-
-pub determine-requires-in-complement-clause-all : goal.determine-requires-in-complement-clause-all
-determine-requires-in-complement-clause-all g x uses =
-    subst (λ (letters : List Sym). Contains letters x) (g.deref.ensures.value ∙ sym g.deref-in-complement.ensures.value) (g.in_ok-m.ensures x uses)
+    subst (λ (letters : List Sym). Contains letters x) (g.deref.ensures.value ∙ sym g.deref-in_default.ensures.value) (g.in_ok-m.ensures x uses)

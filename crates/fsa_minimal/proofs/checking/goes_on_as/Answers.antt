@@ -1,5 +1,4 @@
-use Rattle.std.proofs.Common.{◌≡◌, ◌<◌, ◌≤◌, Some, length, ap, subst, arith, ◌∙◌}
-use Rattle.std.specs.List.{slice_get}
+use Rattle.std.proofs.Common.{◌≤◌, Some, length, ap, subst, arith, ◌∙◌}
 use Rattle.fsa_minimal.proofs.Images.{GoesOnBelow-more, same_bools, same_flags}
 use Rattle.fsa_minimal.proofs.checking.goes_on_as.Goals as goal
 

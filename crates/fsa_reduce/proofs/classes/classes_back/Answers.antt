@@ -5,9 +5,6 @@ use Rattle.fsa_reduce.specs.Classes.{AreClasses}
 use Rattle.fsa_reduce.proofs.Classing.{classing_more, classing_all}
 use Rattle.fsa_reduce.proofs.classes.classes_back.Goals as goal
 
-pub row_of-requires : goal.row_of-requires
-row_of-requires c = λ e h. c.requires e ((c.out.ensures e).0 h).0
-
 pub loop-alloc-preserved : goal.loop-alloc-preserved
 loop-alloc-preserved c =
     let finals = c.args.finals.now in
@@ -17,12 +14,12 @@ loop-alloc-preserved c =
     let test = rw c.len.ensures at c.loop-alloc-test.true in
     let there : length classes < length finals = omega arith in
     let inside : state < length finals = omega arith in
-    classing_more finals c.args.rows.now c.loop-alloc.marks c.row_of.new.table c.loop-alloc.lists c.number_of.new.table classes c.push.new.self.items
-    c.known_classes-known.result.now c.in_ok-row.row.items state c.in_ok-number_of.field-0 (get_or finals state false) c.out.result.now
+    classing_more finals c.args.rows.now c.loop-alloc.signatures c.number_of.new.table classes c.push.new.self.items
+    c.known_classes-known.result.now c.in_ok-signature.signature.items state c.in_ok-number_of.field-0 (get_or finals state false) c.out.result.now
     there (ap (λ n. length finals - 1 - n) (c.len-in-loop-alloc.ensures ∙ counted)) (slice_get-get_or finals state false inside) c.out.ensures
     (subst (Keeps c.known_classes-known.result.now) c.deref.ensures.value c.known_classes-known.ensures)
-    c.in_ok-row.ensures.kept c.in_ok-number_of.ensures.kept (c.in_ok-number_of.ensures.number ∙ ap Some c.deref-in-loop-alloc.ensures.value) c.in_ok-push.ensures.items
-    c.in_ok-row.ensures.row c.loop-alloc.invariant
+    c.in_ok-number_of.ensures.kept (c.in_ok-number_of.ensures.number ∙ ap Some c.deref-in-loop-alloc.ensures.value) c.in_ok-push.ensures.items
+    c.in_ok-signature.ensures c.loop-alloc.invariant
 
 pub returns : goal.returns
 returns c =
@@ -31,4 +28,4 @@ returns c =
     let counted = c.loop-alloc.classes.ok.0 in
     let test = rw c.len.ensures at c.loop-alloc-test.false in
     let whole : length finals ≤ length classes = omega arith in
-    subst (AreClasses finals c.args.rows.now classes) (sym c.len-2.ensures) (classing_all finals c.args.rows.now c.loop-alloc.marks c.loop-alloc.lists classes whole c.requires c.loop-alloc.invariant)
+    subst (AreClasses finals c.args.rows.now classes) (sym c.len-2.ensures) (classing_all finals c.args.rows.now c.loop-alloc.signatures classes whole c.requires c.loop-alloc.invariant)

@@ -1,18 +1,30 @@
-use Rattle.std.proofs.Common.{◌<◌, ap, sym, subst, ◌∙◌}
+use Rattle.std.proofs.Common.{length, subst}
 use Rattle.std.proofs.lemmas.Result.{IfOk-weaker}
-use Rattle.fsa_walk.specs.Explored.{IsExplored}
-use Rattle.fsa_subset.specs.Sets.{Placed, IsStateSet, LeadsTo, IsFinalSet, IsSubsetBuilt}
-use Rattle.fsa_subset.proofs.Settling.{start_is}
+use Rattle.fsa_walk.specs.Alike.{GoAlike}
+use Rattle.fsa_walk.proofs.Grouping.{classes_within}
+use Rattle.fsa_subset.specs.Classes.{IsByClass}
+use Rattle.fsa_subset.specs.Sets.{Placed, IsBuiltByClass, IsSubsetBuilt}
+use Rattle.fsa_subset.proofs.Classing.{built_same, classed_within}
 use Rattle.fsa_subset.proofs.subsets.built_sets.Goals as goal
 
-pub settled-requires : goal.settled-requires
-settled-requires c = λ e h. subst (λ n. e.to < n) (sym (c.in_ok-add.ensures.ok.grows.bound ∙ ap (λ m. m.bound) c.in_ok-states.ensures)) (c.requires.edges e h)
+pub built_by_class-requires-clause-edges : goal.built_by_class-requires-clause-edges
+built_by_class-requires-clause-edges c =
+    classed_within c.args.edges.now c.in_ok-classes.classes.firsts.items c.in_ok-rows.rows (length c.args.finals.now)
+    (subst (λ fs. IsByClass c.args.edges.now fs c.in_ok-rows.rows) c.deref.ensures.value c.in_ok-rows.ensures) c.requires.edges
+
+pub built_by_class-requires-clause-within : goal.built_by_class-requires-clause-within
+built_by_class-requires-clause-within c =
+    classes_within (GoAlike c.in_ok-by_letter.by_letter) c.args.letters c.in_ok-classes.classes.of_places.items c.in_ok-classes.classes.firsts.items c.in_ok-classes.ensures
 
 pub returns : goal.returns
 returns c =
-    let m : Placed = record { edges = c.args.rows; finals = c.args.finals.now; letters = c.args.letters } in
-    let start = c.in_ok-start.start.items in
-    let is = start_is c.args.rows c.in_ok-states.states c.add.new.self (ap (λ k. k.found) c.in_ok-states.ensures) c.in_ok-add.ensures.ok start c.in_ok-start.ensures.set in
-    IfOk-weaker c.explore.result (λ built. IsExplored (IsStateSet m) (LeadsTo m) (IsFinalSet m) m.letters c.deref.result.now built.next.items built.finals.items)
-    (λ built. IsSubsetBuilt m built.next.items built.finals.items)
-    (λ built e. (start, is, subst (λ s. IsExplored (IsStateSet m) (LeadsTo m) (IsFinalSet m) m.letters s built.next.items built.finals.items) c.deref.ensures.value e)) c.explore.ensures.built
+    let edges = c.args.edges.now in
+    let finals = c.args.finals.now in
+    let classes = c.in_ok-classes.classes in
+    let rows = c.in_ok-rows.rows in
+    let small : Placed = record { edges = rows; finals = finals; letters = length classes.firsts.items } in
+    let whole : Placed = record { edges = edges; finals = finals; letters = c.args.letters } in
+    IfOk-weaker c.built_by_class.result (λ built. IsBuiltByClass small classes.of_places.items built.next.items built.finals.items)
+    (λ built. IsSubsetBuilt whole built.next.items built.finals.items)
+    (λ built. built_same edges finals c.args.letters c.in_ok-by_letter.by_letter c.in_ok-by_letter.ensures classes.of_places.items classes.firsts.items c.in_ok-classes.ensures rows
+    (subst (λ fs. IsByClass edges fs rows) c.deref.ensures.value c.in_ok-rows.ensures) built.next.items built.finals.items) c.built_by_class.ensures

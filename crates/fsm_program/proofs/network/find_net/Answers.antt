@@ -12,10 +12,10 @@ pub returns-in-Ok-clause-over : goal.returns-in-Ok-clause-over
 returns-in-Ok-clause-over c = subst (λ alphabet. IsOverAlphabet alphabet c.in-Ok.compiled.net) c.alphabet.ensures c.in-Ok.ensures.alphabet
 
 pub returns-in-Ok-clause-shows : goal.returns-in-Ok-clause-shows
-returns-in-Ok-clause-shows c planned from =
+returns-in-Ok-clause-shows c said from =
     let relation = rw c.alphabet.ensures at c.in-Ok.ensures.relation in
     let over = rw c.alphabet.ensures at c.in-Ok.ensures.alphabet in
-    shows_name planned c.args.project.now from c.args.name.now c.in-Some.definition.now c.in-Some.ensures.0 c.in-Some.ensures.1 c.in-Ok.compiled.net over relation
+    shows_name said c.args.project.now from c.args.name.now c.in-Some.definition.now c.in-Some.ensures.0 c.in-Some.ensures.1 c.in-Ok.compiled.net over relation
 
 pub returns-in-None-clause-shows : goal.returns-in-None-clause-shows
-returns-in-None-clause-shows c planned from = shows_none planned c.args.project.now from c.args.name.now c.in-None.ensures
+returns-in-None-clause-shows c said from = shows_none said c.args.project.now from c.args.name.now c.in-None.ensures

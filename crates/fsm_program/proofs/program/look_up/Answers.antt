@@ -1,5 +1,5 @@
 use Rattle.std.proofs.Common.{refl, inl, inr}
-use Rattle.project_model.specs.Written.{project_in}
+use Rattle.project_sources.specs.Sources.{project_in}
 use Rattle.fsm_program.specs.Ends.{for_look, no_memory}
 use Rattle.fsm_program.proofs.Endings.{most_read_is, start_most, ends_answered, ends_unloaded}
 use Rattle.fsm_program.proofs.program.look_up.Goals as goal
@@ -22,7 +22,7 @@ returns-in-Err-clause-ends g c = ends_unloaded _ (for_look _) tt _ _ _ c.in-Err.
 pub returns-in-Ok-of-clause-ends : goal.returns-in-Ok-of-clause-ends
 returns-in-Ok-of-clause-ends g c =
     ends_answered _ _ _ _ _ c.in-Ok-load.project c.in-Ok-of.network.name c.in-Ok-load.ensures.loaded c.in-Ok-of.ensures.name
-    (λ planned from. c.answered.ensures.answered (project_in planned) (c.in-Ok-of.ensures.shows planned from))
+    (λ said from. c.answered.ensures.answered (project_in said) (c.in-Ok-of.ensures.shows said from))
 
 pub returns-in-Ok-of-clause-unread : goal.returns-in-Ok-of-clause-unread
 returns-in-Ok-of-clause-unread g c either =

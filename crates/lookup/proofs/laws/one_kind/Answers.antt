@@ -1,4 +1,4 @@
-use Rattle.lookup.specs.Answering.{UpperTexts, LowerTexts}
+use Rattle.lookup_walk.specs.Answering.{UpperTexts, LowerTexts}
 use Rattle.lookup_answers.proofs.AnswerKinds.{same_kind}
 use Rattle.lookup.proofs.laws.one_kind.Goals as goal
 

@@ -1,7 +1,7 @@
 use Rattle.std.proofs.Common.{◌⊎◌}
 use Rattle.std.proofs.lemmas.Result.{IfOk-weaker}
 use Rattle.fsa.specs.Automaton.{UsesLetter}
-use Rattle.network_algebra.proofs.Reduced.{letters_used}
+use Rattle.network_algebra.proofs.Smaller.{letters_used}
 use Rattle.network_algebra.proofs.rational.concat.Goals as goal
 
 pub returns-clause-letters : goal.returns-clause-letters

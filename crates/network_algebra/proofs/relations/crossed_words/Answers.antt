@@ -2,7 +2,7 @@ use Rattle.std.proofs.lemmas.Result.{IfOk-weaker}
 use Rattle.fsa.specs.Automaton.{UsesLetter}
 use Rattle.fsa.specs.Language.{Accepts}
 use Rattle.fsm_words.specs.Relations.{IsCross}
-use Rattle.network_algebra.proofs.Reduced.{lower_used, same_relation, upper_used}
+use Rattle.network_algebra.proofs.Smaller.{lower_used, same_relation, upper_used}
 use Rattle.network_algebra.proofs.relations.crossed_words.Goals as goal
 
 pub returns-clause-upper : goal.returns-clause-upper

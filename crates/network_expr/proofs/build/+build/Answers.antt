@@ -8,14 +8,14 @@ use Rattle.regex_ast.specs.declared.expr.Expr.{Expr}
 use Rattle.regex_ast.specs.declared.expr.Link.{Link}
 use Rattle.regex_ast.specs.declared.expr.Step.{Step}
 use Rattle.regex_ast.specs.declared.expr.Context.{Context}
-use Rattle.regex_ast.specs.Terms.{term, terms_of, links_of, contexts_of, steps_by, concat, ignore, no_term}
+use Rattle.regex_ast.specs.Terms.{term, terms_of, links_of, contexts_of, steps_by, concat, ignore, maybe, no_term, no_link, or}
 use Rattle.regex_ast.proofs.Rows.{term-Concat, term-Ignore, term-Chain, term-Only, term-Steps}
 use Rattle.expr_forms.specs.Atoms.{symbols as leaves}
 use Rattle.expr_forms.specs.Kinds.{ChainFits, ContextsFit, EachFits, EachFitsAsLanguage, Fits, StepsFit, kind_of, kind_of_chain}
 use Rattle.expr_forms.specs.declared.form.Kind.TheVariants.{Language}
 use Rattle.expr_meaning.specs.Leaves.{stands_for}
-use Rattle.expr_meaning.specs.Meaning.{In, InIgnoring, Relates}
-use Rattle.network_algebra.specs.Networks.{all_letters, kind_of_network}
+use Rattle.expr_meaning.specs.Meaning.{In, InChain, InIgnoring, Relates, RelatesChain}
+use Rattle.network_algebra.specs.Networks.{all_letters, kind_of_network, WordsOf, PairsOf}
 use Rattle.network_algebra.specs.declared.network.Network.TheVariants.{Words}
 use Rattle.network_sets.specs.Split.{split_letters}
 use Rattle.network_sets.proofs.Inside.{over_left, over_right, inside_all}
@@ -24,7 +24,7 @@ use Rattle.network_sets.proofs.Restrictions.{edge_only}
 use Rattle.network_expr.specs.Built.{AreBuilt, ContextsAreBuilt, IsBuilt, IsChoice, IsMeant, LinksAreBuilt, StepsAreBuilt}
 use Rattle.network_expr.proofs.Weights.{weight, each_halves, links_halves, contexts_halves, steps_halves as steps_lighter}
 use Rattle.network_expr.proofs.Rows.{each_built, each_fits, each_language, chain_built, chain_fits, choice_fits, contexts_built, contexts_fit, steps_built, steps_fit, no_item, one_item, halves_joined, terms_joined, some_terms}
-use Rattle.network_expr.proofs.Meant.{IsChosen, IsStepped, AreIn, NoWord, NoPair, chain_for, chain_halves, chain_choice, choice_halves, none_chosen, none_accepted, steps_for, steps_halves, then_stepped, context_one, context_halves, no_contexts, only_meant, words_meant, meant_words, atom_meant, maybe_meant, same_meant, turn_alone, turns_meant, suffixed_for, prefixed_meant, not_one_meant, ignore_row, ignore_one, ignore_halves, each_kind_language, empty_only, given_two}
+use Rattle.network_expr.proofs.Meant.{IsChosen, IsChained, IsStepped, AreIn, reduced_for, alone_chosen, or_chained, chain_for, chain_halves, chain_choice, choice_halves, none_chosen, none_accepted, steps_for, steps_halves, then_stepped, context_one, context_halves, no_contexts, only_meant, words_meant, meant_words, atom_meant, maybe_meant, same_meant, turn_alone, turns_meant, suffixed_for, prefixed_meant, not_one_meant, ignore_row, ignore_one, ignore_halves, each_kind_language, empty_only, given_one, given_two}
 use Rattle.network_expr.proofs.build.+build.Goals as goal
 
 pub by_any-by_any-requires : goal.by_any-by_any-requires
@@ -52,15 +52,17 @@ by_any-by_any-requires-in_default t c =
     let all = over_right IsChoice front back (subst (All IsChoice) (sym is) c.requires.choices) in
     (omega (arith, c.decreases, light.1), (c.requires.distinct, (all, (built.1, choice_fits back all (kind_of_chain leaves Language (links_of front)) Language fits.1))))
 
-pub by_any-returns-in_ok-new-in-len1-clause-meaning : goal.by_any-returns-in_ok-new-in-len1-clause-meaning
-by_any-returns-in_ok-new-in-len1-clause-meaning t c =
+pub by_any-returns-in_ok-new-in-empty-clause-meaning : goal.by_any-returns-in_ok-new-in-empty-clause-meaning
+by_any-returns-in_ok-new-in-empty-clause-meaning t c =
+    let A = c.args.alphabet.now in
+    let empty = c.in_ok-new-in-empty.field-0 in
+    subst (λ (z : List (Link Atom)). IsChosen A z (Words empty)) (sym (no_item c.args.links.now (omega arith))) (none_chosen A empty (none_accepted empty c.in_ok-new-in-empty.ensures))
+
+pub by_any-returns-in-len1-clause-meaning : goal.by_any-returns-in-len1-clause-meaning
+by_any-returns-in-len1-clause-meaning t c =
     let A = c.args.alphabet.now in
     let item = c.link-item.result in
-    let one = one_item c.args.links.now item (omega arith) (omega arith) c.link-item.is in
-    let empty = c.in_ok-new-in-len1.field-0 in
-    let fits = subst (λ (z : List (Link Atom)). ChainFits leaves Language (links_of z)) one c.requires.fits in
-    subst (λ (z : List (Link Atom)). IfOk c.in_link.result (IsChosen A z)) (sym one)
-    (IfOk-weaker _ _ _ (λ r. chain_for A Language (NoWord A) (NoPair A) (Words empty) r (links_of (item ∷ [])) fits (none_chosen A empty (none_accepted empty c.in_ok-new-in-len1.ensures))) c.in_link.ensures.meaning)
+    subst (λ (z : List (Link Atom)). IfOk c.chosen.result (IsChosen A z)) (sym (one_item c.args.links.now item (omega arith) (omega arith) c.link-item.is)) c.chosen.ensures.meaning
 
 pub by_any-returns-in_ok-second-in_default-clause-meaning : goal.by_any-returns-in_ok-second-in_default-clause-meaning
 by_any-returns-in_ok-second-in_default-clause-meaning t c =
@@ -71,6 +73,12 @@ by_any-returns-in_ok-second-in_default-clause-meaning t c =
     let is = halves_joined front back whole (length whole / 2) c.split_at.ensures.front c.split_at.ensures.back in
     let all = over_right IsChoice front back (subst (All IsChoice) (sym is) c.requires.choices) in
     IfOk-weaker _ _ _ (λ r. choice_halves A c.in_ok-first-in_default.first c.in_ok-second-in_default.second r front back whole is all c.in_ok-first-in_default.ensures.meaning c.in_ok-second-in_default.ensures.meaning) c.union.ensures.meaning
+
+pub chosen-returns-clause-meaning : goal.chosen-returns-clause-meaning
+chosen-returns-clause-meaning t c =
+    let A = c.args.alphabet.now in
+    subst (λ (z : Link Atom). IfOk c.network_of.result (IsChosen A (z ∷ []))) (sym c.in-Or.is)
+    (IfOk-weaker _ _ _ (alone_chosen A (term c.in-Or.operand)) c.network_of.ensures.meaning)
 
 pub crossed-returns-in-Language-clause-meaning : goal.crossed-returns-in-Language-clause-meaning
 crossed-returns-in-Language-clause-meaning t c =
@@ -153,10 +161,22 @@ in_chain-in_chain-requires-in_default-2 t c =
     let kind = c.in_ok-first-in_default-2.ensures.meaning.kind_is in
     (omega (arith, c.decreases, light.1), (c.requires.distinct, (c.in_ok-first-in_default-2.ensures.letters, (built.1, subst (λ k. ChainFits leaves k (links_of back)) (sym kind) fits.1))))
 
-pub in_chain-returns-in_ok-by_any-in_default-clause-meaning : goal.in_chain-returns-in_ok-by_any-in_default-clause-meaning
-in_chain-returns-in_ok-by_any-in_default-clause-meaning t c =
+pub in_chain-returns-in_ok-either-in_default-clause-letters : goal.in_chain-returns-in_ok-either-in_default-clause-letters
+in_chain-returns-in_ok-either-in_default-clause-letters t c =
+    let A = c.args.alphabet.now in
+    let either = c.in_ok-either-in_default.either in
+    let letters = given_two A c.args.before c.in_ok-by_any-in_default.field-0 either c.requires.before c.in_ok-by_any-in_default.ensures.letters c.in_ok-either-in_default.ensures.letters in
+    IfOk-weaker _ _ _ (λ r. given_one A either r letters) c.reduced.ensures.letters
+
+pub in_chain-returns-in_ok-either-in_default-clause-meaning : goal.in_chain-returns-in_ok-either-in_default-clause-meaning
+in_chain-returns-in_ok-either-in_default-clause-meaning t c =
+    let A = c.args.alphabet.now in
+    let before = c.args.before in
+    let links = c.args.links.now in
+    let either = c.in_ok-either-in_default.either in
     let all = c.are_choices.ensures.0 c.if-are_choices.true in
-    IfOk-weaker _ _ _ (λ r. chain_choice c.args.alphabet.now c.args.before c.in_ok-by_any-in_default.field-0 r c.args.links.now all c.in_ok-by_any-in_default.ensures.meaning) c.union.ensures.meaning
+    let chained = chain_choice A before c.in_ok-by_any-in_default.field-0 either links all c.in_ok-by_any-in_default.ensures.meaning c.in_ok-either-in_default.ensures.meaning in
+    IfOk-weaker _ _ _ (λ r. reduced_for (kind_of_chain leaves (kind_of_network before) (links_of links)) (InChain stands_for A (WordsOf before) (links_of links)) (RelatesChain stands_for A (WordsOf before) (PairsOf before) (links_of links)) either r chained) c.reduced.ensures.meaning
 
 pub in_chain-returns-in_ok-first-in_default-2-clause-meaning : goal.in_chain-returns-in_ok-first-in_default-2-clause-meaning
 in_chain-returns-in_ok-first-in_default-2-clause-meaning t c =
@@ -257,6 +277,23 @@ in_ignoring-returns-in_ok-first-in_default-clause-words t c =
     let whole = c.args.operands.now in
     let is = halves_joined front back whole (length whole / 2) c.split_at.ensures.front c.split_at.ensures.back in
     IfOk-weaker _ _ _ (λ m. ignore_halves c.args.alphabet.now (map term front) (map term back) (map term whole) c.args.before c.in_ok-first-in_default.first m (terms_joined front back whole is) c.in_ok-first-in_default.ensures.words) c.in_ignoring-in_default.ensures.words
+
+pub in_link-returns-in_ok-either-in-Or-clause-letters : goal.in_link-returns-in_ok-either-in-Or-clause-letters
+in_link-returns-in_ok-either-in-Or-clause-letters t c =
+    let A = c.args.alphabet.now in
+    let either = c.in_ok-either-in-Or.either in
+    let letters = given_two A c.args.before c.in_ok-network_of-in-Or.field-0 either c.requires.before c.in_ok-network_of-in-Or.ensures.letters c.in_ok-either-in-Or.ensures.letters in
+    IfOk-weaker _ _ _ (λ r. given_one A either r letters) c.reduced.ensures.letters
+
+pub in_link-returns-in_ok-either-in-Or-clause-meaning : goal.in_link-returns-in_ok-either-in-Or-clause-meaning
+in_link-returns-in_ok-either-in-Or-clause-meaning t c =
+    let A = c.args.alphabet.now in
+    let before = c.args.before in
+    let either = c.in_ok-either-in-Or.either in
+    let links = or (term c.in-Or.operand) no_link in
+    let chained = or_chained A before c.in_ok-network_of-in-Or.field-0 either (term c.in-Or.operand) c.in_ok-network_of-in-Or.ensures.meaning c.in_ok-either-in-Or.ensures.meaning in
+    subst (λ (z : Link Atom). IfOk c.reduced.result (IsChained A before (z ∷ []))) (sym c.in-Or.is)
+    (IfOk-weaker _ _ _ (λ r. reduced_for (kind_of_chain leaves (kind_of_network before) links) (InChain stands_for A (WordsOf before) links) (RelatesChain stands_for A (WordsOf before) (PairsOf before) links) either r chained) c.reduced.ensures.meaning)
 
 pub in_step-returns-in_ok-network-in-Then-clause-meaning : goal.in_step-returns-in_ok-network-in-Then-clause-meaning
 in_step-returns-in_ok-network-in-Then-clause-meaning t c =
@@ -391,8 +428,8 @@ network_of-in_steps-requires t c =
 pub network_of-returns-in_ok-word-in-Empty-clause-letters : goal.network_of-returns-in_ok-word-in-Empty-clause-letters
 network_of-returns-in_ok-word-in-Empty-clause-letters t c = empty_only (all_letters c.args.alphabet.now) c.in_ok-word-in-Empty.field-0 c.in_ok-word-in-Empty.ensures.letters
 
-pub network_of-returns-in_ok-one_of-in-Any-clause-letters : goal.network_of-returns-in_ok-one_of-in-Any-clause-letters
-network_of-returns-in_ok-one_of-in-Any-clause-letters t c x used = inside_all c.args.alphabet.now x (rw (c.deref.ensures.value ∙ c.in_ok-inner_letters-in-Any.ensures) at (c.in_ok-one_of-in-Any.ensures.letters x used))
+pub network_of-returns-in_ok-one_letter-in-Any-clause-letters : goal.network_of-returns-in_ok-one_letter-in-Any-clause-letters
+network_of-returns-in_ok-one_letter-in-Any-clause-letters t c x used = inside_all c.args.alphabet.now x (rw (c.deref.ensures.value ∙ c.in_ok-inner_letters-in-Any.ensures) at (c.in_ok-one_letter-in-Any.ensures.letters x used))
 
 pub network_of-returns-in_ok-word-in-Edge-clause-letters : goal.network_of-returns-in_ok-word-in-Edge-clause-letters
 network_of-returns-in_ok-word-in-Edge-clause-letters t c = edge_only c.args.alphabet.now c.in_ok-word-in-Edge.field-0 c.in_ok-word-in-Edge.ensures.letters
@@ -431,10 +468,14 @@ network_of-returns-in_ok-ignored-in-Ignore-clause-meaning t c =
     let terms = terms_of (map term c.in-Ignore.operands.items) in
     subst (λ e. IsMeant A e (Words m)) (sym is) (words_meant A (ignore terms) m (each_kind_language A terms fits) (rw c.deref-in-Ignore.ensures.value at c.in_ok-ignored-in-Ignore.ensures.words))
 
-pub network_of-returns-in-Concat-clause-meaning : goal.network_of-returns-in-Concat-clause-meaning
-network_of-returns-in-Concat-clause-meaning t c =
+pub network_of-returns-in_ok-in_turn-in-Concat-clause-meaning : goal.network_of-returns-in_ok-in_turn-in-Concat-clause-meaning
+network_of-returns-in_ok-in_turn-in-Concat-clause-meaning t c =
+    let A = c.args.alphabet.now in
     let is = ap term c.in-Concat.is ∙ term-Concat c.in-Concat.operands in
-    subst (λ e. IfOk c.in_turn.result (IsMeant c.args.alphabet.now e)) (sym is) (rw c.deref-in-Concat.ensures.value at c.in_turn.ensures.meaning)
+    let e = concat (terms_of (map term c.in-Concat.operands.items)) in
+    let meant = rw c.deref-in-Concat.ensures.value at c.in_ok-in_turn-in-Concat.ensures.meaning in
+    subst (λ e. IfOk c.reduced.result (IsMeant A e)) (sym is)
+    (IfOk-weaker _ _ _ (λ r. reduced_for (kind_of leaves e) (In stands_for A e) (Relates stands_for A e) c.in_ok-in_turn-in-Concat.field-0 r meant) c.reduced.ensures.meaning)
 
 pub network_of-returns-in_ok-network_of-in-Chain-clause-meaning : goal.network_of-returns-in_ok-network_of-in-Chain-clause-meaning
 network_of-returns-in_ok-network_of-in-Chain-clause-meaning t c =
@@ -476,11 +517,16 @@ pub perhaps-returns-clause-letters : goal.perhaps-returns-clause-letters
 perhaps-returns-clause-letters t c =
     let A = c.args.alphabet.now in
     let empty = c.in_ok-word.field-0 in
-    IfOk-weaker _ _ _ (λ r. given_two A (Words empty) c.in_ok-network_of.field-0 r (empty_only (all_letters A) empty c.in_ok-word.ensures.letters) c.in_ok-network_of.ensures.letters) c.union.ensures.letters
+    let either = given_two A (Words empty) c.in_ok-network_of.field-0 c.in_ok-either.either (empty_only (all_letters A) empty c.in_ok-word.ensures.letters) c.in_ok-network_of.ensures.letters c.in_ok-either.ensures.letters in
+    IfOk-weaker _ _ _ (λ r. given_one A c.in_ok-either.either r either) c.reduced.ensures.letters
 
 pub perhaps-returns-clause-meaning : goal.perhaps-returns-clause-meaning
 perhaps-returns-clause-meaning t c =
-    IfOk-weaker _ _ _ (λ r. maybe_meant c.args.alphabet.now (term c.args.inner.now) c.in_ok-word.field-0 c.in_ok-network_of.field-0 r c.in_ok-word.ensures.language c.in_ok-network_of.ensures.meaning) c.union.ensures.meaning
+    let A = c.args.alphabet.now in
+    let e = maybe (term c.args.inner.now) in
+    let either = c.in_ok-either.either in
+    let meant = maybe_meant A (term c.args.inner.now) c.in_ok-word.field-0 c.in_ok-network_of.field-0 either c.in_ok-word.ensures.language c.in_ok-network_of.ensures.meaning c.in_ok-either.ensures.meaning in
+    IfOk-weaker _ _ _ (λ r. reduced_for (kind_of leaves e) (In stands_for A e) (Relates stands_for A e) either r meant) c.reduced.ensures.meaning
 
 pub words_of-returns-clause-words : goal.words_of-returns-clause-words
 words_of-returns-clause-words t c = meant_words c.args.alphabet.now (term c.args.expr.now) c.in_ok-network_of.field-0 c.into_words.result c.requires.language c.into_words.ensures c.in_ok-network_of.ensures.meaning

@@ -33,6 +33,9 @@ decreases-in_chain l = weight_links (links_of l.links.now) + 1
 abbrev pub decreases-by_any : goal.decreases-by_any
 decreases-by_any l = weight_links (links_of l.links.now)
 
+abbrev pub decreases-chosen : goal.decreases-chosen
+decreases-chosen l = link_weight l.link.now
+
 abbrev pub decreases-in_link : goal.decreases-in_link
 decreases-in_link l = link_weight l.link.now
 

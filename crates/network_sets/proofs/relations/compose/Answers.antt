@@ -2,7 +2,7 @@ use Rattle.std.proofs.lemmas.Result.{IfOk-weaker}
 use Rattle.fst_relation.specs.Relation.{IsRelated}
 use Rattle.fst_algebra.specs.Relations.{UsesLower, UsesUpper}
 use Rattle.fsm_words.specs.Relations.{IsComposition}
-use Rattle.network_algebra.proofs.Reduced.{lower_used, same_relation, upper_used}
+use Rattle.network_algebra.proofs.Smaller.{lower_used, same_relation, upper_used}
 use Rattle.network_sets.proofs.relations.compose.Goals as goal
 
 pub returns-clause-upper : goal.returns-clause-upper

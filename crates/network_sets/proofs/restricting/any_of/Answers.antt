@@ -3,7 +3,7 @@ use Rattle.network_sets.proofs.Restrictions.{any_only, any_words}
 use Rattle.network_sets.proofs.restricting.any_of.Goals as goal
 
 pub returns-clause-letters : goal.returns-clause-letters
-returns-clause-letters c = IfOk-weaker _ _ _ (λ m. any_only c.args.letters.now c.in_ok-one_of.field-0 m c.in_ok-one_of.ensures.letters) c.star-2.ensures.letters
+returns-clause-letters c = IfOk-weaker _ _ _ (λ m. any_only c.args.letters.now c.in_ok-one_letter.field-0 m c.in_ok-one_letter.ensures.letters) c.star-2.ensures.letters
 
 pub returns-clause-words : goal.returns-clause-words
-returns-clause-words c = IfOk-weaker _ _ _ (λ m. any_words c.args.letters.now c.in_ok-one_of.field-0 m c.in_ok-one_of.ensures.language) c.star-2.ensures.language
+returns-clause-words c = IfOk-weaker _ _ _ (λ m. any_words c.args.letters.now c.in_ok-one_letter.field-0 m c.in_ok-one_letter.ensures.language) c.star-2.ensures.language

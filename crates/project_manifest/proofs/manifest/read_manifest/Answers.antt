@@ -1,6 +1,7 @@
 use Rattle.std.proofs.Common.{List, map, refl, sym, ap, subst, ◌∙◌}
 use Rattle.project_manifest.specs.Manifests.{Declare, Saying, statements_in}
-use Rattle.project_manifest.specs.Sayings.{saying_of}
+use Rattle.project_manifest.specs.Sayings.{HaveTexts, saying_of}
+use Rattle.project_manifest.proofs.Utf8.{statements_texts}
 use Rattle.project_manifest.proofs.manifest.read_manifest.Goals as goal
 
 pub returns-in-Ok-None : goal.returns-in-Ok-None
@@ -9,3 +10,6 @@ returns-in-Ok-None c = (
   refl,
   λ m is. (rw c.in-Ok-None.field-0-is at c.in-Ok-None.ensures) m (subst (λ (s : List Saying). Declare s m) (sym (ap (map saying_of) c.deref.ensures.value ∙ c.in-Ok.ensures ∙ ap statements_in c.as_bytes.ensures.value)) is),
 )
+
+pub declared-requires : goal.declared-requires
+declared-requires c = subst HaveTexts (sym (ap (map saying_of) c.deref.ensures.value ∙ c.in-Ok.ensures ∙ ap statements_in c.as_bytes.ensures.value)) (statements_texts c.args.text.now c.utf8.text)

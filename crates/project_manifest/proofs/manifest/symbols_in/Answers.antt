@@ -1,6 +1,7 @@
 use Rattle.std.proofs.Common.{true≢false, sym, ◌∙◌}
 use Rattle.project_manifest.specs.Sayings.{as_written}
 use Rattle.project_manifest.proofs.Declared.{no_alphabet, other_alphabet, no_symbols, written_none, written_some, alphabet_answer}
+use Rattle.project_manifest.proofs.Utf8.{other_words}
 use Rattle.project_manifest.proofs.manifest.symbols_in.Goals as goal
 
 pub returns-in_default : goal.returns-in_default
@@ -16,3 +17,6 @@ pub returns : goal.returns
 returns c =
     alphabet_answer (as_written c.args.words.now) c.in-Some.keyword.now (as_written c.in-Some.symbols.now) c.in-Some.ensures (c.is_written.ensures.0 c.if-not-is_written.false)
     (written_some c.in-Some.symbols.now (sym c.is_empty.ensures ∙ c.if-is_empty.false)) c.symbols_of.result c.symbols_of.ensures
+
+pub symbols_of-requires : goal.symbols_of-requires
+symbols_of-requires c = other_words (as_written c.args.words.now) c.in-Some.keyword.now (as_written c.in-Some.symbols.now) c.in-Some.ensures c.requires

@@ -1,9 +1,11 @@
-use Rattle.std.proofs.Common.{map, sym, ap, ◌∙◌, arith}
+use Rattle.std.proofs.Common.{map, sym, ap, subst, ◌∙◌, arith}
 use Rattle.std.proofs.lemmas.List.{take_all}
 use Rattle.std.specs.List.{list_all}
+use Rattle.std.specs.Str.{IsUtf8}
 use Rattle.project_manifest.specs.Manifests.{is_symbol_word, text_of}
 use Rattle.project_manifest.specs.Sayings.{as_written}
 use Rattle.project_manifest.proofs.Behind.{none_left}
+use Rattle.project_manifest.proofs.Utf8.{word_at}
 use Rattle.project_manifest.proofs.Worded.{symbol_never, symbols_left, symbols_more}
 use Rattle.project_manifest.proofs.words.symbols_of.Goals as goal
 
@@ -25,3 +27,6 @@ returns c = (
   sym c.words.invariant.all ∙ ap (λ z. list_all is_symbol_word (as_written z)) (none_left c.args.words.now c.words.word-index (omega arith)),
   c.words.invariant.so_far ∙ ap (λ z. map text_of (as_written z)) (take_all c.words.word-index c.args.words.now (omega arith)),
 )
+
+pub symbol_of-requires : goal.symbol_of-requires
+symbol_of-requires c = subst IsUtf8 (sym c.deref.ensures.value) (word_at c.args.words.now c.words.word-index c.word-item.result (omega arith) c.word-item.is c.requires)

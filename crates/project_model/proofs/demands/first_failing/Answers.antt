@@ -1,6 +1,6 @@
-use Rattle.std.proofs.Common.{◌∙◌, All, map, sym, subst, true≢false, arith}
+use Rattle.std.proofs.Common.{◌∙◌, All, sym, subst, true≢false, arith}
 use Rattle.std.proofs.lemmas.List.{take_all}
-use Rattle.project_model.specs.Planned.{EntryMeets, entry_of}
+use Rattle.project_model.specs.Answers.{DoesMeet}
 use Rattle.project_model.proofs.Projecting.{all_more, first_fails}
 use Rattle.project_model.proofs.demands.first_failing.Goals as goal
 
@@ -11,7 +11,7 @@ returns-then-not-meets c =
 
 pub definitions-preserved : goal.definitions-preserved
 definitions-preserved c =
-    all_more entry_of c.args.definitions.now c.definitions.definition-index c.definition-item.result (omega arith) c.definition-item.is (EntryMeets c.args.demand) c.definitions.invariant (c.meets.ensures.0 c.if-not-meets.false)
+    all_more (DoesMeet c.args.demand) c.args.definitions.now c.definitions.definition-index c.definition-item.result (omega arith) c.definition-item.is c.definitions.invariant (c.meets.ensures.0 c.if-not-meets.false)
 
 pub returns : goal.returns
-returns c = subst (λ z. All (EntryMeets c.args.demand) (map entry_of z)) (take_all c.definitions.definition-index c.args.definitions.now (omega arith)) c.definitions.invariant
+returns c = subst (All (DoesMeet c.args.demand)) (take_all c.definitions.definition-index c.args.definitions.now (omega arith)) c.definitions.invariant

@@ -1,5 +1,5 @@
 use Rattle.std.proofs.Common.{arith}
-use Rattle.project_model.specs.Together.{most_symbols}
+use Rattle.project_sources.specs.Limits.{most_symbols}
 use Rattle.project_model.proofs.Gathering.{text_full, text_added}
 use Rattle.project_model.proofs.plan.add_text.Goals as goal
 

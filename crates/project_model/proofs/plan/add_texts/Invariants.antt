@@ -1,6 +1,6 @@
 use Rattle.std.proofs.Common.{◌≡◌, ◌+◌, ◌≤◌, length, drop}
 use Rattle.project_model.specs.Gathered.{gathered}
-use Rattle.project_model.specs.Together.{most_symbols}
+use Rattle.project_sources.specs.Limits.{most_symbols}
 use Rattle.project_model.proofs.plan.add_texts.Given as goal
 
 -- the other texts are left

@@ -1,23 +1,26 @@
-use Rattle.std.proofs.Common.{map}
+use Rattle.std.proofs.Common.{inl, inr}
 use Rattle.regex_ast.specs.declared.fault.Why.TheVariants as why
-use Rattle.project_model.specs.Planned.{entry_of, relation, heavy, unbuilt, sound}
-use Rattle.project_model.specs.Together.{fault}
-use Rattle.project_model.proofs.Projecting.{why_unsound}
+use Rattle.project_sources.specs.Rows.{First}
+use Rattle.project_sources.specs.Faults.{fault}
+use Rattle.project_model.specs.Answers.{DemandFault, demands}
+use Rattle.project_model.specs.declared.demands.Demand.TheVariants as demand
+use Rattle.project_model.proofs.NameSteps.{refused_by}
+use Rattle.project_model.proofs.Projecting.{all_pass}
 use Rattle.project_model.proofs.plan.check.Goals as goal
 
 pub returns-in-Some-clause-error : goal.returns-in-Some-clause-error
 returns-in-Some-clause-error c =
-    why_unsound c.args.file.now (map entry_of c.args.definitions.now) (fault c.args.file.now c.in-Some.line why.NotALanguage) c.refused.result (relation c.in-Some.line c.in-Some.ensures) c.refused.ensures
+    let d = c.in-Some.definition.now in
+    refused_by (First (DemandFault c.args.definitions.now) demands) (fault d.file d.line why.NotALanguage) c.refused_at.result (inl c.in-Some.ensures) c.refused_at.ensures
 
 pub returns-in-Some-first_failing-clause-error : goal.returns-in-Some-first_failing-clause-error
 returns-in-Some-first_failing-clause-error c =
-    why_unsound c.args.file.now (map entry_of c.args.definitions.now) (fault c.args.file.now c.in-Some-first_failing.line why.LimitWeight) c.refused-in-Some-first_failing.result
-    (heavy c.in-Some-first_failing.line c.in_default.ensures c.in-Some-first_failing.ensures) c.refused-in-Some-first_failing.ensures
+    let d = c.in-Some-first_failing.definition.now in
+    refused_by (First (DemandFault c.args.definitions.now) demands) (fault d.file d.line why.LimitWeight) c.refused_at-in-Some-first_failing.result
+    (inr (all_pass demand.Fits c.args.definitions.now c.in_default.ensures, inl c.in-Some-first_failing.ensures)) c.refused_at-in-Some-first_failing.ensures
 
 pub returns-in-Some-first_failing-2-clause-error : goal.returns-in-Some-first_failing-2-clause-error
 returns-in-Some-first_failing-2-clause-error c =
-    why_unsound c.args.file.now (map entry_of c.args.definitions.now) (fault c.args.file.now c.in-Some-first_failing-2.line why.NotBuilt) c.refused-in-Some-first_failing-2.result
-    (unbuilt c.in-Some-first_failing-2.line c.in_default.ensures c.in_default-first_failing.ensures c.in-Some-first_failing-2.ensures) c.refused-in-Some-first_failing-2.ensures
-
-pub returns-clause-sound : goal.returns-clause-sound
-returns-clause-sound c = sound c.in_default.ensures c.in_default-first_failing.ensures c.in_default-first_failing-2.ensures
+    let d = c.in-Some-first_failing-2.definition.now in
+    refused_by (First (DemandFault c.args.definitions.now) demands) (fault d.file d.line why.NotBuilt) c.refused_at-in-Some-first_failing-2.result
+    (inr (all_pass demand.Fits c.args.definitions.now c.in_default.ensures, inr (all_pass demand.Light c.args.definitions.now c.in_default-first_failing.ensures, inl c.in-Some-first_failing-2.ensures))) c.refused_at-in-Some-first_failing-2.ensures

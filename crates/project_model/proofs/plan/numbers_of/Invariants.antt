@@ -1,5 +1,5 @@
 use Rattle.std.proofs.Common.{◌≡◌, ◌≤◌, length, take}
-use Rattle.project_model.specs.Planned.{numbers_in}
+use Rattle.project_model.specs.Numbered.{numbers_in}
 use Rattle.project_model.proofs.plan.numbers_of.Given as goal
 
 -- the numbers so far

@@ -1,14 +1,15 @@
 use Rattle.std.proofs.Common.{arith}
-use Rattle.fsm_base.specs.Normal.{most_growth}
 use Rattle.regex_ast.specs.declared.fault.Why.TheVariants as why
-use Rattle.project_model.specs.Reads.{large, most_bytes}
-use Rattle.project_model.specs.Together.{fault}
-use Rattle.project_model.proofs.Reading.{refused_text}
+use Rattle.project_sources.specs.Faults.{fault, HasNoText}
+use Rattle.project_sources.specs.Limits.{most_bytes}
+use Rattle.project_model.proofs.NameSteps.{refused_by}
+use Rattle.project_model.proofs.Reading.{text_large}
 use Rattle.project_model.proofs.read.text_of_file.Goals as goal
 
 pub returns-then-bytes-gt-MOST_BYTES-clause-error : goal.returns-then-bytes-gt-MOST_BYTES-clause-error
 unfolding most_bytes
-returns-then-bytes-gt-MOST_BYTES-clause-error c = refused_text c.args.name.now c.args.bytes.now (fault c.args.name.now 0 why.LimitFile) c.refused.result (large (omega arith)) c.refused.ensures
+returns-then-bytes-gt-MOST_BYTES-clause-error c =
+    refused_by (HasNoText c.args.name.now c.args.bytes.now) (fault c.args.name.now 0 why.LimitFile) c.refused.result (text_large c.args.name.now c.args.bytes.now (omega arith)) c.refused.ensures
 
 pub returns-in-Ok-clause-short : goal.returns-in-Ok-clause-short
 unfolding most_bytes

@@ -1,6 +1,6 @@
 use Rattle.std.proofs.Common.{sym, ◌∙◌, arith}
-use Rattle.project_model.specs.Together.{most_symbols}
-use Rattle.project_model.proofs.Gathering.{leaf_passed, leaf_full, leaf_added}
+use Rattle.project_sources.specs.Limits.{most_symbols}
+use Rattle.project_model.proofs.Adding.{leaf_passed, leaf_full, leaf_added}
 use Rattle.project_model.proofs.symbols.add_symbol.Goals as goal
 use Rattle.project_model.proofs.symbols.add_symbol.Goals.{else-is_symbol-via-then-is_symbol+else-len-le-MOST_SYMBOLS, else-is_symbol-via-else-is_symbol}
 

@@ -1,9 +1,8 @@
 use Rattle.std.proofs.Common.{◌≡◌, ◌+◌, ◌≤◌, length, drop}
 use Rattle.std.specs.List.{flat_map}
-use Rattle.project_model.specs.Raws.{symbol_beside}
-use Rattle.project_model.specs.Gathered.{gathered}
+use Rattle.project_model.specs.Gathered.{gathered, symbol_beside}
 use Rattle.expr_parts.specs.Leaves.{seen}
-use Rattle.project_model.specs.Together.{most_symbols}
+use Rattle.project_sources.specs.Limits.{most_symbols}
 use Rattle.project_model.proofs.symbols.add_symbols.Given as goal
 
 -- the symbols of the other leaves are left

@@ -1,13 +1,12 @@
 use Rattle.std.proofs.Common.{◌≡◌, ◌+◌, ◌≤◌, [], map, length, drop}
 use Rattle.regex_reader.specs.Files.{statement_of}
-use Rattle.project_model.specs.Raws.{symbols_of_all}
-use Rattle.project_model.specs.Gathered.{gathered}
-use Rattle.project_model.specs.Together.{definitions_of, most_symbols}
+use Rattle.project_sources.specs.Limits.{most_symbols}
+use Rattle.project_model.specs.Gathered.{gathered, symbols_of_all}
 use Rattle.project_model.proofs.symbols.symbols_of.Given as goal
 
 -- the symbols of the other definitions are left
 abbrev pub invariant-defines : goal.invariant-defines
 invariant-defines l = record {
-  same : gathered l.table (symbols_of_all l.names (definitions_of (map statement_of (drop l.define-index l.defines)))) ≡ gathered [] (symbols_of_all l.names (definitions_of (map statement_of l.defines)));
+  same : gathered l.table (symbols_of_all l.names (map statement_of (drop l.define-index l.defines))) ≡ gathered [] (symbols_of_all l.names (map statement_of l.defines));
   short : length l.table ≤ most_symbols + 1;
 }

@@ -7,19 +7,19 @@ use Rattle.regex_tokens.proofs.Gaps.{Step, step_some, step_none}
 use Rattle.regex_tokens.proofs.gap.behind_gap.Goals as goal
 
 pub split_at-requires : goal.split_at-requires
-split_at-requires c = (step_some c.gap.rest.now c.in-Some.len c.gap.invariant.1 (sym (c.in-Some.ensures ∙ ap gap_step c.as_bytes.ensures.value))).cut
+split_at-requires c = (step_some c.args.comments c.gap.rest.now c.in-Some.len c.gap.invariant.1 (sym (c.in-Some.ensures ∙ ap (gap_step c.args.comments) c.as_bytes.ensures.value))).cut
 
 pub gap-preserved : goal.gap-preserved
 gap-preserved c =
-    let step : Step c.gap.rest.now c.in-Some.len = step_some c.gap.rest.now c.in-Some.len c.gap.invariant.1 (sym (c.in-Some.ensures ∙ ap gap_step c.as_bytes.ensures.value)) in (
-      c.gap.invariant.0 ∙ step.same ∙ sym (ap behind_gap c.split_at.ensures.back),
+    let step : Step c.args.comments c.gap.rest.now c.in-Some.len = step_some c.args.comments c.gap.rest.now c.in-Some.len c.gap.invariant.1 (sym (c.in-Some.ensures ∙ ap (gap_step c.args.comments) c.as_bytes.ensures.value)) in (
+      c.gap.invariant.0 ∙ step.same ∙ sym (ap (behind_gap c.args.comments) c.split_at.ensures.back),
       subst IsUtf8 (sym c.split_at.ensures.back) (IsUtf8-drop c.gap.rest.now c.in-Some.len c.gap.invariant.1 step.cut),
     )
 
 pub gap-smaller : goal.gap-smaller
 gap-smaller c =
-    let step : Step c.gap.rest.now c.in-Some.len = step_some c.gap.rest.now c.in-Some.len c.gap.invariant.1 (sym (c.in-Some.ensures ∙ ap gap_step c.as_bytes.ensures.value)) in
+    let step : Step c.args.comments c.gap.rest.now c.in-Some.len = step_some c.args.comments c.gap.rest.now c.in-Some.len c.gap.invariant.1 (sym (c.in-Some.ensures ∙ ap (gap_step c.args.comments) c.as_bytes.ensures.value)) in
     omega (arith, step.some, step.cut.0, c.split_at.ensures.back_len)
 
 pub returns : goal.returns
-returns c = sym (c.gap.invariant.0 ∙ step_none c.gap.rest.now (sym (c.in_default.ensures ∙ ap gap_step c.as_bytes.ensures.value)))
+returns c = sym (c.gap.invariant.0 ∙ step_none c.args.comments c.gap.rest.now (sym (c.in_default.ensures ∙ ap (gap_step c.args.comments) c.as_bytes.ensures.value)))

@@ -5,7 +5,7 @@ use Rattle.regex_tokens.specs.Cuts.{behind_gap}
 use Rattle.regex_tokens.proofs.gap.behind_gap.Given as goal
 
 abbrev pub invariant-gap : goal.invariant-gap
-invariant-gap l = (behind_gap l.text ≡ behind_gap l.rest) × shadow (Utf8 l.rest)
+invariant-gap l = (behind_gap l.comments l.text ≡ behind_gap l.comments l.rest) × shadow (Utf8 l.rest)
 
 abbrev pub decreases-gap : goal.decreases-gap
 decreases-gap l = length l.rest

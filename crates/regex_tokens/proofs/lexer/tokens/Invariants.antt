@@ -5,7 +5,7 @@ use Rattle.regex_tokens.proofs.Whole.{SoFar}
 use Rattle.regex_tokens.proofs.lexer.tokens.Given as goal
 
 abbrev pub invariant-tokens : goal.invariant-tokens
-invariant-tokens l = SoFar l.fn.line l.fn.text l.tokens.items l.places.items l.here l.rest × shadow (Utf8 l.rest)
+invariant-tokens l = SoFar l.comments l.fn.line l.fn.text l.tokens.items l.places.items l.here l.rest × shadow (Utf8 l.rest)
 
 abbrev pub decreases-tokens : goal.decreases-tokens
 decreases-tokens l = length l.rest

@@ -2,7 +2,7 @@ use Rattle.std.proofs.Common.{◌≡◌, ◌≤◌, ◌+◌, ℕ, List, length, 
 use Rattle.std.specs.String.{string_bytes}
 use Rattle.fsm_base.proofs.TableLemmas.{list_any-strings, with_text-held, with_text-strings, IsDistinct-strings}
 use Rattle.fsm_base.specs.Symbols.{with_text}
-use Rattle.project_model.specs.Together.{most_names}
+use Rattle.project_sources.specs.Limits.{most_names}
 use Rattle.project_model.proofs.Texts.{one_longer}
 use Rattle.project_model.proofs.names.Names.add.Goals as goal
 

@@ -1,0 +1,52 @@
+#!/usr/bin/env python3
+"""Copies README.md, docs/FROM-XFST.md and examples/ to where the gate tries the documents' commands, crates/document_rows/data, and writes what
+that program must print. Says what changed: where nothing did, the gate tries what the documents have.
+
+usage: bench/documents.py
+"""
+import os
+import shutil
+
+ROOT = os.path.dirname(os.path.dirname(os.path.abspath(__file__)))
+CRATE = os.path.join(ROOT, 'crates', 'document_rows')
+PROMPT = '    $ '
+
+
+def read(path):
+    with open(path, encoding='utf-8') as text:
+        return text.read()
+
+
+def write(path, text):
+    """Writes a file where its text is another, and says so."""
+    if not os.path.exists(path) or read(path) != text:
+        with open(path, 'w', encoding='utf-8') as out:
+            out.write(text)
+        print('%s is written anew' % os.path.relpath(path, ROOT))
+
+
+def copy_examples():
+    """Copies the projects of examples/, and removes those that are there no more."""
+    source, target = os.path.join(ROOT, 'examples'), os.path.join(CRATE, 'data', 'examples')
+    for name in set(os.listdir(target)) - set(os.listdir(source)):
+        shutil.rmtree(os.path.join(target, name))
+    for name in os.listdir(source):
+        os.makedirs(os.path.join(target, name), exist_ok=True)
+        for file in os.listdir(os.path.join(source, name)):
+            write(os.path.join(target, name, file), read(os.path.join(source, name, file)))
+
+
+def main():
+    copy_examples()
+    told = []
+    for document in read(os.path.join(CRATE, 'stdin')).split():
+        write(os.path.join(CRATE, 'data', document), read(os.path.join(ROOT, document)))
+        told.append(document)
+        for line in read(os.path.join(CRATE, 'data', document)).split('\n'):
+            if line.startswith(PROMPT):
+                told += [line[len(PROMPT):], '    as written']
+    write(os.path.join(CRATE, 'stdout'), '\n'.join(told) + '\n')
+
+
+if __name__ == '__main__':
+    main()

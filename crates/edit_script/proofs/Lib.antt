@@ -1,0 +1,7 @@
+mod Splits
+mod Numbers
+mod Parts
+mod Unique
+mod Returns
+mod Lines
+mod Keywords

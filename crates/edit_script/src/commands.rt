@@ -1,0 +1,232 @@
+ghost use Rattle.std.specs.Prelude.{◌≡◌, ◌≢◌, List, ℕ, MatchOption, MatchResult};
+ghost use Rattle.edit_script.specs.Commands.{HasLines, HasNoSpace, IsCommand, IsPut, IsSplice, IsWhyNoCommand, Orders, lines_behind};
+ghost use Rattle.edit_script.specs.Reading.{command_of};
+ghost use Rattle.edit_script.specs.declared.commands.EditCommand.{EditCommand};
+ghost use Rattle.edit_script.specs.declared.commands.EditCommand.TheVariants.{End};
+
+use crate::errors::CommandError;
+use crate::words::{is_file, net_and_word, number, split, text_of};
+use fsm_base::Text;
+use std::alloc::{AllocError, Global};
+
+/// A command of an editor.
+#[derive(Debug, Drop)]
+pub enum EditCommand {
+    /// `put FILE N`: the next lines are the whole file.
+    Put {
+        /// The file's name.
+        file: Text,
+        /// How many lines follow.
+        lines: u32,
+    },
+    /// `splice FILE FROM COUNT N`: the next lines stand for some lines of the file.
+    Splice {
+        /// The file's name.
+        file: Text,
+        /// The first line that is replaced, counted from 1.
+        from: u32,
+        /// How many lines are replaced.
+        count: u32,
+        /// How many lines follow.
+        lines: u32,
+    },
+    /// `drop FILE`: the file is there no more.
+    Drop {
+        /// The file's name.
+        file: Text,
+    },
+    /// `up NET WORD`: the upper words of a word.
+    Up {
+        /// The name that is looked up in, as it is written.
+        net: Text,
+        /// The word, as it is written.
+        word: Text,
+    },
+    /// `down NET WORD`: the lower words of a word.
+    Down {
+        /// The name that is looked up in, as it is written.
+        net: Text,
+        /// The word, as it is written.
+        word: Text,
+    },
+    /// `end`: the last command.
+    End,
+}
+
+/// A command whose texts are parts of its line.
+#[derive(Drop)]
+pub enum CommandOf<'a> {
+    /// `put FILE N`.
+    Put {
+        file: &'a str,
+        lines: u32,
+    },
+    /// `splice FILE FROM COUNT N`.
+    Splice {
+        file: &'a str,
+        from: u32,
+        count: u32,
+        lines: u32,
+    },
+    /// `drop FILE`.
+    Drop {
+        file: &'a str,
+    },
+    /// `up NET WORD`.
+    Up {
+        net: &'a str,
+        word: &'a str,
+    },
+    /// `down NET WORD`.
+    Down {
+        net: &'a str,
+        word: &'a str,
+    },
+    /// `end`.
+    End,
+}
+
+impl CommandOf<'_> {
+    /// How many lines follow it.
+    fn lines_behind(&self) -> u32
+        ensures { result ≡ lines_behind (command_of self.now) }
+    {
+        match self {
+            CommandOf::Put { lines, .. } | CommandOf::Splice { lines, .. } => *lines,
+            _ => 0,
+        }
+    }
+
+    /// The command with texts of its own.
+    fn keep(self, alloc: Global) -> Result<EditCommand, AllocError>
+        ensures { MatchResult result (λ command. command ≡ command_of self.entry) (λ refused. command_of self.entry ≢ End) }
+    {
+        Ok(match self {
+            CommandOf::Put { file, lines } => EditCommand::Put {
+                file: Text::of(alloc, file)?,
+                lines,
+            },
+            CommandOf::Splice {
+                file,
+                from,
+                count,
+                lines,
+            } => EditCommand::Splice {
+                file: Text::of(alloc, file)?,
+                from,
+                count,
+                lines,
+            },
+            CommandOf::Drop { file } => EditCommand::Drop {
+                file: Text::of(alloc, file)?,
+            },
+            CommandOf::Up { net, word } => EditCommand::Up {
+                net: Text::of(alloc, net)?,
+                word: Text::of(alloc, word)?,
+            },
+            CommandOf::Down { net, word } => EditCommand::Down {
+                net: Text::of(alloc, net)?,
+                word: Text::of(alloc, word)?,
+            },
+            CommandOf::End => EditCommand::End,
+        })
+    }
+}
+
+/// The file and the number behind `put`.
+fn put_of(rest: &str) -> Option<(&str, u32)>
+    ensures { MatchOption result ((file : List ℕ) (lines : ℕ) → IsPut file lines rest.now → ⊥) (λ parts. IsPut parts.0.now parts.1 rest.now) }
+{
+    let (file, lines) = split(rest)?;
+    if !is_file(file) {
+        return None;
+    }
+    let lines = number(lines)?;
+    Some((file, lines))
+}
+
+/// The file and the numbers behind `splice`.
+fn splice_of(rest: &str) -> Option<(&str, u32, u32, u32)>
+    ensures { MatchOption result ((file : List ℕ) (from count lines : ℕ) → IsSplice file from count lines rest.now → ⊥) (λ parts. IsSplice parts.0.now parts.1 parts.2 parts.3 rest.now) }
+{
+    let (file, numbers) = split(rest)?;
+    if !is_file(file) {
+        return None;
+    }
+    let (from, numbers) = split(numbers)?;
+    let (count, lines) = split(numbers)?;
+    Some((file, number(from)?, number(count)?, number(lines)?))
+}
+
+/// The command of a keyword and what stands behind its space, or `None` where they are none.
+fn ordered<'a>(keyword: &str, rest: &'a str) -> Option<CommandOf<'a>>
+    ensures { MatchOption result ((command : EditCommand) → Orders keyword.now rest.now command → ⊥) (λ parts. Orders keyword.now rest.now (command_of parts)) }
+{
+    match keyword {
+        "put" => {
+            let (file, lines) = put_of(rest)?;
+            Some(CommandOf::Put { file, lines })
+        }
+        "splice" => {
+            let (file, from, count, lines) = splice_of(rest)?;
+            Some(CommandOf::Splice {
+                file,
+                from,
+                count,
+                lines,
+            })
+        }
+        "drop" if is_file(rest) => Some(CommandOf::Drop { file: rest }),
+        "up" => {
+            let (net, word) = net_and_word(rest)?;
+            Some(CommandOf::Up { net, word })
+        }
+        "down" => {
+            let (net, word) = net_and_word(rest)?;
+            Some(CommandOf::Down { net, word })
+        }
+        _ => None,
+    }
+}
+
+/// The command of a line, or `None` where it is none.
+fn command_in(line: &[u8]) -> Option<CommandOf<'_>>
+    ensures { MatchOption result ((command : EditCommand) → IsCommand line.now command → ⊥) (λ parts. IsCommand line.now (command_of parts)) }
+{
+    let text = text_of(line)?;
+    match split(text) {
+        Some((keyword, rest)) => ordered(keyword, rest),
+        None if text == "end" => Some(CommandOf::End),
+        None => None,
+    }
+}
+
+/// Reads an editor's command: `put FILE N`, `splice FILE FROM COUNT N`, `drop FILE`, `up NET WORD`, `down NET WORD` or `end`.
+///
+/// One space separates. FILE is `project` or a file's name as in a manifest. NET isn't empty; WORD is all the rest, and the
+/// space before an empty one may be left out. A number is in decimal, without a leading zero, and at most 1,048,576. A carriage
+/// return at the end is dropped. The time is linear in the line.
+///
+/// # Errors
+///
+/// `Bad` where the line is in none of these forms, isn't UTF-8 or has more than 4,096 bytes, and `Memory` where it is such a
+/// command other than `end` and there was no memory for its texts.
+pub fn read_command(alloc: Global, line: &[u8]) -> Result<EditCommand, CommandError>
+    ensures { MatchResult result (IsCommand line.now) (IsWhyNoCommand line.now) }
+{
+    let Some(parts) = command_in(line) else {
+        return Err(CommandError::Bad);
+    };
+    Ok(parts.keep(alloc)?)
+}
+
+/// How many lines follow a line: the N of `put FILE N` and of `splice FILE FROM COUNT N`, and 0 for every other line. It takes no
+/// memory.
+pub fn command_lines(line: &[u8]) -> u32
+    ensures { HasLines line.now result }
+{
+    match command_in(line) {
+        Some(parts) => parts.lines_behind(),
+        None => 0,
+    }
+}

@@ -1,0 +1,132 @@
+ghost use Rattle.std.specs.Prelude.{◌≡◌, ◌↔◌, ◌≢◌, ◌⊎◌, ◌≤◌, List, ℕ, Some, All, IsTrue, MatchOption, length, slice_get};
+ghost use Rattle.fsm_meaning.specs.Replies.{without_return};
+ghost use Rattle.project_manifest.specs.Manifests.{IsFileByte, IsFileName, project_name};
+ghost use Rattle.edit_script.specs.Commands.{HasNoSpace, IsFile, IsNetAndWord, IsNumber, IsText, spaced};
+
+use std::str;
+
+/// The most bytes of a line.
+const MOST_LINE: usize = 4096;
+
+/// The most bytes of a file's name.
+const MOST_NAME_BYTES: usize = 64;
+
+/// The greatest number of a command.
+const MOST_NUMBER: u32 = 1_048_576;
+
+/// The line without a carriage return at its end.
+fn without_return(line: &[u8]) -> &[u8]
+    ensures { result.now ≡ without_return line.now }
+{
+    let Some((last, front)) = line.split_last() else {
+        return line;
+    };
+    if *last == b'\r' { front } else { line }
+}
+
+/// The text of a line, or `None` where it is long or isn't UTF-8.
+pub fn text_of(line: &[u8]) -> Option<&str>
+    ensures { MatchOption result (IsText line.now → ⊥) (λ text. IsText line.now × (text.now ≡ without_return line.now)) }
+{
+    if line.len() > MOST_LINE {
+        return None;
+    }
+    str::from_utf8(without_return(line)).ok()
+}
+
+/// What stands before the first space, and what behind it, or `None` where there is no space.
+pub fn split(text: &str) -> Option<(&str, &str)>
+    ensures { MatchOption result (HasNoSpace text.now) (λ parts. HasNoSpace parts.0.now × (text.now ≡ spaced parts.0.now parts.1.now)) }
+{
+    text.split_once(' ')
+}
+
+/// Whether a number's word begins as none does: with a sign, or with a zero that leads.
+fn begins_wrongly(word: &[u8]) -> bool
+    ensures { IsTrue result ↔ ((slice_get word.now 0 ≡ Some 43) ⊎ ((slice_get word.now 0 ≡ Some 48) × (length word.now ≢ 1))) }
+{
+    match word.first() {
+        Some(first) => *first == b'+' || (*first == b'0' && word.len() != 1),
+        None => false,
+    }
+}
+
+/// The number of a word, or `None` where it is none.
+pub fn number(word: &str) -> Option<u32>
+    ensures { MatchOption result ((n : ℕ) → IsNumber n word.now → ⊥) (λ n. IsNumber n word.now) }
+{
+    if begins_wrongly(word.as_bytes()) {
+        return None;
+    }
+    let number = word.parse::<u32>().ok()?;
+    if number <= MOST_NUMBER {
+        Some(number)
+    } else {
+        None
+    }
+}
+
+/// Whether a byte may stand in a file's name.
+fn is_file_byte(byte: u8) -> bool
+    ensures { IsTrue result ↔ IsFileByte byte }
+{
+    byte.is_ascii_alphanumeric() || byte == b'_' || byte == b'-' || byte == b'.'
+}
+
+/// Whether all these bytes may stand in a file's name.
+fn has_file_bytes(name: &[u8]) -> bool
+    ensures { IsTrue result ↔ All IsFileByte name.now }
+{
+    name.iter().all(|byte| is_file_byte(*byte))
+}
+
+/// Whether the first byte is a dot.
+fn begins_with_dot(name: &[u8]) -> bool
+    ensures { IsTrue result ↔ (slice_get name.now 0 ≡ Some 46) }
+{
+    match name.first() {
+        Some(first) => *first == b'.',
+        None => false,
+    }
+}
+
+/// Whether the name is the manifest's own.
+fn is_manifest_name(name: &[u8]) -> bool
+    ensures { IsTrue result ↔ (name.now ≡ project_name) }
+{
+    name == b"project".as_slice()
+}
+
+/// Whether these bytes are a name that the manifest may name.
+fn is_file_name(name: &[u8]) -> bool
+    ensures { IsTrue result ↔ IsFileName name.now }
+{
+    if name.is_empty() || name.len() > MOST_NAME_BYTES {
+        return false;
+    }
+    if begins_with_dot(name) || is_manifest_name(name) {
+        return false;
+    }
+    has_file_bytes(name)
+}
+
+/// Whether a word names a file.
+pub fn is_file(name: &str) -> bool
+    ensures { IsTrue result ↔ IsFile name.now }
+{
+    is_manifest_name(name.as_bytes()) || is_file_name(name.as_bytes())
+}
+
+/// The name and the word behind a keyword, or `None` where there is no name.
+pub fn net_and_word(rest: &str) -> Option<(&str, &str)>
+    ensures { MatchOption result ((net word : List ℕ) → IsNetAndWord net word rest.now → ⊥) (λ parts. IsNetAndWord parts.0.now parts.1.now rest.now) }
+{
+    let (net, word) = match split(rest) {
+        Some(parts) => parts,
+        None => (rest, ""),
+    };
+    if net.is_empty() {
+        return None;
+    }
+    Some((net, word))
+}

@@ -1,0 +1,71 @@
+use Rattle.std.proofs.Common.{◌≡◌, None, IsTrue, get_or, rules, refl, subst, sym, arith}
+use Rattle.std.specs.List.{Contains}
+use Rattle.std.proofs.lemmas.List.Elements.{All-push, Contains-get_or}
+use Rattle.fsm_base.specs.Alphabet.{symbols_of}
+use Rattle.fsm_words.specs.Words.{IsOver}
+use Rattle.lookup_walk.specs.declared.moves.Move.{Move}
+use Rattle.lookup_walk.specs.Walks.{Through, WritesOver}
+use Rattle.lookup_walk.proofs.Adds.{Adds-more}
+use Rattle.lookup_walk.proofs.Entering.{entered_past, entered_inside, passed_writing, passed_silently}
+use Rattle.lookup_walk.proofs.walk.+walk.Goals as goal
+
+abbrev no_move : Move
+no_move = record { at = record { state = 0; read = None }; write = None; to = 0 }
+
+pub enter-follow-requires : goal.enter-follow-requires
+enter-follow-requires t c =
+    let front : WritesOver c.args.ground.now.alphabet.now c.out-silent.result.now = λ m s has is. c.requires.moves m s ((c.out-silent.ensures m).0 has).0 is in
+    (omega (arith, c.decreases), (c.requires.moves, (front, c.requires.written)))
+
+pub enter-stop-requires : goal.enter-stop-requires
+enter-stop-requires t c =
+    let whole : IsTrue c.in_ok-whole.whole = search rules in
+    let adds = c.in_ok-whole.ensures whole in
+    subst (λ w. IsOver (symbols_of c.args.ground.now.alphabet.now) w) (sym adds.written) c.requires.written
+
+pub enter-returns-in_default : goal.enter-returns-in_default
+enter-returns-in_default t c = λ h.
+    let whole : IsTrue c.in_ok-whole.whole = search rules in
+    entered_past c.args.ground.now.alphabet.now c.args.ground.now.table.now c.args.ground.now.finals.now c.args.state c.args.rest.now c.out-silent.result.now c.args.trail.now c.follow.new.trail c.stop.new.trail c.out-silent.ensures c.in_default.ensures.cases (c.in_ok-whole.ensures whole) (c.in_ok-all.ensures h)
+
+pub enter-follow-requires-2 : goal.enter-follow-requires-2
+enter-follow-requires-2 t c =
+    let whole : IsTrue c.in_ok-whole.whole = search rules in
+    let adds = c.in_ok-whole.ensures whole in
+    let front : WritesOver c.args.ground.now.alphabet.now c.out-reading.result.now = λ m s has is. c.requires.moves m s ((c.out-reading.ensures m).0 has).0 is in
+    let over = subst (λ w. IsOver (symbols_of c.args.ground.now.alphabet.now) w) (sym adds.written) c.requires.written in
+    (omega (arith, c.decreases), (c.requires.moves, (front, over)))
+
+pub enter-returns : goal.enter-returns
+enter-returns t c = λ h.
+    let whole : IsTrue c.in_ok-whole.whole = search rules in
+    entered_inside c.args.ground.now.alphabet.now c.args.ground.now.table.now c.args.ground.now.finals.now c.args.state c.args.rest.now c.in-Some.symbol.now c.in-Some.behind.now c.out-silent.result.now c.out-reading.result.now c.args.trail.now c.follow.new.trail c.follow-2.new.trail c.out-silent.ensures c.out-reading.ensures c.in-Some.ensures.cases.0 (c.in_ok-whole.ensures whole) (c.in_ok-all-2.ensures h)
+
+pub follow-pass-requires : goal.follow-pass-requires
+follow-pass-requires t c =
+    let over = subst (λ w. IsOver (symbols_of c.args.ground.now.alphabet.now) w) (sym c.moves.invariant.written) c.requires.written in
+    let m : Move = get_or c.args.moves.now c.moves.m-index no_move in
+    let held : Contains c.args.moves.now m = Contains-get_or c.args.moves.now c.moves.m-index no_move c.moves-test.true in
+    (omega (arith, c.decreases), (c.requires.moves, (λ s is. c.requires.front m s held is, over)))
+
+pub follow-moves-preserved : goal.follow-moves-preserved
+follow-moves-preserved t c =
+    let whole : IsTrue c.in_ok-whole.whole = search rules in
+    Adds-more c.args.ground.now.alphabet.now c.args.moves.now (λ m w. Through c.args.ground.now.table.now c.args.ground.now.finals.now m c.args.rest.now w) c.moves.m-index _ c.args.trail.now c.moves.trail c.pass.new.trail c.moves-test.true c.moves.invariant (c.in_ok-whole.ensures whole)
+
+pub pass-returns-in_default : goal.pass-returns-in_default
+pass-returns-in_default t c = λ h.
+    let none : c.args.m.write ≡ None = search rules in
+    passed_silently c.args.ground.now.alphabet.now c.args.ground.now.table.now c.args.ground.now.finals.now c.args.m c.args.rest.now c.args.trail.now c.enter.new.trail none (c.in_ok-all.ensures h)
+
+pub pass-enter-requires-2 : goal.pass-enter-requires-2
+pass-enter-requires-2 t c =
+    let here : Contains (symbols_of c.args.ground.now.alphabet.now) c.in-Some.symbol = c.requires.symbol c.in-Some.symbol c.in-Some.is in
+    let over = subst (λ w. IsOver (symbols_of c.args.ground.now.alphabet.now) w) (sym c.in_ok-push.ensures.items) (All-push (Contains (symbols_of c.args.ground.now.alphabet.now)) c.args.trail.now.written.items c.in-Some.symbol c.requires.written here) in
+    (omega (arith, c.decreases), (c.requires.moves, over))
+
+pub pass-returns : goal.pass-returns
+pass-returns t c = λ h.
+    passed_writing c.args.ground.now.alphabet.now c.args.ground.now.table.now c.args.ground.now.finals.now c.args.m c.in-Some.symbol c.args.rest.now c.len-len.result c.args.trail.now
+    (record { written = c.push.new.self; found = c.args.trail.now.found }) c.enter-2.new.trail (record { written = c.truncate.new.self; found = c.enter-2.new.trail.found })
+    c.in-Some.is c.in_ok-push.ensures.items refl (omega (arith, c.len-len.ensures)) c.truncate.ensures.items refl (c.in_ok-whole.ensures h)

@@ -1,0 +1,16 @@
+use Rattle.std.proofs.Common.{◌+◌, ◌*◌, take}
+use Rattle.lookup_walk.specs.Walks.{Adds, Along}
+use Rattle.lookup_walk.proofs.walk.+walk.Given as goal
+
+-- by the moves that may be taken one after another
+abbrev pub decreases-enter : goal.decreases-enter
+decreases-enter l = 3 * l.depth
+
+abbrev pub decreases-pass : goal.decreases-pass
+decreases-pass l = 3 * l.depth + 1
+
+abbrev pub decreases-follow : goal.decreases-follow
+decreases-follow l = 3 * l.depth + 2
+
+abbrev pub invariant-follow-moves : goal.invariant-follow-moves
+invariant-follow-moves l = Adds l.ground.alphabet.now (Along l.ground.table.now l.ground.finals.now (take l.m-index l.moves) l.rest) l.initial.trail l.trail

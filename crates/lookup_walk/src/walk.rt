@@ -1,0 +1,214 @@
+ghost use Rattle.std.specs.Prelude.{◌≡◌, ◌↔◌, ℕ, List, Some, Contains, IfOk, IfSome, IsTrue};
+ghost use Rattle.fsm_words.specs.Answers.{AreAll, IsInOrder};
+ghost use Rattle.fsm_words.specs.Words.{IsOver};
+ghost use Rattle.fsm_base.specs.Alphabet.{symbols_of};
+ghost use Rattle.fsm_base.specs.declared.letters.Sym.{Sym};
+ghost use Rattle.lookup_walk.specs.Answering.{IsOverAlphabet, TextsBy};
+ghost use Rattle.lookup_walk.specs.Walks.{Adds, Along, Goes, Stops, Through, WritesOver};
+
+use crate::finals::is_final;
+use crate::moves::{Move, Spot};
+use crate::net::Net;
+use crate::table::Table;
+use fsm_base::{Alphabet, Sym, Text};
+use lookup_answers::Direction;
+use std::alloc::{AllocError, Global};
+
+/// How many states a walk enters before it is given up. Words of lexicons enter a few hundred, and what is given up is a
+/// small part of a general search.
+const MOST_ENTERED: usize = 4_096;
+
+/// How many moves a walk takes one after another before it is given up, so that the stack stays small.
+const DEEPEST: usize = 1_024;
+
+/// How many bytes of texts a walk finds before it is given up. Many runs may write one long text, which is kept for
+/// each of them until the walk ends.
+const MOST_BYTES: usize = 262_144;
+
+/// The greatest number of texts that are listed.
+const MOST: usize = 4_096;
+
+/// What a walk goes over.
+#[derive(Clone, Copy)]
+struct Ground<'a> {
+    /// The moves of the network.
+    table: &'a Table,
+    /// Whether each state is final.
+    finals: &'a [bool],
+    /// The symbols, with their texts.
+    alphabet: &'a Alphabet,
+}
+
+/// What a walk may spend until it is given up.
+#[derive(Drop)]
+struct Left {
+    /// How many states it may enter.
+    states: usize,
+    /// How many bytes of texts it may find.
+    bytes: usize,
+}
+
+/// Where a walk stands.
+#[derive(Drop)]
+pub(crate) struct Trail {
+    /// The symbols that were written on the way here.
+    written: Vec<Sym>,
+    /// The texts of the runs that were taken so far.
+    found: Vec<Text>,
+}
+
+/// The texts of the words that a network relates to a word, each once and in the order of their bytes, or None where
+/// the walk was given up. It takes one run after another, depth first and with no regard to where it was before. So
+/// where it ends there are no further runs, and around a loop it is given up.
+pub fn walked(
+    alloc: Global,
+    net: &Net,
+    direction: Direction,
+    alphabet: &Alphabet,
+    word: &[Sym],
+) -> Result<Option<Vec<Text>>, AllocError>
+    requires { IsOverAlphabet alphabet.now net.now }
+    ensures { IfOk result (λ found. IfSome found (λ texts. AreAll (TextsBy direction net.now alphabet.now word.now) texts.items)) }
+{
+    let ground = Ground {
+        table: net.table(direction),
+        finals: net.finals(),
+        alphabet,
+    };
+    let mut left = Left {
+        states: MOST_ENTERED,
+        bytes: MOST_BYTES,
+    };
+    let mut trail = Trail {
+        written: Vec::with_capacity(alloc, word.len())?,
+        found: Vec::new(alloc),
+    };
+    if !enter(alloc, &ground, 0, word, DEEPEST, &mut left, &mut trail)? {
+        return Ok(None);
+    }
+    let texts = in_order(trail.found);
+    if texts.len() > MOST {
+        return Ok(None);
+    }
+    Ok(Some(texts))
+}
+
+/// The texts, each once and in the order of their bytes.
+fn in_order(texts: Vec<Text>) -> Vec<Text>
+    ensures same { (text : List ℕ) → Contains result.items text ↔ Contains texts.items text }
+    ensures in_order { IsInOrder result.items }
+{
+    let mut sorted = texts;
+    sorted.sort_unstable();
+    sorted.dedup();
+    sorted
+}
+
+/// Takes the runs from a state that read the rest of the word. Gives false where the walk was given up.
+#[cycle(walk)]
+fn enter(
+    alloc: Global,
+    ground: &Ground,
+    state: usize,
+    rest: &[Sym],
+    depth: usize,
+    left: &mut Left,
+    trail: &mut Trail,
+) -> Result<bool, AllocError>
+    requires moves { WritesOver ground.now.alphabet.now ground.now.table.now }
+    requires written { IsOver (symbols_of ground.now.alphabet.now) trail.old.written.items }
+    ensures { IfOk result (λ whole. IsTrue whole → Adds ground.now.alphabet.now (Goes ground.now.table.now ground.now.finals.now state rest.now) trail.old trail.new) }
+{
+    if depth == 0 || left.states == 0 {
+        return Ok(false);
+    }
+    left.states -= 1;
+    let silent = ground.table.out(Spot { state, read: None });
+    let whole = follow(alloc, ground, silent, rest, depth - 1, left, trail)?;
+    if !whole {
+        return Ok(false);
+    }
+    let Some((symbol, behind)) = rest.split_first() else {
+        let all = stop(alloc, ground, state, left, trail)?;
+        return Ok(all);
+    };
+    let read = Some(*symbol);
+    let reading = ground.table.out(Spot { state, read });
+    let all = follow(alloc, ground, reading, behind, depth - 1, left, trail)?;
+    Ok(all)
+}
+
+/// Takes the runs that begin with one of these moves and read the rest of the word behind it.
+#[cycle(walk)]
+fn follow(
+    alloc: Global,
+    ground: &Ground,
+    moves: &[Move],
+    rest: &[Sym],
+    depth: usize,
+    left: &mut Left,
+    trail: &mut Trail,
+) -> Result<bool, AllocError>
+    requires moves { WritesOver ground.now.alphabet.now ground.now.table.now }
+    requires front { WritesOver ground.now.alphabet.now moves.now }
+    requires written { IsOver (symbols_of ground.now.alphabet.now) trail.old.written.items }
+    ensures { IfOk result (λ whole. IsTrue whole → Adds ground.now.alphabet.now (Along ground.now.table.now ground.now.finals.now moves.now rest.now) trail.old trail.new) }
+{
+    'moves: for m in moves {
+        let whole = pass(alloc, ground, *m, rest, depth, left, trail)?;
+        if !whole {
+            return Ok(false);
+        }
+    }
+    Ok(true)
+}
+
+/// Takes the runs that begin with this move and read the rest of the word behind it.
+#[cycle(walk)]
+fn pass(
+    alloc: Global,
+    ground: &Ground,
+    m: Move,
+    rest: &[Sym],
+    depth: usize,
+    left: &mut Left,
+    trail: &mut Trail,
+) -> Result<bool, AllocError>
+    requires moves { WritesOver ground.now.alphabet.now ground.now.table.now }
+    requires symbol { (symbol : Sym) → m.write ≡ Some symbol → Contains (symbols_of ground.now.alphabet.now) symbol }
+    requires written { IsOver (symbols_of ground.now.alphabet.now) trail.old.written.items }
+    ensures { IfOk result (λ whole. IsTrue whole → Adds ground.now.alphabet.now (Through ground.now.table.now ground.now.finals.now m rest.now) trail.old trail.new) }
+{
+    let Some(symbol) = m.write else {
+        let all = enter(alloc, ground, m.to, rest, depth, left, trail)?;
+        return Ok(all);
+    };
+    let len = trail.written.len();
+    trail.written.push(symbol)?;
+    let whole = enter(alloc, ground, m.to, rest, depth, left, trail)?;
+    trail.written.truncate(len);
+    Ok(whole)
+}
+
+/// Adds the text that was written on the way here, where the state is final. Gives false where the walk was given up.
+fn stop(
+    alloc: Global,
+    ground: &Ground,
+    state: usize,
+    left: &mut Left,
+    trail: &mut Trail,
+) -> Result<bool, AllocError>
+    requires { IsOver (symbols_of ground.now.alphabet.now) trail.old.written.items }
+    ensures { IfOk result (λ whole. IsTrue whole → Adds ground.now.alphabet.now (Stops ground.now.finals.now state) trail.old trail.new) }
+{
+    if !is_final(ground.finals, state) {
+        return Ok(true);
+    }
+    let text = ground.alphabet.text(alloc, &trail.written)?;
+    if left.bytes < text.as_str().len() {
+        return Ok(false);
+    }
+    left.bytes -= text.as_str().len();
+    trail.found.push(text)?;
+    Ok(true)
+}

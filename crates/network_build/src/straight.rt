@@ -1,0 +1,60 @@
+ghost use Rattle.std.specs.Prelude.{◌↔◌, List, IfOk};
+ghost use Rattle.fsa.specs.Automaton.{UsesLetter};
+ghost use Rattle.fsa.specs.Language.{Accepts};
+
+use fsa::Fsa;
+use fsa_reduce::reduced;
+use fsa_subset::determine_within;
+use fsm_base::Pair;
+use std::alloc::{AllocError, Global};
+
+/// How many steps may be taken for each edge of a transducer, so that the work stays in proportion to its size. A lexicon
+/// takes a few.
+const STEPS_FOR_AN_EDGE: usize = 16;
+
+/// How many steps may be taken at least, so that each small transducer is made deterministic.
+const STEPS: usize = 65_536;
+
+/// How many edges more than twice as many there may be.
+const EDGES_MORE: usize = 1_024;
+
+/// Whether each list of pairs has one path already: each edge reads a pair, and no two that leave a state read the same one.
+fn is_straight(alloc: Global, a: &Fsa<Pair>) -> Result<bool, AllocError> {
+    let mut leaving = Vec::with_capacity(alloc, a.edges().len())?;
+    for edge in a.edges() {
+        let Some(pair) = edge.letter else {
+            return Ok(false);
+        };
+        leaving.push((edge.from, pair))?;
+    }
+    leaving.sort_unstable();
+    Ok(
+        leaving
+            .iter()
+            .zip(leaving.iter().skip(1))
+            .all(|(one, next)| one != next),
+    )
+}
+
+/// A transducer that accepts the same lists of pairs, each on one path, so that a look-up enters few states. Where it does so
+/// already, or that takes many steps or more than twice as many edges, the same one.
+pub fn straightened(alloc: Global, a: Fsa<Pair>) -> Result<Fsa<Pair>, AllocError>
+    ensures letters { IfOk result (λ m. (x : Pair) → UsesLetter m x → UsesLetter a x) }
+    ensures language { IfOk result (λ m. (w : List Pair) → Accepts m w ↔ Accepts a w) }
+{
+    if is_straight(alloc, &a)? {
+        return Ok(a);
+    }
+    let edges = a.edges().len();
+    let steps = edges
+        .saturating_mul(STEPS_FOR_AN_EDGE)
+        .saturating_add(STEPS);
+    let Some(straight) = determine_within(alloc, &a, steps)? else {
+        return Ok(a);
+    };
+    let small = reduced(alloc, &straight)?;
+    if small.edges().len() > edges.saturating_mul(2).saturating_add(EDGES_MORE) {
+        return Ok(a);
+    }
+    Ok(small)
+}

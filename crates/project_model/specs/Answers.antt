@@ -1,0 +1,103 @@
+-- What calls answer of sources: by the first fault that these have.
+use Rattle.std.specs.Prelude.{◌≡◌, ◌≤◌, ◌⊎◌, ⊤, ℕ, List, [], ◌∷◌, map, Result, Ok, Err}
+use Rattle.fsm_io.specs.Folders.{Files}
+use Rattle.regex_ast.specs.declared.fault.Fault.{Fault}
+use Rattle.regex_ast.specs.declared.fault.Why.{Why}
+use Rattle.regex_ast.specs.declared.fault.Why.TheVariants as why
+use Rattle.regex_ast.specs.declared.expr.Atom.{Atom}
+use Rattle.regex_ast.specs.Terms.{Term}
+use Rattle.regex_reader.specs.Files.{Statement, FaultAt, ReadsAs}
+use Rattle.expr_forms.specs.Atoms.{is_symbol, one, symbols}
+use Rattle.expr_forms.specs.Built.{IsBuilt}
+use Rattle.expr_forms.specs.Kinds.{Fits}
+use Rattle.expr_forms.specs.Weights.{most_weight, weight_of}
+use Rattle.project_manifest.specs.Manifests.{ManifestView, IsManifest, project_name}
+use Rattle.project_meaning.specs.Projects.{Written}
+use Rattle.project_sources.specs.Rows.{First, HaveNone, Where}
+use Rattle.project_sources.specs.Manifests.{Placed}
+use Rattle.project_sources.specs.Sources.{HasText, Said, FilesSay, stated}
+use Rattle.project_sources.specs.Faults.{fault, HasNoText, SaidRow, SaidFault, rows_so_far, FirstFault}
+use Rattle.project_sources.specs.Laws.{unbuilt}
+use Rattle.project_model.specs.Plans.{PlanView, body_term}
+use Rattle.project_model.specs.Stands.{Stands}
+use Rattle.project_model.specs.declared.definition.Definition.{Definition}
+use Rattle.project_model.specs.declared.demands.Demand.{Demand}
+use Rattle.project_model.specs.declared.demands.Demand.TheVariants as demand
+use Rattle.project_model.specs.declared.plan_error.PlanError.{PlanError}
+use Rattle.project_model.specs.declared.plan_error.PlanError.TheVariants.{Refused, Memory}
+
+-- the files have no fault by the rows that are told so far, and the plan stands for what they say
+pub record IsPlanOf (files : Files) (old new : List (List ℕ)) (plan : PlanView) : Type 0 where
+  pub faultless : (found : Fault) → FirstFault unbuilt files rows_so_far found → ⊥
+  pub said : Said
+  pub says : FilesSay unbuilt files said
+  pub stands : Stands said old new plan
+
+-- the plan of files, their first fault, or want of memory
+abbrev pub IsProjectRead : Files → List (List ℕ) → List (List ℕ) → Result PlanView PlanError → Type 0
+IsProjectRead files old new (Ok plan) = IsPlanOf files old new plan
+IsProjectRead files old new (Err (Refused found)) = FirstFault unbuilt files rows_so_far found
+IsProjectRead files old new (Err (Memory refused)) = ⊤
+
+-- refused for such a fault, or for want of memory
+abbrev pub IsRefusedBy : (Fault → Type 0) → PlanError → Type 0
+IsRefusedBy IsFault (Refused found) = IsFault found
+IsRefusedBy IsFault (Memory refused) = ⊤
+
+-- refused for this fault
+abbrev pub IsRefusal : Fault → PlanError → Type 0
+IsRefusal fault error = IsRefusedBy (λ found. found ≡ fault) error
+
+-- the content is a file's with this manifest, and it is none
+pub record IsManifestFile (content : List ℕ) (manifest : ManifestView) : Type 0 where
+  pub text : List ℕ
+  pub has_text : HasText content text
+  pub says : IsManifest text manifest
+
+abbrev pub IsNoManifest : List ℕ → Fault → Type 0
+IsNoManifest content found = ((manifest : ManifestView) → IsManifestFile content manifest → ⊥) × (found ≡ fault project_name 0 why.NotBuilt)
+
+-- what the text of a file's content is read as
+pub record IsReadAs (content : List ℕ) (answer : Result (List Statement) FaultAt) : Type 0 where
+  pub text : List ℕ
+  pub has_text : HasText content text
+  pub reads : ReadsAs text answer
+
+-- the content of this file has no text, or its text isn't read
+abbrev pub IsUnread : List ℕ → List ℕ → Fault → Type 0
+IsUnread file content found = HasNoText file content found ⊎ ((at : FaultAt) × IsReadAs content (Err at) × (found ≡ fault file at.line at.why))
+
+-- the definitions of a file's statements
+abbrev pub definitions_in : List ℕ → List Statement → List Written
+definitions_in file statements = map (stated file) statements
+
+-- what a manifest of these lines says with one file's statements
+abbrev pub said_by : List Placed → List ℕ → List Statement → Said
+said_by manifest file statements = record { manifest = manifest; written = definitions_in file statements }
+
+-- what is asked of a definition: that each operand that must be a language is one, that it isn't too heavy, and that its network
+-- can be built
+abbrev pub Meets : Demand → Term Atom → Type 0
+Meets demand.Fits t = Fits symbols t
+Meets demand.Light t = weight_of one t ≤ most_weight
+Meets demand.Built t = IsBuilt is_symbol t
+
+abbrev pub why_not : Demand → Why
+why_not demand.Fits = why.NotALanguage
+why_not demand.Light = why.LimitWeight
+why_not demand.Built = why.NotBuilt
+
+abbrev pub DoesMeet : Demand → Definition → Type 0
+DoesMeet asked d = Meets asked (body_term d.body)
+
+-- the fault of the first definition that doesn't meet it
+abbrev pub DemandFault : List Definition → Demand → Fault → Type 0
+DemandFault definitions asked found = First (λ d. Where (DoesMeet asked d → ⊥) (fault d.file d.line (why_not asked))) definitions found
+
+abbrev pub demands : List Demand
+demands = demand.Fits ∷ demand.Light ∷ demand.Built ∷ []
+
+-- the plan of what is said, its first fault by these rows, or want of memory
+abbrev pub IsPlanBy : List SaidRow → Said → List (List ℕ) → List (List ℕ) → Result PlanView PlanError → Type 0
+IsPlanBy by said old new (Ok plan) = HaveNone (SaidFault said) by × Stands said old new plan
+IsPlanBy by said old new (Err error) = IsRefusedBy (First (SaidFault said) by) error

@@ -1,0 +1,14 @@
+-- Names in the order in which they came.
+use Rattle.std.specs.Prelude.{◌≤◌, ◌+◌, ℕ, Bool, true, false, List, length}
+use Rattle.fsm_words.specs.Words.{IsDistinct}
+use Rattle.project_meaning.specs.Leaves.{Leaf, symbol, named}
+use Rattle.project_sources.specs.Limits.{most_names}
+
+-- different names, and at most one more than a project may have
+pub record IsNames (names : List (List ℕ)) : Type 0 where
+  pub distinct : IsDistinct names
+  pub few : length names ≤ most_names + 1
+
+abbrev pub is_named : Leaf → Bool
+is_named (named name) = true
+is_named (symbol text) = false

@@ -1,0 +1,3 @@
+mod Distinct
+mod Listing
+pub mod Writing
