@@ -1,44 +1,61 @@
--- The expressions whose networks are built: those without a set of rules and without a name.
+-- The expressions whose networks are built: those without a set of rules, with such leaves as can be built.
 use Rattle.std.specs.Prelude.{Bool, IsTrue}
 use Rattle.std.specs.List.{list_all}
 use Rattle.regex_ast.specs.Terms.{Term, Terms, Links, Contexts, Steps, empty, any, edge, atom, letters, group, maybe, not_one, cross, suffixed, prefixed, ignore, concat, chain, only, rules, steps, no_term, then_term, no_link, or, and, less, no_context, between, no_step, cross_with, then}
 
 abbrev mutual
-  -- no set of rules stands in it, and each of its leaves is such a one
-  pub IsBuilt : {A : Type 0} → (A → Bool) → Term A → Type 0
-  IsBuilt leaf empty = Unit {0}
-  IsBuilt leaf any = Unit {0}
-  IsBuilt leaf edge = Unit {0}
-  IsBuilt leaf (atom a) = IsTrue (leaf a)
-  IsBuilt leaf (letters all) = IsTrue (list_all leaf all)
-  IsBuilt leaf (group e) = IsBuilt leaf e
-  IsBuilt leaf (maybe e) = IsBuilt leaf e
-  IsBuilt leaf (not_one n e) = IsBuilt leaf e
-  IsBuilt leaf (cross e f) = IsBuilt leaf e × IsBuilt leaf f
-  IsBuilt leaf (suffixed e suffixes) = IsBuilt leaf e
-  IsBuilt leaf (prefixed prefixes e) = IsBuilt leaf e
-  IsBuilt leaf (ignore es) = AreBuilt leaf es
-  IsBuilt leaf (concat es) = AreBuilt leaf es
-  IsBuilt leaf (chain e links) = IsBuilt leaf e × LinksAreBuilt leaf links
-  IsBuilt leaf (only e contexts) = IsBuilt leaf e × ContextsAreBuilt leaf contexts
-  IsBuilt leaf (rules optional groups) = ⊥
-  IsBuilt leaf (steps e more) = IsBuilt leaf e × StepsAreBuilt leaf more
+  -- no set of rules stands in it, each of its leaves passes the first test, and each symbol in braces the second: no name
+  -- may stand there
+  pub IsBuiltBy : {A : Type 0} → (A → Bool) → (A → Bool) → Term A → Type 0
+  IsBuiltBy leaf letter empty = Unit {0}
+  IsBuiltBy leaf letter any = Unit {0}
+  IsBuiltBy leaf letter edge = Unit {0}
+  IsBuiltBy leaf letter (atom a) = IsTrue (leaf a)
+  IsBuiltBy leaf letter (letters all) = IsTrue (list_all letter all)
+  IsBuiltBy leaf letter (group e) = IsBuiltBy leaf letter e
+  IsBuiltBy leaf letter (maybe e) = IsBuiltBy leaf letter e
+  IsBuiltBy leaf letter (not_one n e) = IsBuiltBy leaf letter e
+  IsBuiltBy leaf letter (cross e f) = IsBuiltBy leaf letter e × IsBuiltBy leaf letter f
+  IsBuiltBy leaf letter (suffixed e suffixes) = IsBuiltBy leaf letter e
+  IsBuiltBy leaf letter (prefixed prefixes e) = IsBuiltBy leaf letter e
+  IsBuiltBy leaf letter (ignore es) = AreBuiltBy leaf letter es
+  IsBuiltBy leaf letter (concat es) = AreBuiltBy leaf letter es
+  IsBuiltBy leaf letter (chain e links) = IsBuiltBy leaf letter e × LinksAreBuiltBy leaf letter links
+  IsBuiltBy leaf letter (only e contexts) = IsBuiltBy leaf letter e × ContextsAreBuiltBy leaf letter contexts
+  IsBuiltBy leaf letter (rules optional groups) = ⊥
+  IsBuiltBy leaf letter (steps e more) = IsBuiltBy leaf letter e × StepsAreBuiltBy leaf letter more
 
-  pub AreBuilt : {A : Type 0} → (A → Bool) → Terms A → Type 0
-  AreBuilt leaf no_term = Unit {0}
-  AreBuilt leaf (then_term e es) = IsBuilt leaf e × AreBuilt leaf es
+  pub AreBuiltBy : {A : Type 0} → (A → Bool) → (A → Bool) → Terms A → Type 0
+  AreBuiltBy leaf letter no_term = Unit {0}
+  AreBuiltBy leaf letter (then_term e es) = IsBuiltBy leaf letter e × AreBuiltBy leaf letter es
 
-  pub LinksAreBuilt : {A : Type 0} → (A → Bool) → Links A → Type 0
-  LinksAreBuilt leaf no_link = Unit {0}
-  LinksAreBuilt leaf (or e links) = IsBuilt leaf e × LinksAreBuilt leaf links
-  LinksAreBuilt leaf (and e links) = IsBuilt leaf e × LinksAreBuilt leaf links
-  LinksAreBuilt leaf (less e links) = IsBuilt leaf e × LinksAreBuilt leaf links
+  pub LinksAreBuiltBy : {A : Type 0} → (A → Bool) → (A → Bool) → Links A → Type 0
+  LinksAreBuiltBy leaf letter no_link = Unit {0}
+  LinksAreBuiltBy leaf letter (or e links) = IsBuiltBy leaf letter e × LinksAreBuiltBy leaf letter links
+  LinksAreBuiltBy leaf letter (and e links) = IsBuiltBy leaf letter e × LinksAreBuiltBy leaf letter links
+  LinksAreBuiltBy leaf letter (less e links) = IsBuiltBy leaf letter e × LinksAreBuiltBy leaf letter links
 
-  pub ContextsAreBuilt : {A : Type 0} → (A → Bool) → Contexts A → Type 0
-  ContextsAreBuilt leaf no_context = Unit {0}
-  ContextsAreBuilt leaf (between l r contexts) = IsBuilt leaf l × IsBuilt leaf r × ContextsAreBuilt leaf contexts
+  pub ContextsAreBuiltBy : {A : Type 0} → (A → Bool) → (A → Bool) → Contexts A → Type 0
+  ContextsAreBuiltBy leaf letter no_context = Unit {0}
+  ContextsAreBuiltBy leaf letter (between l r contexts) = IsBuiltBy leaf letter l × IsBuiltBy leaf letter r × ContextsAreBuiltBy leaf letter contexts
 
-  pub StepsAreBuilt : {A : Type 0} → (A → Bool) → Steps A → Type 0
-  StepsAreBuilt leaf no_step = Unit {0}
-  StepsAreBuilt leaf (cross_with e more) = IsBuilt leaf e × StepsAreBuilt leaf more
-  StepsAreBuilt leaf (then e more) = IsBuilt leaf e × StepsAreBuilt leaf more
+  pub StepsAreBuiltBy : {A : Type 0} → (A → Bool) → (A → Bool) → Steps A → Type 0
+  StepsAreBuiltBy leaf letter no_step = Unit {0}
+  StepsAreBuiltBy leaf letter (cross_with e more) = IsBuiltBy leaf letter e × StepsAreBuiltBy leaf letter more
+  StepsAreBuiltBy leaf letter (then e more) = IsBuiltBy leaf letter e × StepsAreBuiltBy leaf letter more
+
+-- the same where one test is for all leaves
+abbrev pub IsBuilt : {A : Type 0} → (A → Bool) → Term A → Type 0
+IsBuilt leaf = IsBuiltBy leaf leaf
+
+abbrev pub AreBuilt : {A : Type 0} → (A → Bool) → Terms A → Type 0
+AreBuilt leaf = AreBuiltBy leaf leaf
+
+abbrev pub LinksAreBuilt : {A : Type 0} → (A → Bool) → Links A → Type 0
+LinksAreBuilt leaf = LinksAreBuiltBy leaf leaf
+
+abbrev pub ContextsAreBuilt : {A : Type 0} → (A → Bool) → Contexts A → Type 0
+ContextsAreBuilt leaf = ContextsAreBuiltBy leaf leaf
+
+abbrev pub StepsAreBuilt : {A : Type 0} → (A → Bool) → Steps A → Type 0
+StepsAreBuilt leaf = StepsAreBuiltBy leaf leaf
