@@ -7,7 +7,7 @@ ghost use Rattle.lookup_walk.specs.Answering.{IsOverAlphabet, TextsBy};
 ghost use Rattle.lookup_walk.specs.Walks.{Adds, Along, Goes, Stops, Through, WritesOver};
 
 use crate::finals::is_final;
-use crate::moves::{Move, Spot};
+use crate::moves::Move;
 use crate::net::Net;
 use crate::table::Table;
 use fsm_base::{Alphabet, Sym, Text};
@@ -123,7 +123,7 @@ fn enter(
         return Ok(false);
     }
     left.states -= 1;
-    let silent = ground.table.out(Spot { state, read: None });
+    let silent = ground.table.silent(state);
     let whole = follow(alloc, ground, silent, rest, depth - 1, left, trail)?;
     if !whole {
         return Ok(false);
@@ -132,8 +132,7 @@ fn enter(
         let all = stop(alloc, ground, state, left, trail)?;
         return Ok(all);
     };
-    let read = Some(*symbol);
-    let reading = ground.table.out(Spot { state, read });
+    let reading = ground.table.reading(state, *symbol);
     let all = follow(alloc, ground, reading, behind, depth - 1, left, trail)?;
     Ok(all)
 }

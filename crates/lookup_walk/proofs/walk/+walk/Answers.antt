@@ -14,7 +14,7 @@ no_move = record { at = record { state = 0; read = None }; write = None; to = 0 
 
 pub enter-follow-requires : goal.enter-follow-requires
 enter-follow-requires t c =
-    let front : WritesOver c.args.ground.now.alphabet.now c.out-silent.result.now = λ m s has is. c.requires.moves m s ((c.out-silent.ensures m).0 has).0 is in
+    let front : WritesOver c.args.ground.now.alphabet.now c.silent-silent.result.now = λ m s has is. c.requires.moves m s ((c.silent-silent.ensures m).0 has).0 is in
     (omega (arith, c.decreases), (c.requires.moves, (front, c.requires.written)))
 
 pub enter-stop-requires : goal.enter-stop-requires
@@ -26,20 +26,20 @@ enter-stop-requires t c =
 pub enter-returns-in_default : goal.enter-returns-in_default
 enter-returns-in_default t c = λ h.
     let whole : IsTrue c.in_ok-whole.whole = search rules in
-    entered_past c.args.ground.now.alphabet.now c.args.ground.now.table.now c.args.ground.now.finals.now c.args.state c.args.rest.now c.out-silent.result.now c.args.trail.now c.follow.new.trail c.stop.new.trail c.out-silent.ensures c.in_default.ensures.cases (c.in_ok-whole.ensures whole) (c.in_ok-all.ensures h)
+    entered_past c.args.ground.now.alphabet.now c.args.ground.now.table.now c.args.ground.now.finals.now c.args.state c.args.rest.now c.silent-silent.result.now c.args.trail.now c.follow.new.trail c.stop.new.trail c.silent-silent.ensures c.in_default.ensures.cases (c.in_ok-whole.ensures whole) (c.in_ok-all.ensures h)
 
 pub enter-follow-requires-2 : goal.enter-follow-requires-2
 enter-follow-requires-2 t c =
     let whole : IsTrue c.in_ok-whole.whole = search rules in
     let adds = c.in_ok-whole.ensures whole in
-    let front : WritesOver c.args.ground.now.alphabet.now c.out-reading.result.now = λ m s has is. c.requires.moves m s ((c.out-reading.ensures m).0 has).0 is in
+    let front : WritesOver c.args.ground.now.alphabet.now c.reading-reading.result.now = λ m s has is. c.requires.moves m s ((c.reading-reading.ensures m).0 has).0 is in
     let over = subst (λ w. IsOver (symbols_of c.args.ground.now.alphabet.now) w) (sym adds.written) c.requires.written in
     (omega (arith, c.decreases), (c.requires.moves, (front, over)))
 
 pub enter-returns : goal.enter-returns
 enter-returns t c = λ h.
     let whole : IsTrue c.in_ok-whole.whole = search rules in
-    entered_inside c.args.ground.now.alphabet.now c.args.ground.now.table.now c.args.ground.now.finals.now c.args.state c.args.rest.now c.in-Some.symbol.now c.in-Some.behind.now c.out-silent.result.now c.out-reading.result.now c.args.trail.now c.follow.new.trail c.follow-2.new.trail c.out-silent.ensures c.out-reading.ensures c.in-Some.ensures.cases.0 (c.in_ok-whole.ensures whole) (c.in_ok-all-2.ensures h)
+    entered_inside c.args.ground.now.alphabet.now c.args.ground.now.table.now c.args.ground.now.finals.now c.args.state c.args.rest.now c.in-Some.symbol.now c.in-Some.behind.now c.silent-silent.result.now c.reading-reading.result.now c.args.trail.now c.follow.new.trail c.follow-2.new.trail c.silent-silent.ensures c.reading-reading.ensures c.in-Some.ensures.cases.0 (c.in_ok-whole.ensures whole) (c.in_ok-all-2.ensures h)
 
 pub follow-pass-requires : goal.follow-pass-requires
 follow-pass-requires t c =
