@@ -2,7 +2,8 @@
 //!
 //! - [`Net`]: a network, whose moves are sorted by state and by the symbol that they read, in both directions.
 //! - [`Table`], [`Move`], [`Spot`], [`is_final`]: its moves and final states, as a search sees them.
-//! - [`walked`]: all texts of a word that has few runs, or the finding that the walk was given up.
+//! - [`walked`]: all texts of a word that has few runs, or the finding that the walk was given up; [`Walker`]: the same with room
+//!   that the walk of the next word uses again.
 #![tactic(auto)]
 
 mod finals;
@@ -15,4 +16,4 @@ pub use finals::is_final;
 pub use moves::{Move, Spot};
 pub use net::Net;
 pub use table::Table;
-pub use walk::walked;
+pub use walk::{Walker, walked};

@@ -1,4 +1,4 @@
-ghost use Rattle.std.specs.Prelude.{◌≡◌, ◌↔◌, ℕ, List, Some, Contains, IfOk, IfSome, IsTrue};
+ghost use Rattle.std.specs.Prelude.{◌≡◌, ◌↔◌, ℕ, List, [], Some, Contains, IfOk, IfSome, IsTrue};
 ghost use Rattle.fsm_words.specs.Answers.{AreAll, IsInOrder};
 ghost use Rattle.fsm_words.specs.Words.{IsOver};
 ghost use Rattle.fsm_base.specs.Alphabet.{symbols_of};
@@ -13,6 +13,7 @@ use crate::table::Table;
 use fsm_base::{Alphabet, Sym, Text};
 use lookup_answers::Direction;
 use std::alloc::{AllocError, Global};
+use std::marker::Model;
 
 /// How many states a walk enters before it is given up. Words of lexicons enter a few hundred, and what is given up is a
 /// small part of a general search.
@@ -57,9 +58,58 @@ pub(crate) struct Trail {
     found: Vec<Text>,
 }
 
+/// A walk's room, which the next walk uses again. Contracts see the texts that the last walk found.
+#[derive(Drop)]
+pub struct Walker {
+    /// Where the last walk stood at its end.
+    trail: Trail,
+}
+
+impl Model for Walker {
+    ghost use Rattle.std.specs.Prelude.{List, ℕ};
+
+    ghost Value = { List (List ℕ) };
+
+    ghost view = { λ walker. walker.trail.found.items };
+}
+
+impl Walker {
+    /// One that has found nothing yet.
+    pub fn new(alloc: Global) -> Walker
+        ensures { result ≡ [] }
+    {
+        Walker {
+            trail: trail_of(alloc),
+        }
+    }
+
+    /// The texts that the last walk found.
+    pub fn texts(&self) -> &[Text]
+        ensures { result.now ≡ self.now }
+    {
+        self.trail.found.as_slice()
+    }
+
+    /// Finds the texts of the words that a network relates to a word, each once and in the order of their bytes, or gives false
+    /// where the walk was given up. It takes one run after another, depth first and with no regard to where it was
+    /// before. So where it ends there are no further runs, and around a loop it is given up.
+    pub fn walk(
+        &mut self,
+        alloc: Global,
+        net: &Net,
+        direction: Direction,
+        alphabet: &Alphabet,
+        word: &[Sym],
+    ) -> Result<bool, AllocError>
+        requires { IsOverAlphabet alphabet.now net.now }
+        ensures { IfOk result (λ whole. IsTrue whole → AreAll (TextsBy direction net.now alphabet.now word.now) self.new) }
+    {
+        walk_word(alloc, net, direction, alphabet, word, &mut self.trail)
+    }
+}
+
 /// The texts of the words that a network relates to a word, each once and in the order of their bytes, or None where
-/// the walk was given up. It takes one run after another, depth first and with no regard to where it was before. So
-/// where it ends there are no further runs, and around a loop it is given up.
+/// the walk was given up, as [`Walker::walk`] finds them.
 pub fn walked(
     alloc: Global,
     net: &Net,
@@ -70,6 +120,35 @@ pub fn walked(
     requires { IsOverAlphabet alphabet.now net.now }
     ensures { IfOk result (λ found. IfSome found (λ texts. AreAll (TextsBy direction net.now alphabet.now word.now) texts.items)) }
 {
+    let mut trail = trail_of(alloc);
+    if !walk_word(alloc, net, direction, alphabet, word, &mut trail)? {
+        return Ok(None);
+    }
+    Ok(Some(trail.found))
+}
+
+/// Nothing written and nothing found.
+fn trail_of(alloc: Global) -> Trail
+    ensures { result.found.items ≡ [] }
+{
+    Trail {
+        written: Vec::new(alloc),
+        found: Vec::new(alloc),
+    }
+}
+
+/// Walks from the start, with nothing written and nothing found before. Gives false where the walk was given up.
+fn walk_word(
+    alloc: Global,
+    net: &Net,
+    direction: Direction,
+    alphabet: &Alphabet,
+    word: &[Sym],
+    trail: &mut Trail,
+) -> Result<bool, AllocError>
+    requires { IsOverAlphabet alphabet.now net.now }
+    ensures { IfOk result (λ whole. IsTrue whole → AreAll (TextsBy direction net.now alphabet.now word.now) trail.new.found.items) }
+{
     let ground = Ground {
         table: net.table(direction),
         finals: net.finals(),
@@ -79,29 +158,24 @@ pub fn walked(
         states: MOST_ENTERED,
         bytes: MOST_BYTES,
     };
-    let mut trail = Trail {
-        written: Vec::with_capacity(alloc, word.len())?,
-        found: Vec::new(alloc),
-    };
-    if !enter(alloc, &ground, 0, word, DEEPEST, &mut left, &mut trail)? {
-        return Ok(None);
+    trail.written.clear();
+    trail.found.clear();
+    let whole = enter(alloc, &ground, 0, word, DEEPEST, &mut left, trail)?;
+    if !whole {
+        return Ok(false);
     }
-    let texts = in_order(trail.found);
-    if texts.len() > MOST {
-        return Ok(None);
-    }
-    Ok(Some(texts))
+    put_in_order(&mut trail.found);
+    let few = trail.found.len() <= MOST;
+    Ok(few)
 }
 
-/// The texts, each once and in the order of their bytes.
-fn in_order(texts: Vec<Text>) -> Vec<Text>
-    ensures same { (text : List ℕ) → Contains result.items text ↔ Contains texts.items text }
-    ensures in_order { IsInOrder result.items }
+/// Puts the texts in the order of their bytes, each once.
+fn put_in_order(texts: &mut Vec<Text>)
+    ensures same { (text : List ℕ) → Contains texts.new.items text ↔ Contains texts.old.items text }
+    ensures in_order { IsInOrder texts.new.items }
 {
-    let mut sorted = texts;
-    sorted.sort_unstable();
-    sorted.dedup();
-    sorted
+    texts.sort_unstable();
+    texts.dedup();
 }
 
 /// Takes the runs from a state that read the rest of the word. Gives false where the walk was given up.
