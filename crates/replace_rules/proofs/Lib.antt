@@ -1,0 +1,4 @@
+mod Unions
+mod Blocks
+mod Keeping
+mod Replacing
