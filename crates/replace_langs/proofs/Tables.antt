@@ -48,17 +48,17 @@ module _ {L M : Type 0} (g : L → Option M) (letters : List L) where
 pub filter_split : {L M : Type 0} (g : L → Option M) (x : List L) (front back : List M) → filter_map g x ≡ front ++ back → (u : List L) × (v : List L) × (x ≡ u ++ v) × (filter_map g u ≡ front) × (filter_map g v ≡ back)
 filter_split g x [] back e = ([], x, refl, refl, e)
 filter_split g [] (f ∷ front) back e = let none : [] ≡ f ∷ (front ++ back) = e in absurd (cc)
-filter_split {L} {M} g (m ∷ x) (f ∷ front) back e = go (g m) refl e
+filter_split {L} {M} g (m ∷ x) (f ∷ front) back e = go (g m) refl e (λ fr h. filter_split g x fr back h)
   where
-    go : (o : Option M) → g m ≡ o → cons_option o (filter_map g x) ≡ f ∷ (front ++ back) → (u : List L) × (v : List L) × (m ∷ x ≡ u ++ v) × (filter_map g u ≡ f ∷ front) × (filter_map g v ≡ back)
-    go None is e =
-        let r = filter_split g x (f ∷ front) back e in
+    go : (o : Option M) → g m ≡ o → cons_option o (filter_map g x) ≡ f ∷ (front ++ back) → ((fr : List M) → filter_map g x ≡ fr ++ back → (u : List L) × (v : List L) × (x ≡ u ++ v) × (filter_map g u ≡ fr) × (filter_map g v ≡ back)) → (u : List L) × (v : List L) × (m ∷ x ≡ u ++ v) × (filter_map g u ≡ f ∷ front) × (filter_map g v ≡ back)
+    go None is e later =
+        let r = later (f ∷ front) e in
         (m ∷ r.0, r.1, ap (λ z. m ∷ z) r.2, ap (λ o. cons_option o (filter_map g r.0)) is ∙ r.3, r.4)
-    go (Some y) is e =
+    go (Some y) is e later =
         let e' : y ∷ filter_map g x ≡ f ∷ (front ++ back) = e in
         let head : y ≡ f = cc in
         let tail : filter_map g x ≡ front ++ back = cc in
-        let r = filter_split g x front back tail in
+        let r = later front tail in
         (m ∷ r.0, r.1, ap (λ z. m ∷ z) r.2, ap (λ o. cons_option o (filter_map g r.0)) is ∙ ap (λ z. z ∷ filter_map g r.0) head ∙ ap (λ z. f ∷ z) r.3, r.4)
 
 -- words of letters that all have names

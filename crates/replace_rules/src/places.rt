@@ -1,8 +1,8 @@
-ghost use Rattle.std.specs.Prelude.{◌≡◌, ◌++◌, IfOk, OnOk};
+ghost use Rattle.std.specs.Prelude.{◌≡◌, ◌++◌, IfOk, OnOk, map};
 ghost use Rattle.fsm_words.specs.Words.{IsDistinct, IsOver};
 ghost use Rattle.lang_algebra.specs.Languages.{IsLang};
 ghost use Rattle.replace_words.specs.Marked.{LeftHolds, RightHolds};
-ghost use Rattle.replace_rules.specs.Places.{places_in, places_of, rules_by};
+ghost use Rattle.replace_rules.specs.Places.{choices, place_with, places_of, rules_by};
 
 use crate::rules::{LangContext, LangGroup, LangMap, Side};
 use fsm_base::Bound;
@@ -79,27 +79,32 @@ pub fn places_of<'a>(
 {
     let mut places = Vec::new(alloc);
     for group in groups {
-        add_places(&mut places, group)?;
+        add_places(&mut places, &group.maps, group.side, &group.contexts)?;
     }
     Ok(places)
 }
 
-/// Adds the places of a group.
-fn add_places<'a>(places: &mut Vec<Place<'a>>, group: &'a LangGroup) -> Result<(), AllocError>
-    ensures { OnOk result (places.new.items ≡ places.old.items ++ places_in group.now) }
+/// Adds the places of a group of these mappings.
+fn add_places<'a>(
+    places: &mut Vec<Place<'a>>,
+    maps: &'a [LangMap],
+    side: Side,
+    contexts: &'a [LangContext],
+) -> Result<(), AllocError>
+    ensures { OnOk result (places.new.items ≡ places.old.items ++ map (place_with maps.now side) (choices contexts.now)) }
 {
-    if group.contexts.is_empty() {
+    if contexts.is_empty() {
         places.push(Place {
-            maps: &group.maps,
-            side: group.side,
+            maps,
+            side,
             context: None,
         })?;
         return Ok(());
     }
-    for context in &group.contexts {
+    for context in contexts {
         places.push(Place {
-            maps: &group.maps,
-            side: group.side,
+            maps,
+            side,
             context: Some(context),
         })?;
     }

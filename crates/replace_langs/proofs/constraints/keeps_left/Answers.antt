@@ -4,6 +4,9 @@ use Rattle.replace_words.specs.declared.marks.Mark.TheVariants.{Open}
 use Rattle.replace_langs.proofs.Sets.{left_kept}
 use Rattle.replace_langs.proofs.constraints.keeps_left.Goals as goal
 
+pub over-requires : goal.over-requires
+over-requires c = rw c.letters-marks.ensures.letters c.letters-marks.ensures.complete.distinct
+
 pub returns : goal.returns
 returns c =
     IfOk-weaker _ _ _ (λ kept is. left_kept c.letters-marks.result.now c.args.left.now c.in_ok-others.others c.in_ok-broken.broken kept c.letters-marks.ensures.complete c.letters-marks.ensures.letters

@@ -4,6 +4,9 @@ use Rattle.replace_words.specs.declared.marks.Mark.TheVariants.{Close}
 use Rattle.replace_langs.proofs.Sets.{right_kept}
 use Rattle.replace_langs.proofs.constraints.keeps_right.Goals as goal
 
+pub over-requires : goal.over-requires
+over-requires c = rw c.letters-marks.ensures.letters c.letters-marks.ensures.complete.distinct
+
 pub returns : goal.returns
 returns c =
     IfOk-weaker _ _ _ (λ kept is. right_kept c.letters-marks.result.now c.args.right.now c.in_ok-others.others c.in_ok-broken.broken kept c.letters-marks.ensures.complete c.letters-marks.ensures.letters
