@@ -1,4 +1,4 @@
 mod Unions
-mod Blocks
-mod Keeping
-mod Replacing
+mod BlockWords
+mod KeptWords
+mod Relations

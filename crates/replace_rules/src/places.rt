@@ -13,6 +13,7 @@ use std::alloc::{AllocError, Global};
 use std::marker::Model;
 
 /// Where rules replace: the mappings of a group with one of its contexts, or with none where the group has none.
+#[derive(Drop)]
 pub struct Place<'a> {
     /// The mappings of the group.
     maps: &'a [LangMap],

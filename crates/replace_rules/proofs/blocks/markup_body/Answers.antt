@@ -1,5 +1,5 @@
 use Rattle.std.proofs.lemmas.Result.{IfOk-weaker}
-use Rattle.replace_rules.proofs.Blocks.{markup_words}
+use Rattle.replace_rules.proofs.BlockWords.{markup_words}
 use Rattle.replace_rules.proofs.blocks.markup_body.Goals as goal
 
 pub returns : goal.returns

@@ -1,5 +1,5 @@
 use Rattle.std.proofs.lemmas.Result.{IfOk-weaker}
-use Rattle.replace_rules.proofs.Blocks.{plain_words}
+use Rattle.replace_rules.proofs.BlockWords.{plain_words}
 use Rattle.replace_rules.proofs.blocks.plain_body.Goals as goal
 
 pub returns : goal.returns

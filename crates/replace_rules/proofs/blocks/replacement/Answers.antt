@@ -1,6 +1,6 @@
 use Rattle.std.proofs.lemmas.Result.{IfOk-weaker}
 use Rattle.replace_rules.specs.Places.{IsBody}
-use Rattle.replace_rules.proofs.Blocks.{bracketed}
+use Rattle.replace_rules.proofs.BlockWords.{bracketed}
 use Rattle.replace_rules.proofs.blocks.replacement.Goals as goal
 
 pub returns : goal.returns

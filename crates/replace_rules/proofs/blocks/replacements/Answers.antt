@@ -3,7 +3,7 @@ use Rattle.std.proofs.lemmas.Option.{slice_get-get_or}
 use Rattle.replace_words.specs.Marked.{IsReplacement}
 use Rattle.replace_rules.specs.Places.{rules_by}
 use Rattle.replace_rules.proofs.Unions.{numbered_none, numbered_more, numbered_all}
-use Rattle.replace_rules.proofs.Blocks.{replacement_words}
+use Rattle.replace_rules.proofs.BlockWords.{replacement_words}
 use Rattle.replace_rules.proofs.blocks.replacements.Goals as goal
 
 pub loop-number-init : goal.loop-number-init

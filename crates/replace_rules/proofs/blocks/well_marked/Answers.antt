@@ -1,5 +1,5 @@
 use Rattle.std.proofs.lemmas.Result.{IfOk-weaker}
-use Rattle.replace_rules.proofs.Blocks.{well_words}
+use Rattle.replace_rules.proofs.BlockWords.{well_words}
 use Rattle.replace_rules.proofs.blocks.well_marked.Goals as goal
 
 pub returns : goal.returns

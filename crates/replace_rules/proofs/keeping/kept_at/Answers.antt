@@ -1,6 +1,6 @@
 use Rattle.std.proofs.Common.{sym, ◌∙◌}
 use Rattle.std.proofs.lemmas.Result.{IfOk-weaker}
-use Rattle.replace_rules.proofs.Keeping.{kept_optional, kept_obligatory}
+use Rattle.replace_rules.proofs.KeptWords.{kept_optional, kept_obligatory}
 use Rattle.replace_rules.proofs.keeping.kept_at.Goals as goal
 
 pub returns-then-optional : goal.returns-then-optional

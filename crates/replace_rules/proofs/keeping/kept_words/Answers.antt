@@ -2,7 +2,7 @@ use Rattle.std.proofs.Common.{Some, arith, ap, sym, ◌∙◌}
 use Rattle.std.proofs.lemmas.Option.{slice_get-get_or}
 use Rattle.fsm_words.specs.Words.{IsOver}
 use Rattle.fsa.specs.Language.{Accepts}
-use Rattle.replace_rules.proofs.Keeping.{kept_none, kept_more, kept_all}
+use Rattle.replace_rules.proofs.KeptWords.{kept_none, kept_more, kept_all}
 use Rattle.replace_rules.proofs.keeping.kept_words.Goals as goal
 
 pub loop-number-init : goal.loop-number-init

@@ -1,7 +1,7 @@
 use Rattle.fsm_words.specs.Words.{IsOver}
 use Rattle.fsa.specs.Language.{Accepts}
 use Rattle.lang_algebra.specs.Languages.{IsLang}
-use Rattle.replace_rules.proofs.Keeping.{KeepsBelow}
+use Rattle.replace_rules.proofs.KeptWords.{KeepsBelow}
 use Rattle.replace_rules.proofs.keeping.kept_words.Given as goal
 
 abbrev pub invariant-loop-number : goal.invariant-loop-number

@@ -1,6 +1,6 @@
 use Rattle.std.proofs.Common.{◌≡◌, ap, sym, ◌∙◌, length}
 use Rattle.std.proofs.lemmas.Result.{IfOk-weaker}
-use Rattle.replace_rules.proofs.Replacing.{replaced_relation}
+use Rattle.replace_rules.proofs.Relations.{replaced_relation}
 use Rattle.replace_rules.proofs.replacing.replace.Goals as goal
 
 pub returns-clause-relation : goal.returns-clause-relation
