@@ -158,7 +158,7 @@ open_listed (suc n) k l =
     elim (below k n l) as (λ _. Contains (brackets (suc n)) (Inner (Open k))) [
       | inl less ↦ Contains-append_left (brackets n) (Inner (Open n) ∷ Inner (Close n) ∷ []) (Inner (Open k)) (open_listed n k less)
       | inr same ↦ subst (λ j. Contains (brackets (suc n)) (Inner (Open j))) (sym same)
-      (Contains-append_right (brackets n) (Inner (Open n) ∷ Inner (Close n) ∷ []) (Inner (Open n)) (Contains-head (Inner (Open n)) (Inner (Close n) ∷ [])))
+          (Contains-append_right (brackets n) (Inner (Open n) ∷ Inner (Close n) ∷ []) (Inner (Open n)) (Contains-head (Inner (Open n)) (Inner (Close n) ∷ [])))
     ]
 
 close_listed : (n k : ℕ) → k < n → Contains (brackets n) (Inner (Close k))
@@ -167,7 +167,7 @@ close_listed (suc n) k l =
     elim (below k n l) as (λ _. Contains (brackets (suc n)) (Inner (Close k))) [
       | inl less ↦ Contains-append_left (brackets n) (Inner (Open n) ∷ Inner (Close n) ∷ []) (Inner (Close k)) (close_listed n k less)
       | inr same ↦ subst (λ j. Contains (brackets (suc n)) (Inner (Close j))) (sym same)
-      (Contains-append_right (brackets n) (Inner (Open n) ∷ Inner (Close n) ∷ []) (Inner (Close n)) (Contains-tail (Inner (Open n)) (Inner (Close n) ∷ []) (Inner (Close n)) (Contains-head (Inner (Close n)) [])))
+          (Contains-append_right (brackets n) (Inner (Open n) ∷ Inner (Close n) ∷ []) (Inner (Close n)) (Contains-tail (Inner (Open n)) (Inner (Close n) ∷ []) (Inner (Close n)) (Contains-head (Inner (Close n)) [])))
     ]
 
 bracket_listed : (n : ℕ) (m : Bound Mark) → IsBracket n m → Contains (brackets n) m

@@ -137,8 +137,16 @@ module _ (marks : List (Bound Mark)) (lang others broken kept : Complete (Bound 
           let parts : IsOver lang.letters (x ++ m ∷ y) = subst (IsOver lang.letters) e over in
           elim (decide x (over_front lang.letters x (m ∷ y) parts)) as (λ _. Accepts lang x) [
             | inl h ↦ h
-            | inr bad ↦ absurd (none ((broken_is.words w).1 (over_marks w over, (whole_is w).1 (x, m ∷ y, e, bad,
-                (rest_is (m ∷ y)).1 (m ∷ [], y, refl, (bracket_is (m ∷ [])).1 refl, (all_is y).1 (over_marks y (All-tail (Contains lang.letters) m y (over_back lang.letters x (m ∷ y) parts))))))))
+            | inr bad ↦ absurd (none ((broken_is.words w).1 (
+              over_marks w over,
+              (whole_is w).1 (
+                x,
+                m ∷ y,
+                e,
+                bad,
+                (rest_is (m ∷ y)).1 (m ∷ [], y, refl, (bracket_is (m ∷ [])).1 refl, (all_is y).1 (over_marks y (All-tail (Contains lang.letters) m y (over_back lang.letters x (m ∷ y) parts)))),
+              ),
+            )))
           ]
 
       up : (w : List (Bound Mark)) → ((x y : List (Bound Mark)) → w ≡ x ++ m ∷ y → Accepts lang x) → ¬ Accepts broken w
@@ -160,8 +168,16 @@ module _ (marks : List (Bound Mark)) (lang others broken kept : Complete (Bound 
           let parts : IsOver lang.letters (x ++ m ∷ y) = subst (IsOver lang.letters) e over in
           elim (decide y (All-tail (Contains lang.letters) m y (over_back lang.letters x (m ∷ y) parts))) as (λ _. Accepts lang y) [
             | inl h ↦ h
-            | inr bad ↦ absurd (none ((broken_is.words w).1 (over_marks w over, (whole_is w).1 (x, m ∷ y, e, (all_is x).1 (over_marks x (over_front lang.letters x (m ∷ y) parts)),
-                (rest_is (m ∷ y)).1 (m ∷ [], y, refl, (bracket_is (m ∷ [])).1 refl, bad)))))
+            | inr bad ↦ absurd (none ((broken_is.words w).1 (
+              over_marks w over,
+              (whole_is w).1 (
+                x,
+                m ∷ y,
+                e,
+                (all_is x).1 (over_marks x (over_front lang.letters x (m ∷ y) parts)),
+                (rest_is (m ∷ y)).1 (m ∷ [], y, refl, (bracket_is (m ∷ [])).1 refl, bad),
+              ),
+            )))
           ]
 
       up : (w : List (Bound Mark)) → ((x y : List (Bound Mark)) → w ≡ x ++ m ∷ y → Accepts lang y) → ¬ Accepts broken w

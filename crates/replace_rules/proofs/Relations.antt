@@ -206,3 +206,13 @@ module _ (symbols : List Sym) (groups : List LangGroup) (over : AreMapsOver symb
         let all : IsOver marks z = All-weaker Of (Contains marks) (λ m. (marks_are m).1) z (well_over z is.0) in
         (z, (words_are.words z).1 ((all, (well_is z).1 is.0), is.1), up, low),
   )
+
+  pub replaced_places : (places : List Place) → places ≡ places_of groups → (marks : List (Bound Mark)) (optional : Bool) (well : Automaton (Bound Mark)) (words : Complete (Bound Mark)) → ((m : Bound Mark) → Contains marks m ↔ IsMarkOf symbols (length places) m)
+      → ((w : List (Bound Mark)) → language.Accepts well w ↔ IsWellMarked rules_by symbols places w)
+      → IsLang marks (λ w. (IsOver marks w × language.Accepts well w) × ((k : ℕ) (p : Place) → slice_get places k ≡ Some p → IsKept rules_by optional k p w)) words
+      → (u w : List Sym) → ((z : List (Bound Mark)) × Accepts words z × (filter_map (symbol_of upper_of) z ≡ u) × (filter_map (symbol_of lower_of) z ≡ w)) ↔ IsRewritten symbols (ReplacesBy groups) (AppliesBy groups) optional u w
+  replaced_places places e marks optional well words =
+      subst (λ (ps : List Place). ((m : Bound Mark) → Contains marks m ↔ IsMarkOf symbols (length ps) m) → ((w : List (Bound Mark)) → language.Accepts well w ↔ IsWellMarked rules_by symbols ps w)
+          → IsLang marks (λ w. (IsOver marks w × language.Accepts well w) × ((k : ℕ) (p : Place) → slice_get ps k ≡ Some p → IsKept rules_by optional k p w)) words
+          → (u w : List Sym) → ((z : List (Bound Mark)) × Accepts words z × (filter_map (symbol_of upper_of) z ≡ u) × (filter_map (symbol_of lower_of) z ≡ w)) ↔ IsRewritten symbols (ReplacesBy groups) (AppliesBy groups) optional u w)
+      (sym e) (replaced_relation marks optional well words)

@@ -1,4 +1,4 @@
-ghost use Rattle.std.specs.Prelude.{◌≡◌, ◌++◌, IfOk, OnOk, map};
+ghost use Rattle.std.specs.Prelude.{◌≡◌, ◌++◌, IfOk, OnOk, map, option_map};
 ghost use Rattle.fsm_words.specs.Words.{IsDistinct, IsOver};
 ghost use Rattle.lang_algebra.specs.Languages.{IsLang};
 ghost use Rattle.replace_words.specs.Marked.{LeftHolds, RightHolds};
@@ -40,6 +40,20 @@ impl<'a> Place<'a> {
         self.maps
     }
 
+    /// The context, where there is one.
+    fn context(&self) -> Option<&LangContext>
+        ensures { option_map (λ c. c.now) result ≡ self.now.context }
+    {
+        self.context
+    }
+
+    /// On which sides it is read.
+    fn side(&self) -> Side
+        ensures { result ≡ self.now.side }
+    {
+        self.side
+    }
+
     /// The words of marks behind which the left part of the context holds.
     pub fn left(
         &self,
@@ -49,8 +63,8 @@ impl<'a> Place<'a> {
         requires { IsDistinct marks.now }
         ensures { IfOk result (IsLang marks.now (λ x. IsOver marks.now x × LeftHolds rules_by self.now x)) }
     {
-        match self.context {
-            Some(context) => left_words(alloc, marks, self.side, &context.left),
+        match self.context() {
+            Some(context) => left_words(alloc, marks, self.side(), &context.left),
             None => over(alloc, marks, &any(alloc, marks)?),
         }
     }
@@ -64,8 +78,8 @@ impl<'a> Place<'a> {
         requires { IsDistinct marks.now }
         ensures { IfOk result (IsLang marks.now (λ z. IsOver marks.now z × RightHolds rules_by self.now z)) }
     {
-        match self.context {
-            Some(context) => right_words(alloc, marks, self.side, &context.right),
+        match self.context() {
+            Some(context) => right_words(alloc, marks, self.side(), &context.right),
             None => over(alloc, marks, &any(alloc, marks)?),
         }
     }

@@ -13,7 +13,7 @@ loop-map-preserved c =
     let i = c.loop-map.map-index in
     let m = c.map-item.result in
     let front : take (i + 1) maps ≡ take i maps ++ m ∷ [] = take_more maps i m c.loop-map-test.true ∙ ap (λ z. take i maps ++ z ∷ []) (sym c.map-item.is) in
-    some_more (λ m. Accepts m.centre) (take (i + 1) maps) (take i maps) m c.loop-map.all c.in_ok-more.more _ front c.loop-map.invariant c.in_ok-more.ensures.language c.in_ok-union.ensures.language
+    some_more (λ m. Accepts m.centre) (take (i + 1) maps) (take i maps) m c.loop-map.all c.in_ok-more.more _ front c.loop-map.invariant c.in_ok-more.ensures.language c.in_ok-all-2.ensures.language
 
 pub returns : goal.returns
 returns c = some_all (λ m. Accepts m.centre) c.args.maps.now (take c.loop-map.map-index c.args.maps.now) c.loop-map.all (take_all c.loop-map.map-index c.args.maps.now c.loop-map-test.false) c.loop-map.invariant

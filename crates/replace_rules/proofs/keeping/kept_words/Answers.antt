@@ -17,7 +17,7 @@ loop-number-preserved c =
     let k = c.loop-number.number in
     let p = c.index-places-number.result in
     kept_more c.args.optional places marks (λ w. IsOver marks w × Accepts c.args.words.now w) k p c.loop-number.kept _
-    (slice_get-get_or places k p (omega arith) ∙ ap (λ x. Some x) (sym c.index-places-number.is)) c.loop-number.invariant c.in_ok-kept_at.ensures
+    (slice_get-get_or places k p (omega arith) ∙ ap (λ x. Some x) (sym c.index-places-number.is)) c.loop-number.invariant c.in_ok-kept-2.ensures
 
 pub returns : goal.returns
 returns c =
