@@ -4,8 +4,8 @@ ghost use Rattle.fsm_words.specs.Words.{IsDistinct, IsOver};
 ghost use Rattle.fsa.specs.Complete as complete;
 ghost use Rattle.fsa.specs.Language.{Accepts};
 ghost use Rattle.lang_algebra.specs.Languages.{IsLang};
-ghost use Rattle.replace_words.specs.Marked.{IsKept};
-ghost use Rattle.replace_rules.specs.Places.{HasCentreIn, Place, rules_by};
+ghost use Rattle.replace_words.specs.Marked.{IsKept, LeavesNone};
+ghost use Rattle.replace_rules.specs.Places.{HasCentreIn, IsBetween, Place, rules_by};
 
 use crate::places::Place;
 use crate::rules::LangMap;
@@ -48,16 +48,48 @@ fn kept_at(
     let marks = words.letters();
     let left = place.left(alloc, marks)?;
     let right = place.right(alloc, marks)?;
-    let begun = keeps_left(alloc, number, &left)?;
-    let ended = keeps_right(alloc, number, &right)?;
-    let first = words.both(alloc, &begun)?;
-    let second = first.both(alloc, &ended)?;
+    let kept = in_context(alloc, number, words, &left, &right)?;
     if optional {
-        return Ok(second);
+        return Ok(kept);
     }
-    let centre = centres(alloc, place.maps())?;
-    let third = leaves_none(alloc, &left, &centre, &right)?;
-    second.both(alloc, &third)
+    without_centres(alloc, place.maps(), &kept, &left, &right)
+}
+
+/// Those of the words in which each replacement by the place of this number stands behind a word of the one language and before
+/// one of the other.
+fn in_context(
+    alloc: Global,
+    number: usize,
+    words: &Lang<Bound<Mark>>,
+    left: &Lang<Bound<Mark>>,
+    right: &Lang<Bound<Mark>>,
+) -> Result<Lang<Bound<Mark>>, AllocError>
+    requires left { left.now.letters ≡ words.now.letters }
+    requires right { right.now.letters ≡ words.now.letters }
+    ensures { IfOk result (IsLang words.now.letters (λ w. complete.Accepts words.now w × IsBetween (complete.Accepts left.now) (complete.Accepts right.now) number w)) }
+{
+    let begun = keeps_left(alloc, number, left)?;
+    let ended = keeps_right(alloc, number, right)?;
+    let first = words.both(alloc, &begun)?;
+    first.both(alloc, &ended)
+}
+
+/// Those of the words in which no centre of the mappings stands in copied symbols behind a word of the one language and before one
+/// of the other.
+fn without_centres(
+    alloc: Global,
+    maps: &[LangMap],
+    words: &Lang<Bound<Mark>>,
+    left: &Lang<Bound<Mark>>,
+    right: &Lang<Bound<Mark>>,
+) -> Result<Lang<Bound<Mark>>, AllocError>
+    requires left { left.now.letters ≡ words.now.letters }
+    requires right { right.now.letters ≡ words.now.letters }
+    ensures { IfOk result (IsLang words.now.letters (λ w. complete.Accepts words.now w × LeavesNone (HasCentreIn maps.now) (complete.Accepts left.now) (complete.Accepts right.now) w)) }
+{
+    let centre = centres(alloc, maps)?;
+    let whole = leaves_none(alloc, left, &centre, right)?;
+    words.both(alloc, &whole)
 }
 
 /// The words of all centres.

@@ -15,7 +15,7 @@ loop-number-preserved c =
     let k = c.loop-number.number in
     let p = c.index-places-number.result in
     numbered_more (λ k p. IsReplacement rules_by k p) places k p c.loop-number.all c.in_ok-more.more _
-    (slice_get-get_or places k p (omega arith) ∙ ap (λ x. Some x) (sym c.index-places-number.is)) c.loop-number.invariant (replacement_words k p c.in_ok-more.more c.in_ok-more.ensures) c.in_ok-all-2.ensures.language
+    (slice_get-get_or places k p (omega arith) ∙ ap (λ x. Some x) (sym c.index-places-number.is)) c.loop-number.invariant (replacement_words k p c.in_ok-more.more (rw c.maps.ensures at c.in_ok-more.ensures)) c.in_ok-all-2.ensures.language
 
 pub returns : goal.returns
 returns c = numbered_all (λ k p. IsReplacement rules_by k p) c.args.places.now c.loop-number.number c.loop-number.all (omega arith) c.loop-number.invariant

@@ -1,4 +1,6 @@
-use Rattle.std.proofs.Common.{◌≡◌, ◌∙◌, List}
+use Rattle.std.proofs.Common.{◌≡◌, ◌∙◌, List, length, arith, subst}
+use Rattle.std.specs.List.{Contains}
+use Rattle.replace_langs.specs.Letters.{IsMarkOf}
 use Rattle.std.proofs.lemmas.Result.{IfOk-weaker}
 use Rattle.fst_relation.specs.Relation.{IsRelated}
 use Rattle.fsm_words.specs.Relations.{AreSame}
@@ -12,7 +14,11 @@ pub replaced_at-requires-clause-distinct : goal.replaced_at-requires-clause-dist
 replaced_at-requires-clause-distinct c = rw c.deref-2.ensures.value (c.in_ok-marks.ensures.once c.requires.distinct)
 
 pub replaced_at-requires-clause-marks : goal.replaced_at-requires-clause-marks
-replaced_at-requires-clause-marks c m = rw (c.deref-2.ensures.value, c.deref.ensures.value) (rw c.len.ensures at (c.in_ok-marks.ensures.all m))
+replaced_at-requires-clause-marks c m =
+    let syms = c.args.syms.now in
+    let marks = c.in_ok-marks.marks.items in
+    let count : c.len.result ≡ length c.in_ok-places.places.items = omega (arith, c.in_ok-places.places.ok.0, c.len.ensures) in
+    rw (c.deref-2.ensures.value, c.deref.ensures.value) (subst (λ n. (Contains marks m → IsMarkOf syms n m) × (IsMarkOf syms n m → Contains marks m)) count (c.in_ok-marks.ensures.all m))
 
 pub returns-clause-relation : goal.returns-clause-relation
 returns-clause-relation c =
