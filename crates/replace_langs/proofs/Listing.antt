@@ -1,8 +1,7 @@
 -- All marks of symbols and places, listed.
-use Rattle.std.proofs.Common.{◌≡◌, ◌↔◌, ℕ, zero, suc, ◌+◌, ◌<◌, List, [], ◌∷◌, ◌++◌, ◌⊎◌, inl, inr, Some, refl, sym, ap, subst, ◌∙◌, arith}
+use Rattle.std.proofs.Common.{◌≡◌, ◌↔◌, ℕ, zero, suc, ◌<◌, List, [], ◌∷◌, ◌++◌, ◌⊎◌, inl, inr, Some, refl, sym, ap, subst, ◌∙◌, arith}
 use Rattle.std.specs.List.{Contains, flat_map}
 use Rattle.std.proofs.Math.Nat.{le-suc_iff}
-use Rattle.std.proofs.lemmas.Option.{slice_get_within}
 use Rattle.std.proofs.lemmas.List.Elements.{Contains-append_left, Contains-append_right, Contains-append_cases}
 use Rattle.fsm_base.specs.declared.letters.Sym.{Sym}
 use Rattle.fsm_base.specs.declared.letters.Bound.{Bound}

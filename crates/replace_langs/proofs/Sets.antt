@@ -1,24 +1,23 @@
 -- Sets of words over some letters: what contexts and rules ask of them.
-use Rattle.std.proofs.Common.{◌≡◌, ◌↔◌, ◌⊎◌, ℕ, List, [], ◌∷◌, ◌++◌, Option, Some, None, All, map, refl, sym, ap, subst, ◌∙◌, inl, inr}
+use Rattle.std.proofs.Common.{◌≡◌, ◌↔◌, ◌⊎◌, List, [], ◌∷◌, ◌++◌, Option, Some, map, refl, sym, ap, subst, ◌∙◌, inl, inr}
 use Rattle.std.specs.List.{Contains, filter_map}
-use Rattle.std.proofs.lemmas.List.Elements.{All-nil, All-cons, All-head, All-tail, All-append, filter_map-append}
+use Rattle.std.proofs.lemmas.List.Elements.{All-nil, All-cons, All-head, All-tail, filter_map-append}
 use Rattle.fsm_base.specs.declared.letters.Sym.{Sym}
 use Rattle.fsm_base.specs.declared.letters.Bound.{Bound}
-use Rattle.fsm_base.specs.declared.letters.Bound.TheVariants.{Edge, Inner}
+use Rattle.fsm_base.specs.declared.letters.Bound.TheVariants.{Inner}
 use Rattle.fsm_words.specs.Words.{IsOver, IsConcatenation, IsRepetition, Translates}
 use Rattle.fsm_words.specs.Operations.{IsOneLetter}
 use Rattle.fsm_words.proofs.Laws.{IsOver-repetition, IsRepetition-more}
 use Rattle.fsa.specs.Automaton.{Automaton}
 use Rattle.fsa.specs.Language as language
 use Rattle.fsa.specs.Complete.{Complete, IsComplete, Accepts}
-use Rattle.fsa_product.proofs.Turned.{accepts_or_not, accepted_over}
+use Rattle.fsa_product.proofs.Turned.{accepts_or_not}
 use Rattle.lang_algebra.specs.Languages.{IsLang}
 use Rattle.lang_algebra.proofs.Made.{IsLang-same}
 use Rattle.expr_meaning.specs.Operators.{HasPrefix, HasSuffix}
 use Rattle.network_algebra.specs.Renamed.{IsRenamed}
 use Rattle.replace_words.specs.declared.marks.Mark.{Mark}
-use Rattle.replace_words.specs.declared.marks.Mark.TheVariants.{Copy, Open, Close}
-use Rattle.replace_words.specs.Marked.{copies, KeepsLeft, KeepsRight, LeavesNone}
+use Rattle.replace_words.specs.Marked.{copies, LeavesNone}
 use Rattle.replace_langs.specs.Letters.{table_of, own_table, mark_as}
 use Rattle.replace_langs.specs.declared.langs.Written.{Written}
 use Rattle.replace_langs.proofs.Tables.{row_cases, translated, filter_split, all_named, names_all}

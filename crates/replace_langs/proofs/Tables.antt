@@ -1,7 +1,7 @@
 -- Words read through the table of a function.
-use Rattle.std.proofs.Common.{◌≡◌, ◌↔◌, List, [], ◌∷◌, ◌++◌, Option, Some, None, All, map, refl, sym, ap, subst, ◌∙◌}
+use Rattle.std.proofs.Common.{◌≡◌, ◌↔◌, List, [], ◌∷◌, ◌++◌, Option, Some, None, map, refl, sym, ap, subst, ◌∙◌}
 use Rattle.std.specs.List.{Contains, filter_map, cons_option}
-use Rattle.std.proofs.lemmas.List.Elements.{All-nil, All-cons, All-head, All-tail, filter_map-append}
+use Rattle.std.proofs.lemmas.List.Elements.{All-nil, All-cons, All-head, All-tail}
 use Rattle.fsm_words.specs.Words.{IsOver, Translates, finish, keep, omit}
 use Rattle.fsm_words.proofs.Members.{Contains-map, Contains-map_cases}
 use Rattle.replace_langs.specs.Letters.{table_of}

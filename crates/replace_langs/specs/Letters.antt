@@ -1,5 +1,5 @@
 -- Which marks there are, and what contexts and networks see of them.
-use Rattle.std.specs.Prelude.{◌≡◌, ◌<◌, ℕ, zero, suc, List, [], ◌∷◌, ◌++◌, Option, Some, None, map, Contains}
+use Rattle.std.specs.Prelude.{◌<◌, ℕ, zero, suc, List, [], ◌∷◌, ◌++◌, Option, Some, None, map, Contains}
 use Rattle.fsm_base.specs.declared.letters.Bound.{Bound}
 use Rattle.fsm_base.specs.declared.letters.Bound.TheVariants.{Edge, Inner}
 use Rattle.fsm_base.specs.declared.letters.Pair.{Pair}

@@ -1,5 +1,5 @@
 -- The words of replacements by places, and the well-formed words.
-use Rattle.std.proofs.Common.{◌≡◌, ◌↔◌, ◌⊎◌, ℕ, List, [], ◌∷◌, ◌++◌, Option, Some, None, All, map, refl, sym, ap, subst, ◌∙◌, inl, inr, append_assoc}
+use Rattle.std.proofs.Common.{◌≡◌, ◌↔◌, ◌⊎◌, ℕ, List, [], ◌∷◌, ◌++◌, Option, Some, None, refl, sym, ap, subst, ◌∙◌, inl, inr}
 use Rattle.std.specs.List.{Contains, flat_map}
 use Rattle.std.proofs.lemmas.List.Elements.{All-weaker}
 use Rattle.fsm_base.specs.declared.letters.Sym.{Sym}
@@ -11,11 +11,11 @@ use Rattle.fsa.specs.Automaton.{Automaton}
 use Rattle.fsa.specs.Language as language
 use Rattle.fsa.specs.Complete.{Complete, Accepts}
 use Rattle.replace_words.specs.declared.marks.Mark.{Mark}
-use Rattle.replace_words.specs.declared.marks.Mark.TheVariants.{Copy, Open, Close}
+use Rattle.replace_words.specs.declared.marks.Mark.TheVariants.{Open, Close}
 use Rattle.replace_words.specs.Claims.{At}
 use Rattle.replace_words.specs.Marked.{copies, ups, lows, sames, bracket, IsReplacement, IsBlock, IsWellMarked}
 use Rattle.replace_rules.specs.declared.rules.LangMap.{LangMap}
-use Rattle.replace_rules.specs.Places.{Place, HasPlain, HasMarkup, IsBody, IsBodyOf, rules_by}
+use Rattle.replace_rules.specs.Places.{Place, IsBody, IsBodyOf, rules_by}
 
 -- a word of one set on the upper side, then one of another on the lower side
 pub plain_words : (centre put : Complete Sym) (c p : Automaton Sym) (upper lower m : Automaton (Bound Mark)) → ((w : List Sym) → language.Accepts c w ↔ Accepts centre w) → ((w : List Sym) → language.Accepts p w ↔ Accepts put w)
@@ -105,6 +105,11 @@ module _ (symbols : List Sym) (places : List Place) (symbol : Automaton Sym) (co
         let (vs, ez, all) = (blocks_are z).0 middle in
         (vs, e ∙ ap (λ t. t ++ y) ((edge_is x).0 first) ∙ ap (λ t. Edge ∷ t) (e2 ∙ ap (λ t. t ++ u) ez ∙ ap (λ t. flat_map (λ v. v) vs ++ t) ((edge_is u).0 last)), All-weaker (language.Accepts block) Block block_there vs all),
     λ (vs, e, all).
-        (m_is w).1 (Edge ∷ [], flat_map (λ v. v) vs ++ Edge ∷ [], e, (edge_is (Edge ∷ [])).1 refl,
-            (rest_is (flat_map (λ v. v) vs ++ Edge ∷ [])).1 (flat_map (λ v. v) vs, Edge ∷ [], refl, (blocks_are (flat_map (λ v. v) vs)).1 (vs, refl, All-weaker Block (language.Accepts block) block_back vs all), (edge_is (Edge ∷ [])).1 refl)),
+        (m_is w).1 (
+          Edge ∷ [],
+          flat_map (λ v. v) vs ++ Edge ∷ [],
+          e,
+          (edge_is (Edge ∷ [])).1 refl,
+          (rest_is (flat_map (λ v. v) vs ++ Edge ∷ [])).1 (flat_map (λ v. v) vs, Edge ∷ [], refl, (blocks_are (flat_map (λ v. v) vs)).1 (vs, refl, All-weaker Block (language.Accepts block) block_back vs all), (edge_is (Edge ∷ [])).1 refl),
+        ),
   )

@@ -1,5 +1,5 @@
 -- What groups rewrite, the two sides of marked words of their places are.
-use Rattle.std.proofs.Common.{◌≡◌, ◌↔◌, ◌⊎◌, ℕ, ◌<◌, Bool, false, List, [], ◌∷◌, ◌++◌, Option, Some, None, All, map, length, refl, sym, ap, subst, ◌∙◌, inl, inr}
+use Rattle.std.proofs.Common.{◌≡◌, ◌↔◌, ◌⊎◌, ℕ, ◌<◌, Bool, List, [], ◌∷◌, ◌++◌, Option, Some, None, All, length, refl, sym, ap, subst, inl, inr}
 use Rattle.std.specs.List.{Contains, slice_get, flat_map, filter_map}
 use Rattle.std.proofs.lemmas.Option.{slice_get_within}
 use Rattle.std.proofs.lemmas.List.Elements.{All-nil, All-cons, All-head, All-tail, All-append, All-map, All-weaker, All-contains, Contains-append_left, Contains-append_right, Contains-append_cases}
@@ -9,25 +9,23 @@ use Rattle.fsm_base.specs.declared.letters.Bound.TheVariants.{Edge, Inner}
 use Rattle.fsm_words.specs.Words.{IsOver}
 use Rattle.fsm_words.proofs.Members.{Contains-nil_cases, Contains-cons_cases, Contains-head, Contains-tail, Contains-map, Contains-map_cases}
 use Rattle.fsm_words.proofs.Places.{Contains-from_slice_get}
-use Rattle.regex_ast.specs.declared.expr.Side.{Side}
 use Rattle.fsa.specs.Automaton.{Automaton}
 use Rattle.fsa.specs.Language as language
 use Rattle.fsa.specs.Complete.{Complete, AcceptsFrom, Accepts, stop, read}
 use Rattle.lang_algebra.specs.Languages.{IsLang}
-use Rattle.expr_meaning.specs.Operators.{inner, HoldsLeft, HoldsRight}
-use Rattle.expr_meaning.specs.Replacement.{Piece, copied, replaced, read_before, read_behind, IsPiece, IsDerivation, IsObligatory, IsRewritten}
+use Rattle.expr_meaning.specs.Operators.{inner}
+use Rattle.expr_meaning.specs.Replacement.{Piece, copied, replaced, read_before, read_behind, IsPiece, IsRewritten}
 use Rattle.replace_words.specs.declared.marks.Mark.{Mark}
 use Rattle.replace_words.specs.declared.marks.Mark.TheVariants.{Copy, Up, Low, Same, Open, Close}
-use Rattle.replace_words.specs.Places.{HasNoEmptyCentre, Makes, HoldsBetween, ReplacesAt, AppliesAt, IsRewrittenAt}
-use Rattle.replace_words.specs.Marked.{ups, lows, sames, bracket, upper_of, lower_of, symbol_of, IsReplacement, IsBlock, IsWellMarked, IsKept, IsMarked}
-use Rattle.replace_words.specs.Laws.{IsMarkedBy}
+use Rattle.replace_words.specs.Places.{HasNoEmptyCentre, HoldsBetween, ReplacesAt, AppliesAt, IsRewrittenAt}
+use Rattle.replace_words.specs.Marked.{ups, lows, sames, bracket, upper_of, lower_of, symbol_of, IsReplacement, IsBlock, IsWellMarked, IsKept}
 use Rattle.replace_words.proofs.Claimed.{rewritings_are_marked}
 use Rattle.replace_langs.specs.Letters.{IsMarkOf}
 use Rattle.replace_rules.specs.declared.rules.LangMap.{LangMap}
 use Rattle.replace_rules.specs.declared.rules.LangContext.{LangContext}
 use Rattle.replace_rules.specs.declared.rules.LangGroup.{LangGroup}
 use Rattle.replace_rules.specs.Rules.{IsPut, HasCentre, HasMapping, HasContext, Allows, ReplacesBy, AppliesBy, IsMapOver, AreMapsOver}
-use Rattle.replace_rules.specs.Places.{Place, choices, place_with, places_in, places_of, HasPlain, HasMarkup, HasCentreIn, LeftPart, RightPart, rules_by}
+use Rattle.replace_rules.specs.Places.{Place, choices, place_with, places_in, places_of, HasPlain, HasMarkup, LeftPart, RightPart, rules_by}
 
 -- the places of groups are those of each
 place_group : (groups : List LangGroup) (p : Place) → Contains (places_of groups) p → (g : LangGroup) × Contains groups g × Contains (places_in g) p
@@ -213,6 +211,6 @@ module _ (symbols : List Sym) (groups : List LangGroup) (over : AreMapsOver symb
       → (u w : List Sym) → ((z : List (Bound Mark)) × Accepts words z × (filter_map (symbol_of upper_of) z ≡ u) × (filter_map (symbol_of lower_of) z ≡ w)) ↔ IsRewritten symbols (ReplacesBy groups) (AppliesBy groups) optional u w
   replaced_places places e marks optional well words =
       subst (λ (ps : List Place). ((m : Bound Mark) → Contains marks m ↔ IsMarkOf symbols (length ps) m) → ((w : List (Bound Mark)) → language.Accepts well w ↔ IsWellMarked rules_by symbols ps w)
-          → IsLang marks (λ w. (IsOver marks w × language.Accepts well w) × ((k : ℕ) (p : Place) → slice_get ps k ≡ Some p → IsKept rules_by optional k p w)) words
-          → (u w : List Sym) → ((z : List (Bound Mark)) × Accepts words z × (filter_map (symbol_of upper_of) z ≡ u) × (filter_map (symbol_of lower_of) z ≡ w)) ↔ IsRewritten symbols (ReplacesBy groups) (AppliesBy groups) optional u w)
+      → IsLang marks (λ w. (IsOver marks w × language.Accepts well w) × ((k : ℕ) (p : Place) → slice_get ps k ≡ Some p → IsKept rules_by optional k p w)) words
+      → (u w : List Sym) → ((z : List (Bound Mark)) × Accepts words z × (filter_map (symbol_of upper_of) z ≡ u) × (filter_map (symbol_of lower_of) z ≡ w)) ↔ IsRewritten symbols (ReplacesBy groups) (AppliesBy groups) optional u w)
       (sym e) (replaced_relation marks optional well words)

@@ -86,10 +86,7 @@ impl<'a> Place<'a> {
 }
 
 /// The places of groups, one after another.
-pub fn places_of<'a>(
-    alloc: Global,
-    groups: &'a [LangGroup],
-) -> Result<Vec<Place<'a>>, AllocError>
+pub fn places_of<'a>(alloc: Global, groups: &'a [LangGroup]) -> Result<Vec<Place<'a>>, AllocError>
     ensures { IfOk result (λ places. places.items ≡ places_of groups.now) }
 {
     let mut places = Vec::new(alloc);

@@ -1,6 +1,5 @@
 use fsm_base::{Bound, Sym};
 use lang_algebra::Lang;
-
 pub use regex_ast::Side;
 
 /// A mapping: each word of a centre is replaced by each word of a result.

@@ -1,13 +1,13 @@
 -- The derivations of rules are their words of marks.
-use Rattle.std.proofs.Common.{◌≡◌, ℕ, ◌↔◌, Bool, false, List, [], ◌∷◌, ◌++◌, Some, refl, ap, sym, ◌∙◌, map, subst, inl, inr}
-use Rattle.std.specs.Prelude.{slice_get, All, Contains}
+use Rattle.std.proofs.Common.{◌≡◌, ◌↔◌, Bool, false, List, [], ◌∷◌, ◌++◌, refl, ap, sym, ◌∙◌, map, subst, inl, inr}
+use Rattle.std.specs.Prelude.{All, Contains}
 use Rattle.std.specs.List.{flat_map, filter_map}
-use Rattle.std.proofs.lemmas.List.Elements.{All-nil, All-cons, All-head, All-tail, All-same}
+use Rattle.std.proofs.lemmas.List.Elements.{All-nil, All-cons, All-head, All-tail}
 use Rattle.fsm_base.specs.declared.letters.Sym.{Sym}
 use Rattle.fsm_base.specs.declared.letters.Bound.{Bound}
 use Rattle.fsm_base.specs.declared.letters.Bound.TheVariants.{Edge, Inner}
 use Rattle.replace_words.specs.declared.marks.Mark.{Mark}
-use Rattle.replace_words.specs.Claims.{Claim, copied, replaced, marked, left_side, right_side, IsClaim, HoldsAt, IsClaimed, IsObliged, Claims}
+use Rattle.replace_words.specs.Claims.{Claim, copied, replaced, marked, left_side, right_side, IsClaim, IsClaimed, IsObliged, Claims}
 use Rattle.replace_words.specs.Places.{Rules}
 use Rattle.replace_words.specs.Marked.{upper_of, lower_of, copies, encode, written, reading, symbol_of, on_left, on_right, IsBlock, LeftHolds, RightHolds, IsMarked}
 use Rattle.fsm_words.proofs.Places.{Contains-from_slice_get, slice_get_from_Contains}

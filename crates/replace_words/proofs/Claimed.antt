@@ -1,11 +1,10 @@
 -- What places rewrite, claims of them do.
-use Rattle.std.proofs.Common.{◌≡◌, ◌↔◌, ◌⊎◌, ℕ, Bool, false, List, [], ◌∷◌, ◌++◌, Option, Some, None, map, refl, sym, ap, subst, ◌∙◌, inl, inr, append_assoc, append-nil}
+use Rattle.std.proofs.Common.{◌≡◌, ◌↔◌, ℕ, Bool, false, List, [], ◌∷◌, ◌++◌, Some, map, refl, sym, ap, subst, ◌∙◌, inl, inr, append_assoc, append-nil}
 use Rattle.std.specs.Prelude.{slice_get, All}
 use Rattle.std.specs.List.{Contains, flat_map}
 use Rattle.std.proofs.Math.Path.{subst₂}
 use Rattle.std.proofs.lemmas.List.Elements.{All-nil, All-cons, All-head, All-tail}
 use Rattle.std.proofs.lemmas.List.{map-append}
-use Rattle.fsm_base.specs.declared.letters.Bound.{Bound}
 use Rattle.fsm_base.specs.declared.letters.Bound.TheVariants.{Edge, Inner}
 use Rattle.fsm_base.specs.declared.letters.Sym.{Sym}
 use Rattle.regex_ast.specs.declared.expr.Side.{Side}
@@ -14,7 +13,7 @@ use Rattle.fsm_words.proofs.Places.{Contains-from_slice_get, slice_get_from_Cont
 use Rattle.expr_meaning.specs.Replacement as piece
 use Rattle.expr_meaning.specs.Replacement.{Piece, uppers, lowers, read_before, read_behind, IsPiece, IsDerivation, IsObligatory, IsRewritten}
 use Rattle.replace_words.specs.Claims.{Claim, copied, replaced, marked, IsBy, upper, lower, left_side, right_side, IsClaim, HoldsAt, IsClaimed, Claims}
-use Rattle.replace_words.specs.Places.{Rules, HasNoEmptyCentre, HoldsBetween, Makes, ReplacesAt, AppliesAt, IsRewrittenAt}
+use Rattle.replace_words.specs.Places.{Rules, HasNoEmptyCentre, HoldsBetween, Makes, ReplacesAt, AppliesAt}
 use Rattle.replace_words.specs.Laws.{RewritingsAreMarkedWords}
 use Rattle.replace_words.proofs.Bridge.{bridge}
 

@@ -1,7 +1,6 @@
 -- Derivations of which each replacement says by which place of the rules it is made.
 use Rattle.std.specs.Prelude.{◌≡◌, ℕ, Bool, false, List, [], ◌∷◌, ◌++◌, map, All, Contains, Some, slice_get}
 use Rattle.std.specs.List.{flat_map}
-use Rattle.fsm_base.specs.declared.letters.Bound.{Bound}
 use Rattle.fsm_base.specs.declared.letters.Bound.TheVariants.{Edge, Inner}
 use Rattle.fsm_base.specs.declared.letters.Sym.{Sym}
 use Rattle.regex_ast.specs.declared.expr.Side.{Side}

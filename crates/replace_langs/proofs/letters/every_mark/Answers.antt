@@ -1,8 +1,7 @@
-use Rattle.std.proofs.Common.{rules, ◌≡◌, ◌∷◌, ◌++◌, sym, subst}
-use Rattle.std.specs.List.{Contains, flat_map}
-use Rattle.fsm_base.specs.declared.letters.Bound.TheVariants.{Edge}
+use Rattle.std.proofs.Common.{rules, ◌≡◌, sym, subst}
+use Rattle.std.specs.List.{Contains}
 use Rattle.fsm_words.specs.Words.{IsDistinct}
-use Rattle.replace_langs.specs.Letters.{IsMarkOf, marks_with, brackets}
+use Rattle.replace_langs.specs.Letters.{IsMarkOf}
 use Rattle.replace_langs.proofs.Listing.{listed, listed_marks, listed_once}
 use Rattle.replace_langs.proofs.letters.every_mark.Goals as goal
 

@@ -39,5 +39,5 @@ returns-clause-relation c =
     (λ m. (u w : List Sym) → IsRelated m u w ↔ ((z : List (Bound Mark)) × Accepts words z × (filter_map (symbol_of upper_of) z ≡ u) × (filter_map (symbol_of lower_of) z ≡ w)))
     (λ m. (groups : List LangGroup) → places ≡ places_of groups → AreMapsOver syms groups → AreSame (IsRelated m) (IsRewritten syms (ReplacesBy groups) (AppliesBy groups) optional))
     (λ m is groups e over u w.
-        let r = replaced_places syms groups over places e marks optional well words marks_are well_is words_are u w in
-        (λ h. r.0 ((is u w).0 h), λ h. (is u w).1 (r.1 h))) c.network_of.ensures.relation
+    let r = replaced_places syms groups over places e marks optional well words marks_are well_is words_are u w in
+    (λ h. r.0 ((is u w).0 h), λ h. (is u w).1 (r.1 h))) c.network_of.ensures.relation
