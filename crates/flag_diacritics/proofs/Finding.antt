@@ -21,7 +21,6 @@ keeps_more old new x (inr more) k y at = ap (λ ys. slice_get ys k) more ∙ sli
 pub keeps_then : {X : Type 0} (a b c : List X) → Keeps a b → Keeps b c → Keeps a c
 keeps_then a b c first second k x at = second k x (first k x at)
 
-
 -- lists of numbers that may be missing
 option_decides : (x y : Option ℕ) → Decides (option_eq nat_eq x y) (x ≡ y)
 option_decides None None = (λ e. refl, λ e. refl)

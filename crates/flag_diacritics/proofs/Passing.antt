@@ -20,7 +20,7 @@ use Rattle.flag_diacritics.specs.declared.tape.Tape.{Tape}
 use Rattle.flag_diacritics.specs.declared.tape.Tape.TheVariants.{Pair as OfPair, UpFlag, LowFlag}
 use Rattle.flag_diacritics.specs.declared.actions.Action.{Action}
 use Rattle.flag_diacritics.specs.Tapes.{flag_of, numbered, upper_flag, lower_flag, FlagsPass}
-use Rattle.flag_diacritics.specs.Numbers.{Keeps, IsValue, StandsFor, AreActions, is_number, passes_by, number_behind, behind_action, behind_if, Features, with_upper, with_lower, behind_letter}
+use Rattle.flag_diacritics.specs.Numbers.{Keeps, IsValue, StandsFor, AreActions, is_number, passes_by, number_behind, behind_if, Features, with_upper, with_lower, behind_letter}
 
 same_bool : (b c : Bool) → (b ≡ true → c ≡ true) → (c ≡ true → b ≡ true) → b ≡ c
 same_bool true true f g = refl
@@ -145,7 +145,10 @@ module _ (features values : List (List ℕ)) (features_once : IsDistinct feature
             | inl there ↦ let l = there.1 in absurd (omega (arith, count))
             | inr missing ↦ missing.1
           ] in (
-            numbers, now, ap (λ (o : Option Action). behind_if numbers o) no_action, holds,
+            numbers,
+            now,
+            ap (λ (o : Option Action). behind_if numbers o) no_action,
+            holds,
             λ rest. ap (λ (o : Option FlagOp). run_passes now (map (λ g. flag (flag_of g)) (option_to_list o) ++ rest)) none,
           )
 

@@ -1,10 +1,8 @@
 -- The automaton of places accepts the pairs of the tapes whose flags pass.
-use Rattle.std.proofs.Common.{◌≡◌, ℕ, ◌<◌, ◌↔◌, List, [], ◌∷◌, ◌++◌, Bool, Option, None, Some, length, refl, subst, sym, ap, arith, ◌∙◌}
-use Rattle.std.specs.Prelude.{replicate}
+use Rattle.std.proofs.Common.{◌≡◌, ℕ, ◌<◌, ◌↔◌, List, [], ◌++◌, Bool, Option, None, Some, length, refl, subst, sym, ap, arith, ◌∙◌}
 use Rattle.std.specs.List.{Contains}
 use Rattle.std.specs.Option.{option_to_list}
 use Rattle.std.proofs.lemmas.Option.{slice_get_within, same_Some}
-use Rattle.fsm_base.specs.declared.letters.Sym.{Sym}
 use Rattle.fsm_base.specs.declared.letters.Pair.{Pair}
 use Rattle.fsm_words.specs.Relations.{AreSame}
 use Rattle.fsa.specs.Automaton.{Automaton, UsesLetter}

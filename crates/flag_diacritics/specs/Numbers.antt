@@ -1,5 +1,5 @@
 -- Features and values by numbers: a feature is a place in a list of what each feature is now, a value the number of its text.
-use Rattle.std.specs.Prelude.{◌≡◌, ℕ, Bool, true, false, not, ◌||◌, cond, List, [], ◌∷◌, Option, None, Some, is_some, is_none, nat_eq, length, slice_get, slice_set, slice_index_or}
+use Rattle.std.specs.Prelude.{◌≡◌, ℕ, Bool, true, false, not, ◌||◌, cond, List, Option, None, Some, is_some, is_none, nat_eq, length, slice_get, slice_set, slice_index_or}
 use Rattle.fsm_words.specs.Words.{IsDistinct}
 use Rattle.regex_ast.specs.declared.lexc.FlagKind.{FlagKind}
 use Rattle.regex_ast.specs.declared.lexc.FlagKind.TheVariants.{P, C, R, D, U}

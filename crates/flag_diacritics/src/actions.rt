@@ -94,7 +94,11 @@ pub fn behind_action(
 fn value_at(now: &[Option<usize>], feature: usize) -> Option<usize>
     ensures { result ≡ slice_index_or now.now feature None }
 {
-    if feature < now.len() { now[feature] } else { None }
+    if feature < now.len() {
+        now[feature]
+    } else {
+        None
+    }
 }
 
 /// Whether a flag passes where its feature has this value.

@@ -44,7 +44,14 @@ pub fn explore(alloc: Global, net: &Fsa<Tape>, actions: &Actions) -> Result<Expl
         let number = finals.len();
         let place = found.places.get(number);
         finals.push(is_final(net.finals(), place.state))?;
-        add_edges(alloc, &mut found, &actions.list, number, place, rows.out(place.state))?;
+        add_edges(
+            alloc,
+            &mut found,
+            &actions.list,
+            number,
+            place,
+            rows.out(place.state),
+        )?;
     }
     Ok(Explored {
         edges: found.edges,

@@ -1,5 +1,5 @@
 -- One entry's block: its states, the edge into it, its edges, and the edges from its final states.
-use Rattle.std.proofs.Common.{◌≡◌, ℕ, ◌+◌, ◌<◌, ◌⊎◌, List, ◌++◌, Bool, false, replicate, length, refl, subst, sym, ap, inl, inr, ◌∙◌}
+use Rattle.std.proofs.Common.{◌≡◌, ℕ, ◌⊎◌, ◌++◌, false, replicate, length, subst, sym, inl, inr, ◌∙◌}
 use Rattle.std.specs.List.{Contains}
 use Rattle.fsa.specs.Automaton.{Automaton, IsWellFormed}
 use Rattle.fsa.specs.declared.automaton.Edge.{Edge}

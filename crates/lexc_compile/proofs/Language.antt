@@ -1,6 +1,6 @@
 -- The automaton of all blocks accepts the tapes of the paths from the root.
-use Rattle.std.proofs.Common.{◌≡◌, ℕ, ◌+◌, ◌<◌, ◌≤◌, ◌⊎◌, ◌↔◌, List, [], ◌∷◌, ◌++◌, Option, None, Some, length, refl, subst, sym, ap, inl, inr, arith, append_assoc, ◌∙◌}
-use Rattle.std.specs.List.{Contains, slice_get}
+use Rattle.std.proofs.Common.{◌≡◌, ℕ, ◌+◌, ◌<◌, ◌↔◌, List, [], ◌∷◌, ◌++◌, Option, None, Some, length, refl, subst, sym, ap, inl, inr, arith, append_assoc, ◌∙◌}
+use Rattle.std.specs.List.{Contains}
 use Rattle.std.specs.Option.{option_to_list}
 use Rattle.std.proofs.lemmas.Option.{slice_get_within}
 use Rattle.fsa.specs.Automaton.{Automaton, IsFinal, UsesLetter}
@@ -138,8 +138,8 @@ module _ (lexicons : List (List LexEntry)) (root : ℕ) (m : Automaton Tape) (is
       let behind : AcceptsFrom m (target_of (length lexicons) (b.entry).next) rest = subst (λ (x : LexEntry). AcceptsFrom m (target_of (length lexicons) x.next) rest) (sym r.3) (path_up path entry.next rest next) in
       let through : AcceptsFrom m (0 + b.begin) (front ++ rest) =
       AcceptsFrom-moved (b.entry).net m b.begin rest (λ e h. is.all b r.1 (shifted b.begin e) (inr (inl (e, h, refl))))
-          (λ q final. skip (is.all b r.1 (silent (q + b.begin) (target_of (length lexicons) (b.entry).next)) (inr (inr (q, final, refl)))) behind)
-          (subst (λ (x : LexEntry). AcceptsFrom x.net 0 front) (sym r.3) accepted) in
+      (λ q final. skip (is.all b r.1 (silent (q + b.begin) (target_of (length lexicons) (b.entry).next)) (inr (inr (q, final, refl)))) behind)
+      (subst (λ (x : LexEntry). AcceptsFrom x.net 0 front) (sym r.3) accepted) in
       let zero_at : 0 + b.begin ≡ b.begin = omega arith in
       let into : AcceptsFrom m (b.place + 1) (front ++ rest) = skip (is.all b r.1 (silent (home_of b.place) b.begin) (inl refl)) (subst (λ j. AcceptsFrom m j (front ++ rest)) zero_at through) in
       subst (λ (v : List Tape). AcceptsFrom m (k + 1) v) (sym joined) (subst (λ j. AcceptsFrom m (j + 1) (front ++ rest)) r.2 into)

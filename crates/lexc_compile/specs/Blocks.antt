@@ -1,6 +1,6 @@
 -- How lexicons lie in one automaton: state 0 is the start, then there is a state for each lexicon, then the end, and behind these
 -- the states of each entry's network, which are its block.
-use Rattle.std.specs.Prelude.{◌≡◌, ◌+◌, ◌<◌, ◌⊎◌, ◌++◌, ℕ, List, Bool, false, Option, None, Some, Contains, length, replicate}
+use Rattle.std.specs.Prelude.{◌≡◌, ◌+◌, ◌<◌, ◌⊎◌, ◌++◌, ℕ, false, Option, None, Some, Contains, length, replicate}
 use Rattle.fsa.specs.Automaton.{Automaton, IsWellFormed}
 use Rattle.fsa.specs.declared.automaton.Edge.{Edge}
 use Rattle.fsa_rational.specs.Shapes.{silent, shifted, ComesFrom, LeavesFinal}

@@ -1,7 +1,7 @@
 -- The paths of lexicons and their tapes (Beesley and Karttunen, Finite State Morphology, 2003, chapter 4): entries, of which the first
 -- is of the root lexicon, each following one of the lexicon that the one before names, and the last names none. Lexicons are named by
 -- their places, counted from 0.
-use Rattle.std.specs.Prelude.{◌≡◌, ◌<◌, ◌++◌, ℕ, List, [], ◌∷◌, Option, None, Some, Contains, slice_get, length}
+use Rattle.std.specs.Prelude.{◌≡◌, ◌++◌, ℕ, List, [], ◌∷◌, Option, None, Some, Contains, slice_get}
 use Rattle.fsa.specs.Automaton.{UsesLetter}
 use Rattle.fsa.specs.Language.{Accepts}
 use Rattle.flag_diacritics.specs.declared.tape.Tape.{Tape}

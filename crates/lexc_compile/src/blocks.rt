@@ -88,12 +88,7 @@ fn add_shifted(m: &mut Fsa<Tape>, edges: &[Edge<Tape>], by: usize) -> Result<(),
 }
 
 /// Adds a silent edge from each final state, its number raised, to a state.
-fn leave_finals(
-    m: &mut Fsa<Tape>,
-    finals: &[bool],
-    by: usize,
-    to: usize,
-) -> Result<(), AllocError>
+fn leave_finals(m: &mut Fsa<Tape>, finals: &[bool], by: usize, to: usize) -> Result<(), AllocError>
     requires room { length finals.now + by ≤ length m.old.finals }
     requires to { to < length m.old.finals }
     ensures { OnOk result (Extends m.old m.new (LeavesFinal finals.now by to)) }

@@ -1,4 +1,4 @@
-use Rattle.std.proofs.Common.{◌≡◌, ◌≤◌, ◌<◌, List, Option, ℕ, Some, None, length, replicate, ap, refl, subst, rules}
+use Rattle.std.proofs.Common.{◌≡◌, ◌≤◌, Some, None, length, replicate, ap, refl, subst, rules}
 use Rattle.std.specs.List.{slice_get, Contains}
 use Rattle.std.proofs.lemmas.Option.{slice_get_within}
 use Rattle.fsa.specs.declared.automaton.Edge.{Edge}
