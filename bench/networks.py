@@ -1,20 +1,26 @@
 #!/usr/bin/env python3
 """Compiles ten expressions over alphabets of 40 and of 400 symbols, by `check` and by `up` of one word, and, where foma is installed, by
-foma too, which reads the same file and looks the same word up. Prints the seconds and the peak memory of each, in a table.
+foma too, which reads the same file and looks the same word up. Prints the seconds and the peak memory of each, in a table. Then
+the same of twenty restrictions that are intersected, over 60, 200 and 400 symbols, with the number of states.
 
 foma's alphabet is open, so that `?` and `~` have one symbol more there, and its networks are minimal. What takes more than
-SECONDS is ended and shown as `-`.
+SECONDS is ended and shown as `-`. The program doesn't tell how many states a network has: automata_bench intersects automata of
+the same restrictions by the calls that the program makes, and tells it of the result.
 
 usage: bench/networks.py [PROGRAM]
 """
 import os
 import random
+import re
+import subprocess
 import sys
 import tempfile
 
-from measure import has_foma, program, timed, write_project
+from measure import ROOT, has_foma, program, timed, write_project
 
 SIZES = [40, 400]
+RULES = 20
+RULE_SIZES = [60, 200, 400]
 SECONDS = 120
 SEED = 1994
 
@@ -72,6 +78,39 @@ def ours(morph, folder, word):
         return check, timed([morph, 'up', folder, 'N'], source, most=SECONDS)
 
 
+def rules(symbols):
+    """Restrictions of the first symbols, each by two further ones, which are its own."""
+    kept = ('[%s => %s _ , _ %s]' % tuple(symbols[number + RULES * further] for further in range(3)) for number in range(RULES))
+    return '%s* & %s' % (either(symbols), ' & '.join(kept))
+
+
+def their_states(folder):
+    """How many states foma's network of the file of definitions has."""
+    script = 'source %s\nregex N ;\nprint size\n' % os.path.join(folder, 'r.xfst')
+    said = subprocess.run(['foma', '-p'], input=script, capture_output=True, text=True, check=True).stdout
+    return re.findall(r'(\d+) states', said)[-1]
+
+
+def our_states(size):
+    """How many states automata_bench's automaton of the restrictions has, over so many letters."""
+    crate = os.path.join(ROOT, 'crates', 'automata_bench')
+    # a run builds the program again where a source is newer
+    subprocess.run(['rt', 'run'], cwd=crate, stdin=subprocess.DEVNULL, stdout=subprocess.DEVNULL, check=True)
+    said = subprocess.run([os.path.join(crate, 'out', 'automata_bench'), 'rules', str(size)], capture_output=True, text=True, check=True).stdout
+    return said.split()[-1]
+
+
+def compare_rules(morph, foma, folder):
+    """Prints what the intersected restrictions take, and how many states they have."""
+    print('%-26s %7s %22s %6s %22s %6s' % ('intersected rules', 'symbols', 'up', 'states', 'foma' if foma else '', 'states' if foma else ''))
+    for size in RULE_SIZES:
+        symbols = ['s%d' % number for number in range(size)]
+        write_project(folder, 'define N %s ;\n' % rules(symbols), symbols)
+        _, up = ours(morph, folder, symbols[RULES] + symbols[0])
+        line = '%-26s %7d %22s %6s' % ('twenty restrictions', size, shown(up), our_states(size))
+        print(line + (' %22s %6s' % (shown(theirs(folder, symbols[RULES] + symbols[0])), their_states(folder)) if foma else ''), flush=True)
+
+
 def main():
     morph = program(sys.argv[1:])
     foma = has_foma()
@@ -84,6 +123,7 @@ def main():
                 check, up = ours(morph, folder, word)
                 line = '%-26s %7d %22s %22s' % (name, size, shown(check), shown(up))
                 print(line + (' %22s' % shown(theirs(folder, word)) if foma else ''), flush=True)
+        compare_rules(morph, foma, folder)
 
 
 if __name__ == '__main__':

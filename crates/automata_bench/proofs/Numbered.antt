@@ -1,7 +1,7 @@
 -- Letters whose numbers are their places are distinct, and stay so where the next number is added.
 use Rattle.std.proofs.Common.{◌≡◌, ℕ, ◌+◌, List, [], ◌∷◌, ◌++◌, length, Some, sym, ap, ◌∙◌, inl, inr, slice_get, arith, zero, suc}
-use Rattle.fsm_words.specs.Words.{IsDistinct}
-use Rattle.fsm_words.proofs.Places.{slice_get-append_cases}
+use Rattle.word_relations.specs.Words.{IsDistinct}
+use Rattle.word_relations.proofs.Places.{slice_get-append_cases}
 use Rattle.fsm_base.specs.declared.letters.Sym.{Sym}
 
 abbrev pub AreNumbered : List Sym → Type 0

@@ -1,16 +1,20 @@
 //! Runs operations on chains and prints how many states the results have. The words are the operation and the number of
-//! edges of its operand, as `bench/automata.py` gives them; without words each line of the standard input has these, and
-//! the gate compares what is printed with what was worked out, in the file `stdout`. An empty line, and one that begins
-//! with `#`, says nothing.
+//! edges of its operand (of `rules` the number of letters), as the scripts of `bench` give them; without words each line of
+//! the standard input has these, and the gate compares what is printed with what was worked out, in the file `stdout`. An
+//! empty line, and one that begins with `#`, says nothing.
 #![tactic(auto)]
 
+mod tables;
+
 ghost use Rattle.std.specs.Prelude.{◌≡◌, ◌<◌, ℕ, Contains, IfOk, Some, length, slice_get};
+ghost use Rattle.word_relations.specs.Words.{IsDistinct};
 ghost use Rattle.fsa.specs.Automaton.{UsesLetter};
 
+use crate::tables::{words_by_rules, words_of_length};
 use fsa::{Dfa, Edge, Fsa};
 use fsa_minimal::minimal;
 use fsa_product::{both, complement, minus};
-use fsa_rational::{concat, reverse, star, union, without_empty};
+use fsa_rational::{concat, ignore, reverse, star, union, without_empty};
 use fsa_subset::determine;
 use fsm_base::Sym;
 use fst_algebra::identity;
@@ -55,6 +59,20 @@ fn chain(alloc: Global, letters: &[Sym], edges: usize) -> Result<Fsa<Sym>, Alloc
     Ok(m)
 }
 
+/// The words of one letter with words of that letter put in, and again, so many times. The automaton is made small each time.
+fn ignored_again(alloc: Global, letters: &[Sym], times: u32) -> Result<Dfa<Sym>, AllocError>
+    requires distinct { IsDistinct letters.now }
+    requires some { 0 < length letters.now }
+{
+    let one = chain(alloc, letters, 1)?;
+    let mut all = determine(alloc, &one, letters)?;
+    'times: for _ in 0..times {
+        let mixed = ignore(alloc, &all.to_fsa(alloc)?, &one)?;
+        all = minimal(alloc, &determine(alloc, &mixed, letters)?)?;
+    }
+    Ok(all)
+}
+
 /// How many states the result of an operation on a complete automaton has, or `None` where there is no such operation.
 fn states_of_complete(
     alloc: Global,
@@ -78,9 +96,9 @@ fn states_of_complete(
 
 /// How many states the operation's result has, at a chain of so many edges, or `None` where there is no
 /// such operation.
-fn states_after(alloc: Global, operation: &str, edges: usize) -> Result<Option<usize>, AllocError> {
+fn states_after(alloc: Global, operation: &str, size: u32) -> Result<Option<usize>, AllocError> {
     let letters = letters_below(alloc, LETTERS)?;
-    let m = chain(alloc, &letters, edges)?;
+    let m = chain(alloc, &letters, size as usize)?;
     let states = match operation {
         "chain" => m.states(),
         "union" => union(alloc, &m, &m)?.states(),
@@ -92,16 +110,22 @@ fn states_after(alloc: Global, operation: &str, edges: usize) -> Result<Option<u
             let relation = identity(alloc, &m)?;
             compose(alloc, &relation, &relation)?.states()
         }
+        "minimal of one length" => minimal(
+            alloc,
+            &words_of_length(alloc, letters, size as usize)?,
+        )?.states(),
+        "ignore" => ignored_again(alloc, &letters_below(alloc, 2)?, size)?.states(),
+        "rules" => words_by_rules(alloc, &letters_below(alloc, size)?)?.states(),
         _ => return states_of_complete(alloc, operation, &determine(alloc, &m, &letters)?),
     };
     Ok(Some(states))
 }
 
 /// Prints how many states the operation's result has, if there is such an operation.
-fn tell(rt: &HostRuntime, operation: &str, edges: &str) -> io::Result<()> {
-    let edges = edges.parse::<usize>().unwrap_or(0);
-    match states_after(rt.alloc(), operation, edges)? {
-        Some(states) => println!(rt; "{operation} {edges}: {states}"),
+fn tell(rt: &HostRuntime, operation: &str, size: &str) -> io::Result<()> {
+    let size = size.parse::<u32>().unwrap_or(0);
+    match states_after(rt.alloc(), operation, size)? {
+        Some(states) => println!(rt; "{operation} {size}: {states}"),
         None => println!(rt; "no such operation: {operation}"),
     }
 }
@@ -112,16 +136,16 @@ fn tell_rows(rt: &HostRuntime, rows: &str) -> io::Result<()> {
         if row.is_empty() || row.starts_with('#') {
             continue;
         }
-        let (operation, edges) = row.rsplit_once(' ').unwrap_or((row, ""));
-        tell(rt, operation, edges)?;
+        let (operation, size) = row.rsplit_once(' ').unwrap_or((row, ""));
+        tell(rt, operation, size)?;
     }
     Ok(())
 }
 
 fn main(rt: HostRuntime) -> io::Result<()> {
     let words: Vec<String> = env::args(&rt)?.collect(rt.alloc())?;
-    if let [_, operation, edges] = words.as_slice() {
-        return tell(&rt, operation, edges);
+    if let [_, operation, size] = words.as_slice() {
+        return tell(&rt, operation, size);
     }
     let mut rows = String::new(rt.alloc());
     rt.stdin().read_to_string(&mut rows)?;

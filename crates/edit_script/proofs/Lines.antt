@@ -6,7 +6,7 @@ use Rattle.std.specs.Str.{IsUtf8}
 use Rattle.std.proofs.lemmas.Slice.Eq.{bytes_eq-Decides}
 use Rattle.std.proofs.lemmas.Str.{IsUtf8-from_is_utf8, is_utf8-from_IsUtf8}
 use Rattle.fsm_io.specs.Lines.{most_line}
-use Rattle.fsm_meaning.specs.Replies.{without_return}
+use Rattle.reply_meaning.specs.Replies.{without_return}
 use Rattle.edit_script.specs.Commands.{HasNoSpace, IsText, Orders, SpellsCommand, Asks, SpellsLook, IsCommand, IsLook, HasLines, of_command, of_none, lines_behind, ends, orders, rests, asks, spaced}
 use Rattle.edit_script.specs.Reading.{command_of, look_of}
 use Rattle.edit_script.specs.declared.commands.EditCommand.{EditCommand}

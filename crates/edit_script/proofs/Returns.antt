@@ -1,7 +1,7 @@
 -- Lines with a carriage return at their end, or another byte.
 use Rattle.std.proofs.Common.{◌≡◌, ℕ, ◌==◌, Bool, true, false, cond, List, [], ◌∷◌, ◌++◌, refl, ap, inl, inr}
 use Rattle.std.proofs.lemmas.Bool.Decides.{eqb_tells}
-use Rattle.fsm_meaning.specs.Replies.{without_last}
+use Rattle.reply_meaning.specs.Replies.{without_last}
 
 pub not_same : (m n : ℕ) → (m ≡ n → ⊥) → (m == n) ≡ false
 not_same m n other = elim (eqb_tells m n) as (λ _. (m == n) ≡ false) [ inl same ↦ absurd (other same.1) | inr apart ↦ apart.0 ]

@@ -1,6 +1,6 @@
 -- A line is one command, and one look-up, only.
 use Rattle.std.proofs.Common.{◌≡◌, ℕ, List, codes, slice_index_or, arith, refl, sym, ap, subst, ◌∙◌}
-use Rattle.fsm_meaning.specs.Replies.{without_return}
+use Rattle.reply_meaning.specs.Replies.{without_return}
 use Rattle.edit_script.specs.Commands.{HasNoSpace, Orders, SpellsCommand, Asks, SpellsLook, OneCommand, OneLook, ends, orders, rests, asks}
 use Rattle.edit_script.specs.declared.commands.EditCommand.{EditCommand}
 use Rattle.edit_script.specs.declared.commands.EditCommand.TheVariants as commands

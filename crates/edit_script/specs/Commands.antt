@@ -2,7 +2,7 @@
 -- separates. What a line spells is the text of its line; names and words aren't normalized here.
 use Rattle.std.specs.Prelude.{◌≡◌, ◌≢◌, ◌<◌, ◌≤◌, ◌⊎◌, ◌++◌, ℕ, List, [], ◌∷◌, length, All, codes, decimal}
 use Rattle.fsm_io.specs.Lines.{most_line}
-use Rattle.fsm_meaning.specs.Replies.{IsWord, without_return}
+use Rattle.reply_meaning.specs.Replies.{IsWord, without_return}
 use Rattle.project_manifest.specs.Manifests.{IsFileName, project_name}
 use Rattle.edit_script.specs.declared.commands.EditCommand.{EditCommand}
 use Rattle.edit_script.specs.declared.commands.EditCommand.TheVariants as commands

@@ -1,11 +1,14 @@
 use std::alloc::AllocError;
+use thiserror::Error;
 
 /// Why a line is no command and no look-up.
-#[derive(Debug, Drop)]
+#[derive(Debug, Drop, Error)]
 pub enum CommandError {
     /// The line is in no form.
+    #[error("the line is in no form")]
     Bad,
     /// There was no memory.
+    #[error(transparent)]
     Memory(AllocError),
 }
 

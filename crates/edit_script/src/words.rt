@@ -1,15 +1,12 @@
-ghost use Rattle.std.specs.Prelude.{◌≡◌, ◌↔◌, ◌≢◌, ◌⊎◌, ◌≤◌, List, ℕ, Some, All, IsTrue, MatchOption, length, slice_get};
-ghost use Rattle.fsm_meaning.specs.Replies.{without_return};
-ghost use Rattle.project_manifest.specs.Manifests.{IsFileByte, IsFileName, project_name};
+ghost use Rattle.std.specs.Prelude.{◌≡◌, ◌↔◌, ◌≢◌, ◌⊎◌, List, ℕ, Some, IsTrue, MatchOption, length, slice_get};
+ghost use Rattle.reply_meaning.specs.Replies.{without_return};
 ghost use Rattle.edit_script.specs.Commands.{HasNoSpace, IsFile, IsNetAndWord, IsNumber, IsText, spaced};
 
+use project_manifest::{is_file_name, is_manifest_name};
 use std::str;
 
 /// The most bytes of a line.
 const MOST_LINE: usize = 4096;
-
-/// The most bytes of a file's name.
-const MOST_NAME_BYTES: usize = 64;
 
 /// The greatest number of a command.
 const MOST_NUMBER: u32 = 1_048_576;
@@ -64,50 +61,6 @@ pub fn number(word: &str) -> Option<u32>
     } else {
         None
     }
-}
-
-/// Whether a byte may stand in a file's name.
-fn is_file_byte(byte: u8) -> bool
-    ensures { IsTrue result ↔ IsFileByte byte }
-{
-    byte.is_ascii_alphanumeric() || byte == b'_' || byte == b'-' || byte == b'.'
-}
-
-/// Whether all these bytes may stand in a file's name.
-fn has_file_bytes(name: &[u8]) -> bool
-    ensures { IsTrue result ↔ All IsFileByte name.now }
-{
-    name.iter().all(|byte| is_file_byte(*byte))
-}
-
-/// Whether the first byte is a dot.
-fn begins_with_dot(name: &[u8]) -> bool
-    ensures { IsTrue result ↔ (slice_get name.now 0 ≡ Some 46) }
-{
-    match name.first() {
-        Some(first) => *first == b'.',
-        None => false,
-    }
-}
-
-/// Whether the name is the manifest's own.
-fn is_manifest_name(name: &[u8]) -> bool
-    ensures { IsTrue result ↔ (name.now ≡ project_name) }
-{
-    name == b"project".as_slice()
-}
-
-/// Whether these bytes are a name that the manifest may name.
-fn is_file_name(name: &[u8]) -> bool
-    ensures { IsTrue result ↔ IsFileName name.now }
-{
-    if name.is_empty() || name.len() > MOST_NAME_BYTES {
-        return false;
-    }
-    if begins_with_dot(name) || is_manifest_name(name) {
-        return false;
-    }
-    has_file_bytes(name)
 }
 
 /// Whether a word names a file.

@@ -7,9 +7,9 @@ use Rattle.std.proofs.lemmas.Grind.{flat_map-append}
 use Rattle.fsm_base.specs.declared.letters.Bound.{Bound}
 use Rattle.fsm_base.specs.declared.letters.Bound.TheVariants.{Inner}
 use Rattle.fsm_base.specs.declared.letters.Sym.{Sym}
-use Rattle.fsm_words.specs.Words.{IsOver, joined}
-use Rattle.fsm_words.proofs.Members.{Contains-map, Contains-map_cases}
-use Rattle.fsm_words.specs.Operations.{HasPart}
+use Rattle.word_relations.specs.Words.{IsOver, joined}
+use Rattle.word_relations.proofs.Members.{Contains-map, Contains-map_cases}
+use Rattle.word_relations.specs.Operations.{HasPart}
 use Rattle.regex_ast.specs.declared.expr.Atom.{Atom}
 use Rattle.regex_ast.specs.declared.expr.Side.{Side}
 use Rattle.regex_ast.specs.Terms.{Term, Groups, group, rules, concat, steps, no_term, then_term, no_step, cross_with, no_context, no_mapping, plain, markup, insert, no_group, then_group, Mappings}

@@ -3,8 +3,8 @@
 use Rattle.std.specs.Prelude.{◌≡◌, ◌↔◌, ◌⊎◌, Bool, true, false, List, [], ◌∷◌, ◌++◌}
 use Rattle.fsm_base.specs.declared.letters.Bound.{Bound}
 use Rattle.fsm_base.specs.declared.letters.Sym.{Sym}
-use Rattle.fsm_words.specs.Words.{IsOver}
-use Rattle.fsm_words.specs.Relations.{AreSame}
+use Rattle.word_relations.specs.Words.{IsOver}
+use Rattle.word_relations.specs.Relations.{AreSame}
 use Rattle.regex_ast.specs.declared.expr.Atom.{Atom}
 use Rattle.regex_ast.specs.declared.expr.Atom.TheVariants.{Sym as Symbol}
 use Rattle.regex_ast.specs.declared.expr.Side.{Side}
@@ -12,8 +12,8 @@ use Rattle.regex_ast.specs.declared.expr.Side.TheVariants.{UpUp, LowUp, UpLow, L
 use Rattle.regex_ast.specs.declared.expr.Suffix.TheVariants.{Star, Inverse}
 use Rattle.regex_ast.specs.declared.expr.Prefix.TheVariants.{Not, Contains as Part}
 use Rattle.regex_ast.specs.Terms.{Term, Contexts, Groups, empty, edge, atom, only, steps, suffixed, prefixed, not_one, cross, group, concat, rules, no_term, then_term, no_context, between, no_step, cross_with, then, no_mapping, plain, no_group, then_group}
-use Rattle.expr_forms.specs.Atoms.{symbols}
-use Rattle.expr_forms.specs.Kinds.{IsLanguage}
+use Rattle.expr_kinds.specs.Atoms.{symbols}
+use Rattle.expr_kinds.specs.Kinds.{IsLanguage}
 use Rattle.expr_meaning.specs.Operators.{inner, IsItself}
 use Rattle.expr_meaning.specs.Meaning.{In, InContext, IsCentre, Relates}
 use Rattle.expr_meaning.specs.Leaves.{stands_for}

@@ -5,13 +5,13 @@
 -- definition relates. The language of a leaf is the set of the words that it relates to themselves. So a name joins by
 -- giving one relation, whether it is a language or not, and no case here changes.
 --
--- Each form has a case in both definitions. Which of the two counts is told by the form (`Kind` of `expr_forms`): what a
+-- Each form has a case in both definitions. Which of the two counts is told by the form (`Kind` of `expr_kinds`): what a
 -- language relates is each of its words to itself, and the language of a relation means nothing.
 use Rattle.std.specs.Prelude.{◌≡◌, ◌⊎◌, List, [], ◌∷◌}
 use Rattle.fsm_base.specs.declared.letters.Bound.{Bound}
-use Rattle.fsm_words.specs.Words.{IsConcatenation}
-use Rattle.fsm_words.specs.Relations.{IsConcatenationOfPairs, IsComposition}
-use Rattle.fsm_words.specs.Operations.{IsOneLetter, IsIgnoring}
+use Rattle.word_relations.specs.Words.{IsConcatenation}
+use Rattle.word_relations.specs.Relations.{IsConcatenationOfPairs, IsComposition}
+use Rattle.word_relations.specs.Operations.{IsOneLetter, IsIgnoring}
 use Rattle.regex_ast.specs.Terms.{Term, Terms, Links, Contexts, Steps, Mappings, Groups, empty, any, edge, atom, letters, group, maybe, not_one, cross, suffixed, prefixed, ignore, concat, chain, only, rules, steps, no_term, then_term, no_link, or, and, less, no_context, between, no_step, cross_with, then, no_mapping, plain, markup, insert, no_group, then_group}
 use Rattle.expr_meaning.specs.Operators.{inner, IsEmpty, IsEdge, WithEdge, IsItself, HoldsLeft, HoldsRight, AreSuffixed, RelateSuffixed, ArePrefixed, IsNotOne, IsRestricted}
 use Rattle.expr_meaning.specs.Replacement.{Piece, IsAround, IsAllowed, IsRewritten}

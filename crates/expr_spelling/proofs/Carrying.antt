@@ -4,9 +4,9 @@ use Rattle.std.specs.List.{list_all}
 use Rattle.std.proofs.lemmas.Bool.{and_parts}
 use Rattle.fsm_base.specs.declared.letters.Bound.{Bound}
 use Rattle.regex_ast.specs.Terms.{Term, Terms, Links, Contexts, Steps, empty, any, edge, atom, letters, group, maybe, not_one, cross, suffixed, prefixed, ignore, concat, chain, only, rules, steps, no_term, then_term, no_link, or, and, less, no_context, between, no_step, cross_with, then}
-use Rattle.expr_forms.specs.Built.{IsBuilt, AreBuilt, LinksAreBuilt, ContextsAreBuilt, StepsAreBuilt}
+use Rattle.expr_kinds.specs.Built.{IsBuilt, AreBuilt, LinksAreBuilt, ContextsAreBuilt, StepsAreBuilt}
 use Rattle.expr_meaning.specs.Meaning.{InLeaf, InLeaves, In, InEach, InIgnoring, InChain, InContext, InSteps, Relates, RelatesEach, RelatesChain, RelatesSteps}
-use Rattle.expr_parts.specs.Mapped.{mapped, mapped_each, mapped_links, mapped_contexts, mapped_steps}
+use Rattle.expr_leaves.specs.Mapped.{mapped, mapped_each, mapped_links, mapped_contexts, mapped_steps}
 use Rattle.expr_spelling.proofs.Pairs.{empty_pair, either_pair, concatenation_pairs, composition, fixed}
 use Rattle.expr_spelling.proofs.Edges.{bound, edge_word, with_edge, itself, crossed, left_context, right_context, suffixed_sets, suffixed_pairs}
 use Rattle.expr_spelling.proofs.Sides.{Side, Meets, Goes, GoesPairs, one_letter, empty_goes, either_goes, concatenation_goes, ignoring_goes, both_go, less_goes, restricted_goes, not_once, with_prefixes}

@@ -5,9 +5,9 @@ use Rattle.std.proofs.lemmas.Option.{slice_get_within, same_Some}
 use Rattle.std.proofs.lemmas.List.Elements.{Contains-push_cases, Contains-push, Contains-append_left}
 use Rattle.std.proofs.lemmas.Bool.{cases_lt}
 use Rattle.std.proofs.Math.Nat.{mul-le-mul_right}
-use Rattle.fsm_words.proofs.Members.{Contains-nil_cases}
-use Rattle.fsm_words.proofs.Places.{same_at, Contains-from_slice_get}
-use Rattle.fsa.specs.Automaton.{Automaton, UsesLetter, HasNoSilentEdge}
+use Rattle.word_relations.proofs.Members.{Contains-nil_cases}
+use Rattle.word_relations.proofs.Places.{same_at, Contains-from_slice_get}
+use Rattle.fsa.specs.Automaton.{Automaton, UsesLetter, HasNoEpsilonEdge}
 use Rattle.fsa.specs.Language as fsa
 use Rattle.fsa.specs.Complete.{Complete, IsComplete, AcceptsFrom, Accepts, stop, read, next_state}
 use Rattle.fsa.specs.Arcs.{IsArc, HasArcs}
@@ -79,8 +79,8 @@ module _ {L : Type 0} (d : Complete L) where
         let same : r.2.0 ≡ x = same_Some r.2.0 x (sym r.2.2 ∙ is) in
         subst (λ y. Contains d.letters y) same (Contains-from_slice_get d.letters r.0 r.2.0 r.2.1)
 
-    pub arcs_not_silent : HasNoSilentEdge m
-    arcs_not_silent e c = let r = arcs.only e c in (r.2.0, r.2.2)
+    pub arcs_not_epsilon : HasNoEpsilonEdge m
+    arcs_not_epsilon e c = let r = arcs.only e c in (r.2.0, r.2.2)
 
     pub arcs_down : {s : ℕ} {w : List L} → fsa.AcceptsFrom m s w → AcceptsFrom d s w
     arcs_down {s} (fsa.stop h) = stop (subst (λ fs. slice_get fs s ≡ Some true) finals h)
@@ -92,7 +92,7 @@ module _ {L : Type 0} (d : Complete L) where
     arcs_down {s} (fsa.skip {q = q} c rest) =
         let e : Edge L = record { from = s; letter = None; to = q } in
         let r = arcs.only e c in
-        let silent : None ≡ Some r.2.0 = r.2.2 in absurd (cc)
+        let epsilon : None ≡ Some r.2.0 = r.2.2 in absurd (cc)
 
     -- an entry of the table stands in the row of a state that is there
     row_is_there : (s k t : ℕ) (x : L) → slice_get d.letters k ≡ Some x → next_state d s k ≡ Some t → s < n

@@ -3,8 +3,8 @@
 use Rattle.std.proofs.Common.{◌≡◌, ℕ, ◌+◌, ◌*◌, ◌<◌, List, [], ◌∷◌, Some, true, ◌≤◌, ◌↔◌, Bool, IsTrue, length, get_or, drop, subst, sym, ap, ◌∙◌}
 use Rattle.std.specs.List.{slice_get}
 use Rattle.std.proofs.lemmas.List.{drop_more, drop_all}
-use Rattle.fsm_words.specs.Words.{IsDistinct}
-use Rattle.fsm_words.proofs.Places.{same_at}
+use Rattle.word_relations.specs.Words.{IsDistinct}
+use Rattle.word_relations.proofs.Places.{same_at}
 use Rattle.fsa.specs.Complete.{Complete, IsComplete, Accepts, AcceptsFrom, stop, read, next_state}
 
 pub stop_back : {L : Type 0} (d : Complete L) (s : ℕ) → AcceptsFrom d s [] → slice_get d.finals s ≡ Some true

@@ -1,4 +1,4 @@
--- A finite automaton with silent edges (Hopcroft, Motwani and Ullman, Introduction to Automata Theory,
+-- A finite automaton with epsilon edges (Hopcroft, Motwani and Ullman, Introduction to Automata Theory,
 -- section 2.5; Beesley and Karttunen, Finite State Morphology, 2003, section 2.2). States are counted from
 -- 0, state 0 is the start, and `finals` says of each state whether it is final.
 use Rattle.std.specs.Prelude.{◌≡◌, ◌<◌, ℕ, List, Bool, true, Some, Contains, slice_get, length}
@@ -20,6 +20,6 @@ IsFinal m state = slice_get m.finals state ≡ Some true
 abbrev pub UsesLetter : {L : Type 0} → Automaton L → L → Type 0
 UsesLetter {L} m x = (e : Edge L) × Contains m.edges e × (e.letter ≡ Some x)
 
--- no edge is silent
-abbrev pub HasNoSilentEdge : {L : Type 0} → Automaton L → Type 0
-HasNoSilentEdge {L} m = (e : Edge L) → Contains m.edges e → (x : L) × (e.letter ≡ Some x)
+-- no edge is epsilon
+abbrev pub HasNoEpsilonEdge : {L : Type 0} → Automaton L → Type 0
+HasNoEpsilonEdge {L} m = (e : Edge L) → Contains m.edges e → (x : L) × (e.letter ≡ Some x)

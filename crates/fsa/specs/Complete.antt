@@ -2,7 +2,7 @@
 -- leads to one state. The table has the states' rows one after another, and a row the next state of each
 -- letter, in the order of the letters. States and places are counted from 0, and state 0 is the start.
 use Rattle.std.specs.Prelude.{◌≡◌, ◌<◌, ◌+◌, ◌*◌, ℕ, List, [], ◌∷◌, Bool, true, Option, Some, All, slice_get, length}
-use Rattle.fsm_words.specs.Words.{IsDistinct}
+use Rattle.word_relations.specs.Words.{IsDistinct}
 
 pub record Complete (L : Type 0) : Type 0 where
   pub letters : List L

@@ -4,7 +4,7 @@ ghost use Rattle.fsa.specs.Automaton.{IsWellFormed, IsFinal};
 use std::alloc::{AllocError, Global};
 use std::marker::Model;
 
-/// An edge of an automaton. States are counted from 0, and an edge with no letter is silent: a path takes it
+/// An edge of an automaton. States are counted from 0, and an edge with no letter is epsilon: a path takes it
 /// without reading.
 #[derive(Clone, Copy, Debug, PartialEq, Eq, PartialOrd, Ord, Hash)]
 pub struct Edge<L> {
@@ -16,7 +16,7 @@ pub struct Edge<L> {
     pub to: usize,
 }
 
-/// A finite automaton whose edges may be silent. State 0 is the start. Contracts see it as the list of its
+/// A finite automaton whose edges may be epsilon. State 0 is the start. Contracts see it as the list of its
 /// edges, in the order in which they were added, and the list that says of each state whether it is final.
 #[derive(Debug, Drop)]
 pub struct Fsa<L> {

@@ -1,6 +1,6 @@
 ghost use Rattle.std.specs.Prelude.{◌≡◌, ◌<◌, ◌+◌, ◌*◌, ◌↔◌, Some, true, All, Contains, [], IfOk, OnOk, IsTrue, length, slice_get, List};
-ghost use Rattle.fsm_words.specs.Words.{IsDistinct, IsOver};
-ghost use Rattle.fsa.specs.Automaton.{UsesLetter, HasNoSilentEdge};
+ghost use Rattle.word_relations.specs.Words.{IsDistinct, IsOver};
+ghost use Rattle.fsa.specs.Automaton.{UsesLetter, HasNoEpsilonEdge};
 ghost use Rattle.fsa.specs.Complete.{IsComplete, Accepts, next_state};
 ghost use Rattle.fsa.specs.Language as language;
 ghost use Rattle.fsa.specs.Arcs.{HasArcs};
@@ -124,7 +124,7 @@ impl<L: Letter> Dfa<L> {
     pub fn to_fsa(&self, alloc: Global) -> Result<Fsa<L>, AllocError>
         ensures states { IfOk result (λ m. m.finals ≡ self.now.finals) }
         ensures letters { IfOk result (λ m. (x : L) → UsesLetter m x → Contains self.now.letters x) }
-        ensures silent { IfOk result HasNoSilentEdge }
+        ensures epsilon { IfOk result HasNoEpsilonEdge }
         ensures language { IfOk result (λ m. (w : List L) → language.Accepts m w ↔ Accepts self.now w) }
     {
         let mut fsa = self.without_edges(alloc)?;

@@ -1,7 +1,7 @@
 ghost use Rattle.std.specs.Prelude.{◌≡◌, ◌<◌, ℕ, All, IfOk, Some, length, slice_get};
 
 use fsa::Dfa;
-use fsa_walk::columns_alike;
+use fsa_explore::columns_alike;
 use fsm_base::Letter;
 use std::alloc::{AllocError, Global};
 

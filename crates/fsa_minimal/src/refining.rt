@@ -14,7 +14,7 @@ pub fn refined<L: Letter>(alloc: Global, a: &Dfa<L>) -> Result<Partition, AllocE
     ensures { IfOk result (λ p. length p.states.items ≡ length a.now.finals) }
 {
     let inverses = inverses_of(alloc, a)?;
-    let mut partition = by_finals(alloc, a)?;
+    let mut partition = split_by_finals(alloc, a)?;
     for splitter in 0..a.states() {
         let is_done = splitter >= partition.len() || partition.len() == a.states();
         if is_done {
@@ -29,7 +29,7 @@ pub fn refined<L: Letter>(alloc: Global, a: &Dfa<L>) -> Result<Partition, AllocE
 }
 
 /// The final states, and the others.
-fn by_finals<L: Letter>(alloc: Global, a: &Dfa<L>) -> Result<Partition, AllocError>
+fn split_by_finals<L: Letter>(alloc: Global, a: &Dfa<L>) -> Result<Partition, AllocError>
     ensures { IfOk result (λ p. length p.states.items ≡ length a.now.finals) }
 {
     let mut partition = Partition::new(alloc, a.states())?;

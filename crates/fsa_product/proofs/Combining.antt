@@ -2,13 +2,13 @@
 use Rattle.std.proofs.Common.{◌≡◌, ℕ, ◌<◌, ◌↔◌, List, [], ◌∷◌, Bool, Some, length, get_or, slice_index, subst, sym, arith, ◌∙◌}
 use Rattle.std.specs.List.{slice_get, Contains}
 use Rattle.std.proofs.lemmas.Option.{slice_get-get_or}
-use Rattle.fsm_words.proofs.Places.{Contains-from_slice_get, same_at}
+use Rattle.word_relations.proofs.Places.{Contains-from_slice_get, same_at}
 use Rattle.fsa.specs.Complete.{Complete, IsComplete, AcceptsFrom, Accepts, next_state, stop, read}
 use Rattle.fsa.proofs.Paths.{stop_back, read_back}
-use Rattle.fsa_walk.specs.Alike.{AreAlike, AreBothAlike, ByClass, LeadAlike}
-use Rattle.fsa_walk.specs.Explored.{IsExplored}
-use Rattle.fsa_walk.proofs.Built.{IsLanguage, built_language}
-use Rattle.fsa_walk.proofs.Spreading.{explored_weaker}
+use Rattle.fsa_explore.specs.Alike.{AreAlike, AreBothAlike, ByClass, LeadAlike}
+use Rattle.fsa_explore.specs.Explored.{IsExplored}
+use Rattle.fsa_explore.proofs.Built.{IsLanguage, built_language}
+use Rattle.fsa_explore.proofs.Spreading.{explored_weaker}
 use Rattle.fsa_product.specs.Pairs.{combined, IsPair, LeadsAt, LeadsPair, IsFinalPair}
 use Rattle.fsa_product.specs.declared.products.Operation.{Operation}
 use Rattle.fsa_product.specs.declared.products.Operation.TheVariants.{Intersection, Difference}

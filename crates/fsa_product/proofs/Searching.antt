@@ -6,9 +6,9 @@ use Rattle.std.proofs.lemmas.Option.{slice_get_within, same_Some, none-some, sli
 use Rattle.std.proofs.lemmas.List.{append-nil, length_push}
 use Rattle.std.proofs.lemmas.List.Elements.{Contains-append_left, Contains-push}
 use Rattle.std.proofs.lemmas.Bool.{cases_lt}
-use Rattle.fsm_words.proofs.Places.{slice_get-append_left, slice_get-append_cases, slice_get-push, same_at, slice_get_from_Contains}
+use Rattle.word_relations.proofs.Places.{slice_get-append_left, slice_get-append_cases, slice_get-push, same_at, slice_get_from_Contains}
 use Rattle.fsa.specs.Complete.{Complete, AcceptsFrom, Accepts, stop, read, next_state}
-use Rattle.fsa_walk.specs.Marks.{Marks}
+use Rattle.fsa_explore.specs.Marks.{Marks}
 use Rattle.fsa_product.specs.Search.{IsShortest, AreWordsOf, EndsShortest, HasNext, IsSearch, AddsState}
 use Rattle.fsa_product.specs.declared.search.Step.{Step}
 

@@ -5,8 +5,8 @@ use Rattle.std.specs.Option.{option_map}
 use Rattle.std.proofs.lemmas.Option.{slice_get_within, slice_get-get_or, slice_get-map}
 use Rattle.std.proofs.lemmas.List.Elements.{All-nil, All-cons, All-head, All-tail}
 use Rattle.std.proofs.lemmas.Nat.{mul-add-lt}
-use Rattle.fsm_words.specs.Words.{IsOver}
-use Rattle.fsm_words.proofs.Places.{Contains-from_slice_get, slice_get_from_Contains, same_at}
+use Rattle.word_relations.specs.Words.{IsOver}
+use Rattle.word_relations.proofs.Places.{Contains-from_slice_get, slice_get_from_Contains, same_at}
 use Rattle.fsa.specs.Complete.{Complete, IsComplete, AcceptsFrom, Accepts, stop, read, next_state}
 use Rattle.fsa.proofs.Paths.{stop_back, read_back}
 

@@ -3,7 +3,7 @@ use Rattle.std.proofs.Common.{◌≡◌, ℕ, ◌<◌, List, [], ◌∷◌, ◌+
 use Rattle.std.specs.List.{slice_get}
 use Rattle.std.proofs.lemmas.Option.{slice_get_within, slice_get-get_or, get_or_from_slice_get}
 use Rattle.std.proofs.lemmas.List.{append-nil, reverse-append}
-use Rattle.fsm_words.proofs.Places.{same_at}
+use Rattle.word_relations.proofs.Places.{same_at}
 use Rattle.fsa_product.specs.Search.{AreWordsOf}
 use Rattle.fsa_product.specs.declared.search.Step.{Step}
 use Rattle.fsa_product.proofs.Searching.{at_of}

@@ -1,7 +1,7 @@
 -- Breadth-first search (Cormen, Leiserson, Rivest and Stein, Introduction to Algorithms, section 22.2).
 use Rattle.std.specs.Prelude.{◌≡◌, ◌<◌, ◌≤◌, ◌+◌, ◌++◌, ◌⊎◌, [], ◌∷◌, ℕ, List, true, Option, Some, None, Contains, length, slice_get}
 use Rattle.fsa.specs.Complete.{Complete, Accepts, AcceptsFrom, next_state}
-use Rattle.fsa_walk.specs.Marks.{Marks}
+use Rattle.fsa_explore.specs.Marks.{Marks}
 use Rattle.fsa_product.specs.declared.search.Step.{Step}
 
 -- the word is accepted, and no accepted word is shorter

@@ -1,5 +1,5 @@
 ghost use Rattle.std.specs.Prelude.{◌≡◌, ◌↔◌, List, IfOk, map, not};
-ghost use Rattle.fsm_words.specs.Words.{IsOver};
+ghost use Rattle.word_relations.specs.Words.{IsOver};
 ghost use Rattle.fsa.specs.Complete.{Complete, Accepts};
 
 use fsa::Dfa;

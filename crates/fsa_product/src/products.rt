@@ -3,7 +3,7 @@ ghost use Rattle.fsa.specs.Complete.{Accepts};
 ghost use Rattle.fsa_product.specs.Pairs.{combined, IsPair, LeadsAt, IsFinalPair};
 
 use fsa::Dfa;
-use fsa_walk::{Found, LazyAutomaton, alike_in_both, columns_alike, explore_by_class};
+use fsa_explore::{FoundLists, LazyAutomaton, alike_in_both, columns_alike, explore_by_class};
 use fsm_base::Letter;
 use std::alloc::{AllocError, Global};
 
@@ -57,7 +57,12 @@ impl<'a, L: Letter> LazyAutomaton for Pairs<'a, L> {
         self.operation.combine(self.first.is_final(pair[0]), self.second.is_final(pair[1]))
     }
 
-    fn add_row(&mut self, _: Global, pair: &[usize], found: &mut Found) -> Result<(), AllocError> {
+    fn add_row(
+        &mut self,
+        _: Global,
+        pair: &[usize],
+        found: &mut FoundLists,
+    ) -> Result<(), AllocError> {
         for place in self.places {
             found.push(&[
                 self.first.next(pair[0], *place),

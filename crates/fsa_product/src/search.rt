@@ -3,7 +3,7 @@ ghost use Rattle.fsa.specs.Complete.{Accepts};
 ghost use Rattle.fsa_product.specs.Search.{AreWordsOf, EndsShortest, IsSearch, HasNext, AddsState};
 
 use fsa::Dfa;
-use fsa_walk::Marked;
+use fsa_explore::NumberSet;
 use fsm_base::Letter;
 use std::alloc::{AllocError, Global};
 
@@ -20,7 +20,7 @@ struct Step {
 #[derive(Drop)]
 struct Search {
     /// The states, in the order in which they were reached.
-    reached: Marked,
+    reached: NumberSet,
     /// How each of them was reached: the start by no step.
     steps: Vec<Option<Step>>,
 }
@@ -53,7 +53,7 @@ fn start(alloc: Global, states: usize) -> Result<Search, AllocError>
     ensures reached { IfOk result (λ search. search.reached ≡ record { bound = states; found = 0 ∷ [] }) }
     ensures steps { IfOk result (λ search. search.steps.items ≡ None ∷ []) }
 {
-    let mut reached = Marked::new(alloc, states)?;
+    let mut reached = NumberSet::new(alloc, states)?;
     reached.add(0)?;
     let mut steps = Vec::new(alloc);
     steps.push(None)?;

@@ -4,15 +4,15 @@ use Rattle.std.specs.List.{Contains, slice_get}
 use Rattle.std.proofs.lemmas.Bool.{cases_eq, false≢true}
 use Rattle.std.proofs.lemmas.List.{take_more, take_all, length-set, length-replicate}
 use Rattle.std.proofs.lemmas.List.Elements.{Contains-push_cases, Contains-push, Contains-append_left}
-use Rattle.fsm_words.proofs.Members.{Contains-nil_cases}
-use Rattle.fsm_words.proofs.Places.{slice_get-set_same, slice_get-set_other}
+use Rattle.word_relations.proofs.Members.{Contains-nil_cases}
+use Rattle.word_relations.proofs.Places.{slice_get-set_same, slice_get-set_other}
 use Rattle.fsa.specs.Automaton.{Automaton, IsFinal}
 use Rattle.fsa.specs.declared.automaton.Edge.{Edge}
 use Rattle.fsa.proofs.Arcs.{edge_same}
 use Rattle.std.specs.Option.{is_some}
-use Rattle.fsa_walk.specs.Reaches.{Reaches, IsReached, here}
-use Rattle.fsa_walk.specs.Marks.{Marks, Adds}
-use Rattle.fsa_walk.proofs.Added.{Grows-keeps}
+use Rattle.fsa_explore.specs.Reaches.{Reaches, IsReached, here}
+use Rattle.fsa_explore.specs.Marks.{Marks, Adds}
+use Rattle.fsa_explore.proofs.Added.{Grows-keeps}
 use Rattle.fsa_rational.proofs.Extended.{Extends-push, Extends-same}
 use Rattle.fsa_rational.specs.Shapes.{Extends, ForEach, IsLettered}
 use Rattle.fsa_rational.specs.Bypass.{TakesOver, LeavesOne, HasFinal, IsBypassed}

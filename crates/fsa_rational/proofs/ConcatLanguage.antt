@@ -1,23 +1,23 @@
--- The concatenation: from each final state of the first operand a silent edge leads to the start of the second.
+-- The concatenation: from each final state of the first operand an epsilon edge leads to the start of the second.
 use Rattle.std.proofs.Common.{◌≡◌, ℕ, ◌+◌, ◌<◌, ◌⊎◌, ◌↔◌, List, [], ◌++◌, true, false, Some, length, replicate, refl, subst, sym, ap, inl, inr, arith, ◌∙◌, append_assoc, length-append}
 use Rattle.std.specs.Option.{option_to_list}
 use Rattle.std.specs.List.{Contains, slice_get}
 use Rattle.std.proofs.lemmas.List.{append-nil, length-replicate}
 use Rattle.std.proofs.lemmas.Option.{slice_get_within}
-use Rattle.fsm_words.specs.Words.{IsConcatenation}
-use Rattle.fsm_words.proofs.Members.{Contains-nil_cases}
-use Rattle.fsm_words.proofs.Places.{slice_get-append_cases, slice_get-append_right}
+use Rattle.word_relations.specs.Words.{IsConcatenation}
+use Rattle.word_relations.proofs.Members.{Contains-nil_cases}
+use Rattle.word_relations.proofs.Places.{slice_get-append_cases, slice_get-append_right}
 use Rattle.fsa.specs.Automaton.{Automaton, IsFinal, IsWellFormed, UsesLetter}
 use Rattle.fsa.specs.Language.{AcceptsFrom, Accepts, stop, skip}
 use Rattle.fsa.specs.declared.automaton.Edge.{Edge}
-use Rattle.fsa_rational.specs.Shapes.{Extends, ComesFrom, LeavesFinal, silent, shifted}
+use Rattle.fsa_rational.specs.Shapes.{Extends, ComesFrom, LeavesFinal, epsilon, shifted}
 use Rattle.fsa_rational.proofs.Walks.{AcceptsFrom-least, AcceptsFrom-step, AcceptsFrom-moved, unmarked_states}
 
 -- the edges of the concatenation, the second operand's states being raised by n
 pub data ConcatEdge {L : Type 0} (a b : Automaton L) (n : ℕ) : Edge L → Type 0 where
   of_first : (e : Edge L) → Contains a.edges e → ConcatEdge a b n (shifted 0 e)
   of_second : (e : Edge L) → Contains b.edges e → ConcatEdge a b n (shifted n e)
-  between : (q : ℕ) → IsFinal a q → ConcatEdge a b n (silent (q + 0) n)
+  between : (q : ℕ) → IsFinal a q → ConcatEdge a b n (epsilon (q + 0) n)
 
 pub record IsConcat {L : Type 0} (a b : Automaton L) (m : Automaton L) : Type 0 where
   pub finals : m.finals ≡ replicate (length a.finals) false ++ b.finals
@@ -115,7 +115,7 @@ module _ {L : Type 0} (a b : Automaton L) (a_ok : IsWellFormed a) (b_ok : IsWell
       let e : 0 + length a.finals ≡ length a.finals = omega arith in
       let moved : AcceptsFrom m (0 + length a.finals) (v ++ []) = AcceptsFrom-moved b m (length a.finals) [] (λ x c. is.all (shifted (length a.finals) x) (of_second x c)) second_final second in
       let there : AcceptsFrom m (length a.finals) v = subst (λ k. AcceptsFrom m k v) e (subst (λ y. AcceptsFrom m (0 + length a.finals) y) (append-nil v) moved) in
-      AcceptsFrom-moved a m 0 v (λ x c. is.all (shifted 0 x) (of_first x c)) (λ q h. skip (is.all (silent (q + 0) (length a.finals)) (between q h)) there) first
+      AcceptsFrom-moved a m 0 v (λ x c. is.all (shifted 0 x) (of_first x c)) (λ q h. skip (is.all (epsilon (q + 0) (length a.finals)) (between q h)) there) first
 
   pub concat_language : (w : List L) → Accepts m w ↔ IsConcatenation (Accepts a) (Accepts b) w
   concat_language w = (

@@ -1,18 +1,18 @@
--- An automaton whose entered states took over what silent edges reach from them has the same language, and no
--- silent edge.
+-- An automaton whose entered states took over what epsilon edges reach from them has the same language, and no
+-- epsilon edge.
 use Rattle.std.proofs.Common.{◌≡◌, ℕ, ◌↔◌, List, Some, None, refl, subst, sym, ap, ◌∙◌}
 use Rattle.std.specs.List.{Contains}
 use Rattle.std.proofs.lemmas.Option.{same_Some}
-use Rattle.fsa.specs.Automaton.{Automaton, UsesLetter, HasNoSilentEdge}
+use Rattle.fsa.specs.Automaton.{Automaton, UsesLetter, HasNoEpsilonEdge}
 use Rattle.fsa.specs.Language.{AcceptsFrom, Accepts, stop, read, skip}
 use Rattle.fsa.specs.declared.automaton.Edge.{Edge}
-use Rattle.fsa_walk.specs.Reaches.{Reaches, here, along}
-use Rattle.fsa_walk.proofs.Closed.{Reaches-push}
+use Rattle.fsa_explore.specs.Reaches.{Reaches, here, along}
+use Rattle.fsa_explore.proofs.Closed.{Reaches-push}
 use Rattle.fsa_rational.specs.Bypass.{IsBypassed}
 
 module _ {L : Type 0} (a : Automaton L) (edges : List (Edge L)) (same : (e : Edge L) → Contains edges e ↔ Contains a.edges e) (found : List ℕ) (m : Automaton L) (is : IsBypassed edges a.finals (Contains found) m) where
-  pub bypassed_not_silent : HasNoSilentEdge m
-  bypassed_not_silent e h = let r = ((is.edge e).0 h).1 in (r.1, r.3)
+  pub bypassed_not_epsilon : HasNoEpsilonEdge m
+  bypassed_not_epsilon e h = let r = ((is.edge e).0 h).1 in (r.1, r.3)
 
   pub bypassed_letters : (x : L) → UsesLetter m x → UsesLetter a x
   bypassed_letters x (e, h, reads) =
@@ -35,7 +35,7 @@ module _ {L : Type 0} (a : Automaton L) (edges : List (Edge L)) (same : (e : Edg
   down {s} (skip {q = q} h rest) =
       let e : Edge L = record { from = s; letter = None; to = q } in
       let r = ((is.edge e).0 h).1 in
-      let silent : None ≡ Some r.1 = r.3 in
+      let epsilon : None ≡ Some r.1 = r.3 in
       absurd (cc)
 
   module _ (start : Contains found 0) (entered : (e : Edge L) (x : L) → Contains a.edges e → e.letter ≡ Some x → Contains found e.to) where

@@ -1,12 +1,12 @@
 -- The image: each edge carries what the table gives for its letter.
 use Rattle.std.proofs.Common.{◌≡◌, ℕ, ◌↔◌, List, [], ◌∷◌, true, Option, Some, None, refl, subst, sym, ap, inl, inr, ◌∙◌}
 use Rattle.std.specs.List.{Contains, slice_get}
-use Rattle.fsm_words.specs.Words.{Translates, finish, keep, omit}
-use Rattle.fsm_words.proofs.Members.{Contains-nil_cases}
+use Rattle.word_relations.specs.Words.{Translates, finish, keep, omit}
+use Rattle.word_relations.proofs.Members.{Contains-nil_cases}
 use Rattle.fsa.specs.Automaton.{Automaton, IsFinal, UsesLetter}
 use Rattle.fsa.specs.Language.{AcceptsFrom, Accepts, stop, read, skip}
 use Rattle.fsa.specs.declared.automaton.Edge.{Edge}
-use Rattle.fsa_rational.specs.Shapes.{Extends, ForEach, ComesFrom, IsImage, ImageOf, silent}
+use Rattle.fsa_rational.specs.Shapes.{Extends, ForEach, ComesFrom, IsImage, ImageOf, epsilon}
 use Rattle.fsa_rational.proofs.Extended.{Extends-same}
 
 module _ {L M : Type 0} (table rows : List (L × Option M)) (same : (row : L × Option M) → Contains rows row ↔ Contains table row) (a : Automaton L) (start m : Automaton M)
@@ -71,11 +71,11 @@ module _ {L M : Type 0} (table rows : List (L × Option M)) (same : (row : L × 
       let k = kept_letter r.0.letter y (subst (λ z. IsImage rows r.0.letter z) letter r.2.1) in
       (k.0, k.2)
 
--- the edge that stands for a silent one
-pub image_silent : {L M : Type 0} (rows : List (L × Option M)) (old : Edge L) (now new : Automaton M) → old.letter ≡ None → Extends now new (λ e. e ≡ silent old.from old.to) → Extends now new (ImageOf rows old)
-image_silent {L} {M} rows old now new none added =
+-- the edge that stands for an epsilon edge
+pub image_epsilon : {L M : Type 0} (rows : List (L × Option M)) (old : Edge L) (now new : Automaton M) → old.letter ≡ None → Extends now new (λ e. e ≡ epsilon old.from old.to) → Extends now new (ImageOf rows old)
+image_epsilon {L} {M} rows old now new none added =
     let with_letter : Option M → Edge M = λ y. record { from = old.from; letter = y; to = old.to } in
-    Extends-same now new (λ e. e ≡ silent old.from old.to) (ImageOf rows old)
+    Extends-same now new (λ e. e ≡ epsilon old.from old.to) (ImageOf rows old)
     (λ e is. (None, subst (λ l. IsImage rows l None) (sym none) refl, is))
     (λ e r. r.2 ∙ ap with_letter (subst (λ l. IsImage rows l r.0) none r.1))
     added

@@ -3,6 +3,7 @@ pub mod Walks
 pub mod UnionLanguage
 pub mod ConcatLanguage
 pub mod StarLanguage
+pub mod IgnoringLanguage
 pub mod ReverseLanguage
 pub mod RowsAt
 pub mod Bypassing

@@ -3,12 +3,12 @@
 use Rattle.std.proofs.Common.{◌≡◌, ℕ, ◌<◌, ◌⊎◌, ◌↔◌, List, [], ◌∷◌, true, Option, Some, None, length, refl, subst, sym, ap, inl, inr, ◌∙◌}
 use Rattle.std.specs.List.{Contains, slice_get}
 use Rattle.std.proofs.lemmas.Option.{same_Some}
-use Rattle.fsm_words.specs.Words.{Translates, finish, keep, omit}
-use Rattle.fsm_words.proofs.Members.{Contains-nil_cases}
+use Rattle.word_relations.specs.Words.{Translates, finish, keep, omit}
+use Rattle.word_relations.proofs.Members.{Contains-nil_cases}
 use Rattle.fsa.specs.Automaton.{Automaton, IsFinal, IsWellFormed, UsesLetter}
 use Rattle.fsa.specs.Language.{AcceptsFrom, Accepts, stop, read, skip}
 use Rattle.fsa.specs.declared.automaton.Edge.{Edge}
-use Rattle.fsa_rational.specs.Shapes.{Extends, ForEach, ComesFrom, IsPreimage, PreimageOf, LoopsBelow, loop_at, silent}
+use Rattle.fsa_rational.specs.Shapes.{Extends, ForEach, ComesFrom, IsPreimage, PreimageOf, LoopsBelow, loop_at, epsilon}
 use Rattle.fsa_rational.proofs.Extended.{Extends-same}
 use Rattle.fsa_rational.proofs.Walks.{AcceptsFrom-within}
 
@@ -55,9 +55,9 @@ module _ {L M : Type 0} (table : List (L × Option M)) (rows : List (M × L)) (k
       let same : z ≡ x = same_Some z x (sym is ∙ reads) in
       (y ∷ w, read held path, keep (subst (λ k. Contains table (k, Some y)) same ((kept (y, z)).0 row)) t)
 
-  down_silent : (p q : ℕ) (y : Option M) (v : List L) → Contains a.edges (record { from = p; letter = y; to = q }) → IsPreimage rows y None → (w : List M) × AcceptsFrom a q w × Translates table v w → (w : List M) × AcceptsFrom a p w × Translates table v w
-  down_silent p q None v held is (w, path, t) = (w, skip held path, t)
-  down_silent p q (Some y) v held (z, row, is) rest = let clash : None ≡ Some z = is in absurd (cc)
+  down_epsilon : (p q : ℕ) (y : Option M) (v : List L) → Contains a.edges (record { from = p; letter = y; to = q }) → IsPreimage rows y None → (w : List M) × AcceptsFrom a q w × Translates table v w → (w : List M) × AcceptsFrom a p w × Translates table v w
+  down_epsilon p q None v held is (w, path, t) = (w, skip held path, t)
+  down_epsilon p q (Some y) v held (z, row, is) rest = let clash : None ≡ Some z = is in absurd (cc)
 
   down : {p : ℕ} {v : List L} → AcceptsFrom m p v → (w : List M) × AcceptsFrom a p w × Translates table v w
   unfolding from_a is_loop
@@ -73,7 +73,7 @@ module _ {L M : Type 0} (table : List (L × Option M)) (rows : List (M × L)) (k
   down {p} (skip {q = q} {w = v} h rest) =
       let more : (w : List M) × AcceptsFrom a q w × Translates table v w = down rest in
       elim (behind p q None h) [
-        | inl r ↦ down_silent p q r.0 v r.1 r.2 more
+        | inl r ↦ down_epsilon p q r.0 v r.1 r.2 more
         | inr r ↦ let clash : None ≡ Some r.0 = r.2 in absurd (cc)
       ]
 
@@ -114,11 +114,11 @@ module _ {L M : Type 0} (table : List (L × Option M)) (rows : List (M × L)) (k
     | inr r ↦ let same : r.0 ≡ x = same_Some r.0 x (sym r.2 ∙ reads) in (None, subst (λ k. Contains table (k, None)) same r.1)
   ]
 
--- the edge that stands for a silent one
-pub preimage_silent : {L M : Type 0} (rows : List (M × L)) (old : Edge M) (now new : Automaton L) → old.letter ≡ None → Extends now new (λ e. e ≡ silent old.from old.to) → Extends now new (PreimageOf rows old)
-preimage_silent {L} {M} rows old now new none added =
+-- the edge that stands for an epsilon edge
+pub preimage_epsilon : {L M : Type 0} (rows : List (M × L)) (old : Edge M) (now new : Automaton L) → old.letter ≡ None → Extends now new (λ e. e ≡ epsilon old.from old.to) → Extends now new (PreimageOf rows old)
+preimage_epsilon {L} {M} rows old now new none added =
     let with_letter : Option L → Edge L = λ y. record { from = old.from; letter = y; to = old.to } in
-    Extends-same now new (λ e. e ≡ silent old.from old.to) (PreimageOf rows old)
+    Extends-same now new (λ e. e ≡ epsilon old.from old.to) (PreimageOf rows old)
     (λ e is. (None, subst (λ l. IsPreimage rows l None) (sym none) refl, is))
     (λ e r. r.2 ∙ ap with_letter (subst (λ l. IsPreimage rows l r.0) none r.1))
     added

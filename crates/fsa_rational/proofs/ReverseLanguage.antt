@@ -1,19 +1,19 @@
--- The reversal: each edge in the other direction, a new start from which silent edges lead to the final states, and
+-- The reversal: each edge in the other direction, a new start from which epsilon edges lead to the final states, and
 -- the old start as the only final state.
 use Rattle.std.proofs.Common.{◌≡◌, ℕ, ◌+◌, ◌↔◌, List, [], ◌∷◌, ◌++◌, reverse, true, false, Option, Some, None, length, set, replicate, refl, subst, sym, ap, inl, inr, arith, ◌∙◌, append_assoc}
 use Rattle.std.specs.Option.{option_to_list}
 use Rattle.std.specs.List.{Contains, slice_get}
 use Rattle.std.proofs.lemmas.List.{append-nil, reverse-append, reverse-reverse}
-use Rattle.fsm_words.proofs.Members.{Contains-nil_cases}
+use Rattle.word_relations.proofs.Members.{Contains-nil_cases}
 use Rattle.fsa.specs.Automaton.{Automaton, IsFinal, IsWellFormed, UsesLetter}
 use Rattle.fsa.specs.Language.{AcceptsFrom, Accepts, stop, read, skip}
 use Rattle.fsa.specs.declared.automaton.Edge.{Edge}
-use Rattle.fsa_rational.specs.Shapes.{Extends, ComesFrom, EntersFinal, silent, turned}
+use Rattle.fsa_rational.specs.Shapes.{Extends, ComesFrom, EntersFinal, epsilon, reversed_by}
 use Rattle.fsa_rational.proofs.Walks.{AcceptsFrom-least, AcceptsFrom-step, one_final, is_final_set}
 
 pub data ReverseEdge {L : Type 0} (a : Automaton L) : Edge L → Type 0 where
-  of_operand : (e : Edge L) → Contains a.edges e → ReverseEdge a (turned 1 e)
-  enter : (q : ℕ) → IsFinal a q → ReverseEdge a (silent 0 (q + 1))
+  of_operand : (e : Edge L) → Contains a.edges e → ReverseEdge a (reversed_by 1 e)
+  enter : (q : ℕ) → IsFinal a q → ReverseEdge a (epsilon 0 (q + 1))
 
 pub record IsReverse {L : Type 0} (a m : Automaton L) : Type 0 where
   pub finals : m.finals ≡ set (replicate (length a.finals) false ++ false ∷ []) 1 true
@@ -22,7 +22,7 @@ pub record IsReverse {L : Type 0} (a m : Automaton L) : Type 0 where
 
 module _ {L : Type 0} (a : Automaton L) (start one m : Automaton L)
     (none : start.edges ≡ []) (finals : start.finals ≡ set (replicate (length a.finals) false ++ false ∷ []) 1 true)
-    (first : Extends start one (ComesFrom (turned 1) a.edges)) (second : Extends one m (EntersFinal 0 a.finals 1)) where
+    (first : Extends start one (ComesFrom (reversed_by 1) a.edges)) (second : Extends one m (EntersFinal 0 a.finals 1)) where
   pub reverse_shape : IsReverse a m
   reverse_shape = record {
     finals = second.finals ∙ first.finals ∙ finals;
@@ -79,13 +79,13 @@ module _ {L : Type 0} (a : Automaton L) (a_ok : IsWellFormed a) (m : Automaton L
   start_final = let s = a_ok.start in subst (λ fs. slice_get fs 1 ≡ Some true) (sym is.finals) (is_final_set (length a.finals) 1 (omega arith))
 
   turn : {p : ℕ} {w : List L} (after : List L) → AcceptsFrom a p w → AcceptsFrom m (p + 1) after → Accepts m (reverse w ++ after)
-  turn {p} after (stop h) rest = skip (is.all (silent 0 (p + 1)) (enter p h)) rest
+  turn {p} after (stop h) rest = skip (is.all (epsilon 0 (p + 1)) (enter p h)) rest
   turn {p} after (read {q = q} {x = x} {w = w} h more) rest =
       let e : Edge L = record { from = p; letter = Some x; to = q } in
-      subst (λ y. Accepts m y) (reverse_letter (Some x) w after) (turn (x ∷ after) more (read (is.all (turned 1 e) (of_operand e h)) rest))
+      subst (λ y. Accepts m y) (reverse_letter (Some x) w after) (turn (x ∷ after) more (read (is.all (reversed_by 1 e) (of_operand e h)) rest))
   turn {p} after (skip {q = q} h more) rest =
       let e : Edge L = record { from = p; letter = None; to = q } in
-      turn after more (skip (is.all (turned 1 e) (of_operand e h)) rest)
+      turn after more (skip (is.all (reversed_by 1 e) (of_operand e h)) rest)
 
   pub reverse_language : (w : List L) → Accepts m w ↔ Accepts a (reverse w)
   reverse_language w = (

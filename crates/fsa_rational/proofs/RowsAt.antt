@@ -7,7 +7,7 @@ use Rattle.std.specs.Ordering.{is_lt, is_le, ordering_index, ordering_reverse}
 use Rattle.std.specs.declared.cmp.Ordering.{Ordering}
 use Rattle.std.specs.declared.cmp.Ordering.TheVariants.{Less, Equal, Greater}
 use Rattle.std.proofs.lemmas.List.Sorted.{IsPartitionedBy-ltb, IsPartitionedBy-leb, searchable_from_sorted}
-use Rattle.fsa_walk.proofs.OutEdges.{rows_out}
+use Rattle.fsa_explore.proofs.OutEdges.{rows_out}
 
 lt_is : (o : Ordering) → ltb (ordering_index o) 1 ≡ is_lt o
 lt_is Less = refl

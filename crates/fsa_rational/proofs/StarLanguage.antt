@@ -1,21 +1,21 @@
--- The repetition: a new start that is final, a silent edge from it to the operand's start, and one back to it from
+-- The repetition: a new start that is final, an epsilon edge from it to the operand's start, and one back to it from
 -- each of the operand's final states.
 use Rattle.std.proofs.Common.{◌≡◌, ℕ, ◌+◌, ◌↔◌, List, [], ◌∷◌, ◌++◌, true, false, Some, All, length, set, replicate, refl, subst, sym, ap, inl, inr, arith, ◌∙◌, append_assoc}
 use Rattle.std.specs.Option.{option_to_list}
 use Rattle.std.specs.List.{Contains, slice_get}
 use Rattle.std.proofs.lemmas.List.Elements.{All-nil, All-cons, All-head, All-tail}
-use Rattle.fsm_words.specs.Words.{IsRepetition, joined}
-use Rattle.fsm_words.proofs.Members.{Contains-nil_cases}
+use Rattle.word_relations.specs.Words.{IsRepetition, joined}
+use Rattle.word_relations.proofs.Members.{Contains-nil_cases}
 use Rattle.fsa.specs.Automaton.{Automaton, IsFinal, IsWellFormed, UsesLetter}
 use Rattle.fsa.specs.Language.{AcceptsFrom, Accepts, stop, skip}
 use Rattle.fsa.specs.declared.automaton.Edge.{Edge}
-use Rattle.fsa_rational.specs.Shapes.{Extends, ComesFrom, LeavesFinal, silent, shifted}
+use Rattle.fsa_rational.specs.Shapes.{Extends, ComesFrom, LeavesFinal, epsilon, shifted}
 use Rattle.fsa_rational.proofs.Walks.{AcceptsFrom-least, AcceptsFrom-step, AcceptsFrom-moved, one_final, is_final_set}
 
 pub data StarEdge {L : Type 0} (a : Automaton L) : Edge L → Type 0 where
   of_operand : (e : Edge L) → Contains a.edges e → StarEdge a (shifted 1 e)
-  enter : StarEdge a (silent 0 1)
-  again : (q : ℕ) → IsFinal a q → StarEdge a (silent (q + 1) 0)
+  enter : StarEdge a (epsilon 0 1)
+  again : (q : ℕ) → IsFinal a q → StarEdge a (epsilon (q + 1) 0)
 
 pub record IsStar {L : Type 0} (a m : Automaton L) : Type 0 where
   pub finals : m.finals ≡ set (replicate (length a.finals) false ++ false ∷ []) 0 true
@@ -24,7 +24,7 @@ pub record IsStar {L : Type 0} (a m : Automaton L) : Type 0 where
 
 module _ {L : Type 0} (a : Automaton L) (start one two m : Automaton L)
     (none : start.edges ≡ []) (finals : start.finals ≡ set (replicate (length a.finals) false ++ false ∷ []) 0 true)
-    (first : Extends start one (ComesFrom (shifted 1) a.edges)) (second : Extends one two (λ e. e ≡ silent 0 1))
+    (first : Extends start one (ComesFrom (shifted 1) a.edges)) (second : Extends one two (λ e. e ≡ epsilon 0 1))
     (third : Extends two m (LeavesFinal a.finals 1 0)) where
   pub star_shape : IsStar a m
   star_shape = record {
@@ -96,9 +96,9 @@ module _ {L : Type 0} (a : Automaton L) (a_ok : IsWellFormed a) (m : Automaton L
   in_star [] all = stop start_final
   in_star (u ∷ words) all =
       let rest : Accepts m (joined words) = in_star words (All-tail (Accepts a) u words all) in
-      skip (is.all (silent 0 1) enter)
+      skip (is.all (epsilon 0 1) enter)
       (AcceptsFrom-moved a m 1 (joined words) (λ x c. is.all (shifted 1 x) (of_operand x c))
-      (λ q h. skip (is.all (silent (q + 1) 0) (again q h)) rest) (All-head (Accepts a) u words all))
+      (λ q h. skip (is.all (epsilon (q + 1) 0) (again q h)) rest) (All-head (Accepts a) u words all))
 
   pub star_language : (w : List L) → Accepts m w ↔ IsRepetition (Accepts a) w
   star_language w = (λ h. (back h).at_start refl, λ (words, e, all). subst (λ y. Accepts m y) (sym e) (in_star words all))

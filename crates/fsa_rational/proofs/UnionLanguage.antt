@@ -1,23 +1,23 @@
--- The union: a new start, from which a silent edge leads to the start of each operand.
+-- The union: a new start, from which an epsilon edge leads to the start of each operand.
 use Rattle.std.proofs.Common.{◌≡◌, ℕ, zero, suc, ◌+◌, ◌<◌, ◌⊎◌, ◌↔◌, List, [], ◌∷◌, ◌++◌, true, false, Some, length, refl, subst, sym, ap, inl, inr, arith, ◌∙◌}
 use Rattle.std.specs.Option.{option_to_list}
 use Rattle.std.specs.List.{Contains, slice_get}
 use Rattle.std.proofs.lemmas.List.{append-nil, length-append}
 use Rattle.std.proofs.lemmas.Option.{slice_get_within}
-use Rattle.fsm_words.proofs.Members.{Contains-nil_cases}
-use Rattle.fsm_words.proofs.Places.{slice_get-append_cases, slice_get-append_left, slice_get-append_right}
+use Rattle.word_relations.proofs.Members.{Contains-nil_cases}
+use Rattle.word_relations.proofs.Places.{slice_get-append_cases, slice_get-append_left, slice_get-append_right}
 use Rattle.fsa.specs.Automaton.{Automaton, IsFinal, IsWellFormed, UsesLetter}
 use Rattle.fsa.specs.Language.{AcceptsFrom, Accepts, stop, skip}
 use Rattle.fsa.specs.declared.automaton.Edge.{Edge}
-use Rattle.fsa_rational.specs.Shapes.{Extends, ComesFrom, silent, shifted}
+use Rattle.fsa_rational.specs.Shapes.{Extends, ComesFrom, epsilon, shifted}
 use Rattle.fsa_rational.proofs.Walks.{AcceptsFrom-least, AcceptsFrom-step, AcceptsFrom-moved}
 
 -- the edges of the union, the second operand's states being raised by n
 pub data UnionEdge {L : Type 0} (a b : Automaton L) (n : ℕ) : Edge L → Type 0 where
   of_first : (e : Edge L) → Contains a.edges e → UnionEdge a b n (shifted 1 e)
   of_second : (e : Edge L) → Contains b.edges e → UnionEdge a b n (shifted n e)
-  to_first : UnionEdge a b n (silent 0 1)
-  to_second : UnionEdge a b n (silent 0 n)
+  to_first : UnionEdge a b n (epsilon 0 1)
+  to_second : UnionEdge a b n (epsilon 0 n)
 
 pub record IsUnion {L : Type 0} (a b : Automaton L) (n : ℕ) (m : Automaton L) : Type 0 where
   pub raised : n ≡ length a.finals + 1
@@ -28,7 +28,7 @@ pub record IsUnion {L : Type 0} (a b : Automaton L) (n : ℕ) (m : Automaton L) 
 module _ {L : Type 0} (a b : Automaton L) (n : ℕ) (raised : n ≡ length a.finals + 1) (start one two three m : Automaton L)
     (none : start.edges ≡ []) (finals : start.finals ≡ (false ∷ a.finals) ++ b.finals)
     (first : Extends start one (ComesFrom (shifted 1) a.edges)) (second : Extends one two (ComesFrom (shifted n) b.edges))
-    (third : Extends two three (λ e. e ≡ silent 0 1)) (fourth : Extends three m (λ e. e ≡ silent 0 n)) where
+    (third : Extends two three (λ e. e ≡ epsilon 0 1)) (fourth : Extends three m (λ e. e ≡ epsilon 0 n)) where
   pub union_shape : IsUnion a b n m
   union_shape = record {
     raised = raised;
@@ -145,11 +145,11 @@ module _ {L : Type 0} (a b : Automaton L) (a_ok : IsWellFormed a) (b_ok : IsWell
 
   in_union : (w : List L) → Accepts a w ⊎ Accepts b w → Accepts m w
   in_union w (inl h) =
-      skip (is.all (silent 0 1) to_first)
+      skip (is.all (epsilon 0 1) to_first)
       (subst (λ v. AcceptsFrom m 1 v) (append-nil w) (AcceptsFrom-moved a m 1 [] (λ e c. is.all (shifted 1 e) (of_first e c)) first_final h))
   in_union w (inr h) =
       let e : 0 + n ≡ n = omega arith in
-      skip (is.all (silent 0 n) to_second)
+      skip (is.all (epsilon 0 n) to_second)
       (subst (λ k. AcceptsFrom m k w) e
       (subst (λ v. AcceptsFrom m (0 + n) v) (append-nil w) (AcceptsFrom-moved b m n [] (λ x c. is.all (shifted n x) (of_second x c)) second_final h)))
 

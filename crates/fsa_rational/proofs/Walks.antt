@@ -7,7 +7,7 @@ use Rattle.std.proofs.lemmas.List.Sorted.{Contains-permutation, IsPermutation-sy
 use Rattle.std.proofs.lemmas.Option.{slice_get_within}
 use Rattle.std.proofs.lemmas.Bool.{cases_eq}
 use Rattle.std.proofs.lemmas.List.{length_push, length-replicate}
-use Rattle.fsm_words.proofs.Places.{slice_get-set_same, slice_get-set_other, slice_get-append_cases}
+use Rattle.word_relations.proofs.Places.{slice_get-set_same, slice_get-set_other, slice_get-append_cases}
 use Rattle.fsa.specs.Automaton.{Automaton, IsFinal, IsWellFormed}
 use Rattle.fsa.specs.Language.{AcceptsFrom, stop, read, skip}
 use Rattle.fsa.specs.declared.automaton.Edge.{Edge}

@@ -1,8 +1,8 @@
--- A state in place of those that silent edges reach from it.
+-- A state in place of those that epsilon edges reach from it.
 use Rattle.std.specs.Prelude.{◌≡◌, ◌↔◌, ◌⊎◌, ℕ, List, Bool, true, Some, Contains, slice_get, length}
 use Rattle.fsa.specs.Automaton.{Automaton, IsFinal}
 use Rattle.fsa.specs.declared.automaton.Edge.{Edge}
-use Rattle.fsa_walk.specs.Reaches.{Reaches}
+use Rattle.fsa_explore.specs.Reaches.{Reaches}
 
 -- an edge with this letter leads from one of the states that pass the test to where this one leads
 abbrev pub LeavesOne : {L : Type 0} → List (Edge L) → (ℕ → Type 0) → Edge L → Type 0

@@ -1,18 +1,18 @@
 -- What the constructions add to an automaton, and the edges that they make.
-use Rattle.std.specs.Prelude.{◌≡◌, ◌<◌, ◌+◌, ◌⊎◌, ℕ, List, Bool, true, Option, Some, None, Contains, slice_get}
+use Rattle.std.specs.Prelude.{◌≡◌, ◌<◌, ◌+◌, ◌*◌, ◌⊎◌, ℕ, List, Bool, true, Option, Some, None, Contains, slice_get, length}
 use Rattle.fsa.specs.Automaton.{Automaton}
 use Rattle.fsa.specs.declared.automaton.Edge.{Edge}
 
-abbrev pub silent : {L : Type 0} → ℕ → ℕ → Edge L
-silent p q = record { from = p; letter = None; to = q }
+abbrev pub epsilon : {L : Type 0} → ℕ → ℕ → Edge L
+epsilon p q = record { from = p; letter = None; to = q }
 
 -- the edge with the numbers of its states raised
 abbrev pub shifted : {L : Type 0} → ℕ → Edge L → Edge L
 shifted by e = record { from = e.from + by; letter = e.letter; to = e.to + by }
 
 -- the same edge in the other direction
-abbrev pub turned : {L : Type 0} → ℕ → Edge L → Edge L
-turned by e = record { from = e.to + by; letter = e.letter; to = e.from + by }
+abbrev pub reversed_by : {L : Type 0} → ℕ → Edge L → Edge L
+reversed_by by e = record { from = e.to + by; letter = e.letter; to = e.from + by }
 
 -- the states stay, and the edges that pass the test were added, and no others
 pub record Extends {L : Type 0} (old new : Automaton L) (P : Edge L → Type 0) : Type 0 where
@@ -31,20 +31,28 @@ ComesFrom change items e = ForEach (λ x f. f ≡ change x) items e
 
 -- it leaves a final state, or enters one
 abbrev pub LeavesFinal : {L : Type 0} → List Bool → ℕ → ℕ → Edge L → Type 0
-LeavesFinal finals by to e = (q : ℕ) × (slice_get finals q ≡ Some true) × (e ≡ silent (q + by) to)
+LeavesFinal finals by to e = (q : ℕ) × (slice_get finals q ≡ Some true) × (e ≡ epsilon (q + by) to)
 
 abbrev pub EntersFinal : {L : Type 0} → ℕ → List Bool → ℕ → Edge L → Type 0
-EntersFinal from finals by e = (q : ℕ) × (slice_get finals q ≡ Some true) × (e ≡ silent from (q + by))
+EntersFinal from finals by e = (q : ℕ) × (slice_get finals q ≡ Some true) × (e ≡ epsilon from (q + by))
+
+-- it is of the copy of an automaton that is entered from a state and left to it, the copy's numbers being raised
+abbrev pub PutInAt : {L : Type 0} → Automaton L → ℕ → ℕ → Edge L → Type 0
+PutInAt put state by e = (e ≡ epsilon state by) ⊎ ComesFrom (shifted by) put.edges e ⊎ LeavesFinal put.finals by state e
+
+-- it is of one of the copies for the states below a bound, which stand one after another behind the first of them
+abbrev pub PutInBelow : {L : Type 0} → Automaton L → ℕ → ℕ → Edge L → Type 0
+PutInBelow put first bound e = (state : ℕ) × (state < bound) × PutInAt put state (first + state * length put.finals) e
 
 -- with the numbers raised, the edges stay below the bound
 abbrev pub FitsBelow : {L : Type 0} → List (Edge L) → ℕ → ℕ → Type 0
 FitsBelow {L} edges by bound = (e : Edge L) → Contains edges e → (e.from + by < bound) × (e.to + by < bound)
 
--- the edge with another source, where it isn't silent
+-- the edge with another source, where it isn't epsilon
 abbrev pub IsLettered : {L : Type 0} → ℕ → Edge L → Edge L → Type 0
 IsLettered {L} from old e = (x : L) × (old.letter ≡ Some x) × (e ≡ record { from = from; letter = Some x; to = old.to })
 
--- what the table gives for the edge's letter, between the same states; a silent edge stays
+-- what the table gives for the edge's letter, between the same states; an epsilon edge stays
 abbrev pub IsImage : {L M : Type 0} → List (L × Option M) → Option L → Option M → Type 0
 IsImage table None y = y ≡ None
 IsImage table (Some x) y = Contains table (x, y)
@@ -53,7 +61,7 @@ abbrev pub ImageOf : {L M : Type 0} → List (L × Option M) → Edge L → Edge
 ImageOf {L} {M} table old e = (y : Option M) × IsImage table old.letter y × (e ≡ record { from = old.from; letter = y; to = old.to })
 
 -- the letters for which the rows give the edge's letter, each row being that letter and then the other, between
--- the same states; a silent edge stays
+-- the same states; an epsilon edge stays
 abbrev pub IsPreimage : {L M : Type 0} → List (M × L) → Option M → Option L → Type 0
 IsPreimage rows None letter = letter ≡ None
 IsPreimage {L} rows (Some y) letter = (x : L) × Contains rows (y, x) × (letter ≡ Some x)

@@ -1,5 +1,5 @@
 ghost use Rattle.std.specs.Prelude.{◌≡◌, ◌+◌, ◌<◌, ◌≤◌, OnOk, length};
-ghost use Rattle.fsa_rational.specs.Shapes.{silent, shifted, turned, Extends, ComesFrom, LeavesFinal, EntersFinal, FitsBelow};
+ghost use Rattle.fsa_rational.specs.Shapes.{epsilon, shifted, reversed_by, Extends, ComesFrom, LeavesFinal, EntersFinal, FitsBelow};
 
 use fsa::{Edge, Fsa};
 use std::alloc::AllocError;
@@ -21,9 +21,9 @@ pub fn add_shifted<L: Copy>(m: &mut Fsa<L>, edges: &[Edge<L>], by: usize) -> Res
 }
 
 /// Adds edges in the other direction, with the numbers of their states raised.
-pub fn add_turned<L: Copy>(m: &mut Fsa<L>, edges: &[Edge<L>], by: usize) -> Result<(), AllocError>
+pub fn add_reversed<L: Copy>(m: &mut Fsa<L>, edges: &[Edge<L>], by: usize) -> Result<(), AllocError>
     requires { FitsBelow edges.now by (length m.old.finals) }
-    ensures { OnOk result (Extends m.old m.new (ComesFrom (turned by) edges.now)) }
+    ensures { OnOk result (Extends m.old m.new (ComesFrom (reversed_by by) edges.now)) }
 {
     let _states = m.states();
     for edge in edges {
@@ -36,11 +36,11 @@ pub fn add_turned<L: Copy>(m: &mut Fsa<L>, edges: &[Edge<L>], by: usize) -> Resu
     Ok(())
 }
 
-/// Adds a silent edge.
-pub fn add_silent<L: Copy>(m: &mut Fsa<L>, from: usize, to: usize) -> Result<(), AllocError>
+/// Adds an epsilon edge.
+pub fn add_epsilon<L: Copy>(m: &mut Fsa<L>, from: usize, to: usize) -> Result<(), AllocError>
     requires from { from < length m.old.finals }
     requires to { to < length m.old.finals }
-    ensures { OnOk result (Extends m.old m.new (λ e. e ≡ silent from to)) }
+    ensures { OnOk result (Extends m.old m.new (λ e. e ≡ epsilon from to)) }
 {
     m.add_edge(Edge {
         from,
@@ -49,7 +49,7 @@ pub fn add_silent<L: Copy>(m: &mut Fsa<L>, from: usize, to: usize) -> Result<(),
     })
 }
 
-/// Adds a silent edge from each final state, its number raised, to a state.
+/// Adds an epsilon edge from each final state, its number raised, to a state.
 pub fn leave_finals<L: Copy>(
     m: &mut Fsa<L>,
     finals: &[bool],
@@ -63,13 +63,13 @@ pub fn leave_finals<L: Copy>(
     let _states = m.states();
     for (state, is_final) in finals.iter().enumerate() {
         if *is_final {
-            add_silent(m, state + by, to)?;
+            add_epsilon(m, state + by, to)?;
         }
     }
     Ok(())
 }
 
-/// Adds a silent edge from a state to each final state, its number raised.
+/// Adds an epsilon edge from a state to each final state, its number raised.
 pub fn enter_finals<L: Copy>(
     m: &mut Fsa<L>,
     from: usize,
@@ -83,7 +83,7 @@ pub fn enter_finals<L: Copy>(
     let _states = m.states();
     for (state, is_final) in finals.iter().enumerate() {
         if *is_final {
-            add_silent(m, from, state + by)?;
+            add_epsilon(m, from, state + by)?;
         }
     }
     Ok(())

@@ -1,9 +1,9 @@
 ghost use Rattle.std.specs.Prelude.{◌≡◌, ◌↔◌, ◌⊎◌, ◌++◌, ◌∷◌, ◌<◌, [], false, true, IfOk, List, replicate, length};
-ghost use Rattle.fsm_words.specs.Words.{IsConcatenation, IsRepetition};
+ghost use Rattle.word_relations.specs.Words.{IsConcatenation, IsRepetition};
 ghost use Rattle.fsa.specs.Automaton.{UsesLetter};
 ghost use Rattle.fsa.specs.Language.{Accepts};
 
-use crate::extend::{add_shifted, add_silent, leave_finals};
+use crate::extend::{add_epsilon, add_shifted, leave_finals};
 use fsa::Fsa;
 use fsm_base::Letter;
 use std::alloc::{AllocError, Global};
@@ -17,8 +17,8 @@ pub fn union<L: Letter>(alloc: Global, a: &Fsa<L>, b: &Fsa<L>) -> Result<Fsa<L>,
     let second = m.states() - b.states();
     add_shifted(&mut m, a.edges(), 1)?;
     add_shifted(&mut m, b.edges(), second)?;
-    add_silent(&mut m, 0, 1)?;
-    add_silent(&mut m, 0, second)?;
+    add_epsilon(&mut m, 0, 1)?;
+    add_epsilon(&mut m, 0, second)?;
     Ok(m)
 }
 
@@ -62,7 +62,7 @@ pub fn star<L: Letter>(alloc: Global, a: &Fsa<L>) -> Result<Fsa<L>, AllocError>
     let mut m = one_state_more(alloc, a)?;
     m.set_final(0);
     add_shifted(&mut m, a.edges(), 1)?;
-    add_silent(&mut m, 0, 1)?;
+    add_epsilon(&mut m, 0, 1)?;
     leave_finals(&mut m, a.finals(), 1, 0)?;
     Ok(m)
 }

@@ -1,38 +1,38 @@
 ghost use Rattle.std.specs.Prelude.{◌≡◌, ◌↔◌, ◌<◌, ◌⊎◌, ℕ, [], false, Some, IfOk, OnOk, List, Contains, replicate, length, All};
-ghost use Rattle.fsa.specs.Automaton.{UsesLetter, HasNoSilentEdge};
+ghost use Rattle.fsa.specs.Automaton.{UsesLetter, HasNoEpsilonEdge};
 ghost use Rattle.fsa.specs.Language.{Accepts};
 ghost use Rattle.fsa.specs.declared.automaton.Edge.{Edge};
-ghost use Rattle.fsa_walk.specs.Reaches.{Reaches};
-ghost use Rattle.fsa_walk.specs.Targets.{AreWithin};
+ghost use Rattle.fsa_explore.specs.Reaches.{Reaches};
+ghost use Rattle.fsa_explore.specs.Targets.{AreWithin};
 ghost use Rattle.fsa_rational.specs.Shapes.{Extends, ForEach, IsLettered};
 ghost use Rattle.fsa_rational.specs.Bypass.{TakesOver, IsBypassed};
 
 use fsa::{Edge, Fsa};
-use fsa_walk::{Marked, Rows, close};
+use fsa_explore::{EdgesByState, NumberSet, close};
 use fsm_base::Letter;
 use std::alloc::{AllocError, Global};
 
-/// An automaton of the same language with no silent edge, and with as many states. Takes time in proportion to
-/// the states that silent edges reach from each state that a lettered edge enters, and to their edges.
+/// An automaton of the same language with no epsilon edge, and with as many states. Takes time in proportion to
+/// the states that epsilon edges reach from each state that a lettered edge enters, and to their edges.
 pub fn without_empty<L: Letter>(alloc: Global, a: &Fsa<L>) -> Result<Fsa<L>, AllocError>
-    ensures silent { IfOk result HasNoSilentEdge }
+    ensures epsilon { IfOk result HasNoEpsilonEdge }
     ensures letters { IfOk result (λ m. (x : L) → UsesLetter m x → UsesLetter a.now x) }
     ensures language { IfOk result (λ m. (w : List L) → Accepts m w ↔ Accepts a.now w) }
 {
-    let rows = Rows::of(alloc, a.edges())?;
+    let rows = EdgesByState::of(alloc, a.edges())?;
     let entered = entered_states(alloc, a)?;
     let mut m = Fsa::of_states(alloc, vec![in alloc; false; a.states()]?);
     bypass(alloc, &mut m, a, &rows, entered.found())?;
     Ok(m)
 }
 
-/// Gives each of the states the lettered edges of the states that silent edges reach from it, and makes it final
+/// Gives each of the states the lettered edges of the states that epsilon edges reach from it, and makes it final
 /// where one of them is.
 fn bypass<L: Letter>(
     alloc: Global,
     m: &mut Fsa<L>,
     a: &Fsa<L>,
-    rows: &Rows<L>,
+    rows: &EdgesByState<L>,
     states: &[usize],
 ) -> Result<(), AllocError>
     requires edges { m.old.edges ≡ [] }
@@ -41,7 +41,7 @@ fn bypass<L: Letter>(
     requires states { All (λ q. q < length a.now.finals) states.now }
     ensures { OnOk result (IsBypassed rows.now a.now.finals (Contains states.now) m.new) }
 {
-    let mut reached = Marked::new(alloc, a.states())?;
+    let mut reached = NumberSet::new(alloc, a.states())?;
     for state in states {
         reach(rows, *state, &mut reached)?;
         take_over(m, *state, a, rows, reached.found())?;
@@ -50,12 +50,12 @@ fn bypass<L: Letter>(
 }
 
 /// The start, and the states that an edge with a letter enters.
-fn entered_states<L: Letter>(alloc: Global, a: &Fsa<L>) -> Result<Marked, AllocError>
+fn entered_states<L: Letter>(alloc: Global, a: &Fsa<L>) -> Result<NumberSet, AllocError>
     ensures bound { IfOk result (λ states. states.bound ≡ length a.now.finals) }
     ensures start { IfOk result (λ states. Contains states.found 0) }
     ensures targets { IfOk result (λ states. (e : Edge L) (x : L) → Contains a.now.edges e → e.letter ≡ Some x → Contains states.found e.to) }
 {
-    let mut states = Marked::new(alloc, a.states())?;
+    let mut states = NumberSet::new(alloc, a.states())?;
     states.add(0)?;
     for edge in a.edges() {
         if edge.letter.is_some() {
@@ -65,8 +65,12 @@ fn entered_states<L: Letter>(alloc: Global, a: &Fsa<L>) -> Result<Marked, AllocE
     Ok(states)
 }
 
-/// Finds the states that silent edges reach from a state, itself among them.
-fn reach<L: Letter>(rows: &Rows<L>, state: usize, reached: &mut Marked) -> Result<(), AllocError>
+/// Finds the states that epsilon edges reach from a state, itself among them.
+fn reach<L: Letter>(
+    rows: &EdgesByState<L>,
+    state: usize,
+    reached: &mut NumberSet,
+) -> Result<(), AllocError>
     requires state { state < reached.old.bound }
     requires within { AreWithin rows.now reached.old.bound }
     ensures bound { OnOk result (reached.new.bound ≡ reached.old.bound) }
@@ -82,7 +86,7 @@ fn take_over<L: Letter>(
     m: &mut Fsa<L>,
     state: usize,
     a: &Fsa<L>,
-    rows: &Rows<L>,
+    rows: &EdgesByState<L>,
     reached: &[usize],
 ) -> Result<(), AllocError>
     requires state { state < length m.old.finals }

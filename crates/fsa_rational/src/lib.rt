@@ -3,17 +3,20 @@
 //! every word, whether the result accepts it.
 //!
 //! - [`union`], [`concat`], [`star`], [`reverse`]: the operations on sets of words.
-//! - [`without_empty`]: the same language with no silent edge.
+//! - [`ignore`]: words with words of another language put in.
+//! - [`without_empty`]: the same language with no epsilon edge.
 //! - [`image`], [`preimage`]: the words that a table of letters gives, and the words for which it gives one.
 #![tactic(auto)]
 
 mod extend;
+mod insertion;
 mod join;
 mod lettered;
 mod reversal;
 mod rows;
 mod translate;
 
+pub use insertion::ignore;
 pub use join::{concat, star, union};
 pub use lettered::without_empty;
 pub use reversal::reverse;

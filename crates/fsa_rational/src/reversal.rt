@@ -2,7 +2,7 @@ ghost use Rattle.std.specs.Prelude.{◌≡◌, ◌↔◌, IfOk, List, reverse};
 ghost use Rattle.fsa.specs.Automaton.{UsesLetter};
 ghost use Rattle.fsa.specs.Language.{Accepts};
 
-use crate::extend::{add_turned, enter_finals};
+use crate::extend::{add_reversed, enter_finals};
 use crate::join::one_state_more;
 use fsa::Fsa;
 use fsm_base::Letter;
@@ -16,7 +16,7 @@ pub fn reverse<L: Letter>(alloc: Global, a: &Fsa<L>) -> Result<Fsa<L>, AllocErro
     let edges = a.edges();
     let mut m = one_state_more(alloc, a)?;
     m.set_final(1);
-    add_turned(&mut m, edges, 1)?;
+    add_reversed(&mut m, edges, 1)?;
     enter_finals(&mut m, 0, a.finals(), 1)?;
     Ok(m)
 }

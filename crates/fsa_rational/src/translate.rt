@@ -1,11 +1,11 @@
 ghost use Rattle.std.specs.Prelude.{◌≡◌, ◌↔◌, ◌<◌, [], ◌∷◌, Some, None, IfOk, OnOk, List, Contains, Option, IsSortedByKey, IsPermutation, length};
 ghost use Rattle.std.specs.List.{filter_map};
-ghost use Rattle.fsm_words.specs.Words.{Translates};
+ghost use Rattle.word_relations.specs.Words.{Translates};
 ghost use Rattle.fsa.specs.Automaton.{UsesLetter};
 ghost use Rattle.fsa.specs.Language.{Accepts};
 ghost use Rattle.fsa_rational.specs.Shapes.{Extends, ForEach, ComesFrom, ImageOf, PreimageOf, LoopsBelow, loop_at};
 
-use crate::extend::add_silent;
+use crate::extend::add_epsilon;
 use crate::rows::{rows_at, sorted_rows};
 use fsa::{Edge, Fsa};
 use fsm_base::Letter;
@@ -50,7 +50,7 @@ fn add_image<L: Letter, M: Letter>(
     ensures { OnOk result (Extends m.old m.new (ImageOf rows.now edge.now)) }
 {
     let Some(letter) = edge.letter else {
-        return add_silent(m, edge.from, edge.to);
+        return add_epsilon(m, edge.from, edge.to);
     };
     for row in rows_at(rows, letter) {
         m.add_edge(Edge {
@@ -125,7 +125,7 @@ fn add_preimage<L: Letter, M: Letter>(
     ensures { OnOk result (Extends m.old m.new (PreimageOf rows.now edge.now)) }
 {
     let Some(letter) = edge.letter else {
-        return add_silent(m, edge.from, edge.to);
+        return add_epsilon(m, edge.from, edge.to);
     };
     for row in rows_at(rows, letter) {
         m.add_edge(Edge {

@@ -3,15 +3,15 @@ use Rattle.std.proofs.Common.{◌≡◌, ℕ, zero, suc, ◌-◌, ◌<◌, ◌�
 use Rattle.std.specs.List.{Contains, slice_get}
 use Rattle.std.proofs.lemmas.List.{length_push}
 use Rattle.std.proofs.lemmas.Option.{slice_get_within, slice_get-get_or}
-use Rattle.fsm_words.proofs.Members.{Contains-map, Contains-map_cases}
-use Rattle.fsm_words.proofs.Places.{same_at, slice_get-append_cases}
+use Rattle.word_relations.proofs.Members.{Contains-map, Contains-map_cases}
+use Rattle.word_relations.proofs.Places.{same_at, slice_get-append_cases}
 use Rattle.fsa.specs.declared.automaton.Edge.{Edge}
-use Rattle.fsa_walk.specs.Targets.{AreWithin}
+use Rattle.fsa_explore.specs.Targets.{AreWithin}
 use Rattle.fsa_reduce.specs.Numbering.{Keeps}
-use Rattle.fsa_walk.specs.Signatures.{IsSignature, edge_mark, known_class}
+use Rattle.fsa_explore.specs.Signatures.{IsSignature, edge_mark, known_class}
 use Rattle.fsa_reduce.specs.Classes.{IsIn, AreClasses}
 use Rattle.fsa_reduce.proofs.Kept.{Keeps-get, Keeps-push, Keeps-then}
-use Rattle.fsa_walk.proofs.Signed.{signatures_agree, letter_same, target_same}
+use Rattle.fsa_explore.proofs.Signed.{signatures_agree, letter_same, target_same}
 
 -- these are the edges that leave the state
 abbrev pub AreOut : List (Edge ℕ) → ℕ → List (Edge ℕ) → Type 0

@@ -3,8 +3,8 @@ use Rattle.std.proofs.Common.{◌≡◌, ℕ, zero, suc, ◌+◌, ◌<◌, ◌�
 use Rattle.std.specs.List.{Contains, slice_get}
 use Rattle.std.proofs.lemmas.Bool.{cases_lt}
 use Rattle.std.proofs.lemmas.Option.{slice_get_within}
-use Rattle.fsm_words.proofs.Members.{Contains-nil_cases}
-use Rattle.fsm_words.proofs.Places.{same_at}
+use Rattle.word_relations.proofs.Members.{Contains-nil_cases}
+use Rattle.word_relations.proofs.Places.{same_at}
 use Rattle.fsa.specs.Automaton.{Automaton, UsesLetter}
 use Rattle.fsa.specs.Language.{AcceptsFrom, Accepts, stop, read, skip}
 use Rattle.fsa.specs.declared.automaton.Edge.{Edge}

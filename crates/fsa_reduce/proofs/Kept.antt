@@ -3,7 +3,7 @@ use Rattle.std.proofs.Common.{◌≡◌, ℕ, List, [], ◌∷◌, ◌++◌, Som
 use Rattle.std.specs.List.{slice_get}
 use Rattle.std.proofs.lemmas.List.{append-nil}
 use Rattle.std.proofs.lemmas.Option.{slice_get_within}
-use Rattle.fsm_words.proofs.Places.{slice_get-append_left}
+use Rattle.word_relations.proofs.Places.{slice_get-append_left}
 use Rattle.fsa_reduce.specs.Numbering.{Keeps}
 
 module _ {X : Type 0} where

@@ -4,9 +4,9 @@ use Rattle.std.specs.List.{slice_get}
 use Rattle.std.proofs.lemmas.Bool.{cases_eq}
 use Rattle.std.proofs.lemmas.List.{length-set, length-replicate}
 use Rattle.std.proofs.lemmas.Option.{slice_get_within}
-use Rattle.fsm_words.proofs.Places.{same_at, slice_get-set_same, slice_get-set_other}
+use Rattle.word_relations.proofs.Places.{same_at, slice_get-set_same, slice_get-set_other}
 use Rattle.fsa_rational.proofs.Walks.{unmarked_states}
-use Rattle.fsa_walk.proofs.Grouping.{last_or_before}
+use Rattle.fsa_explore.proofs.Grouping.{last_or_before}
 
 -- a state before this one is final and in the class
 abbrev pub HasFinalBefore : List Bool → List ℕ → ℕ → ℕ → Type 0

@@ -4,8 +4,8 @@ use Rattle.std.specs.List.{Contains, slice_get}
 use Rattle.std.proofs.lemmas.Option.{slice_get-get_or, slice_get_within, get_or_from_slice_get, same_Some}
 use Rattle.std.proofs.lemmas.List.{take_more}
 use Rattle.std.proofs.lemmas.List.Elements.{Contains-push_cases, Contains-push, Contains-append_left}
-use Rattle.fsm_words.proofs.Members.{Contains-nil_cases}
-use Rattle.fsm_words.proofs.Places.{same_at}
+use Rattle.word_relations.proofs.Members.{Contains-nil_cases}
+use Rattle.word_relations.proofs.Places.{same_at}
 use Rattle.fsa.specs.Automaton.{Automaton, IsWellFormed, UsesLetter}
 use Rattle.fsa.specs.Language.{AcceptsFrom, Accepts, stop, read, skip}
 use Rattle.fsa.specs.declared.automaton.Edge.{Edge}

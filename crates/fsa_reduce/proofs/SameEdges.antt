@@ -5,7 +5,7 @@ use Rattle.std.specs.Option.{option_eq}
 use Rattle.std.specs.Cmp.{IsEquivalence}
 use Rattle.fsa.specs.declared.automaton.Edge.{Edge}
 use Rattle.fsa.proofs.Arcs.{edge_same}
-use Rattle.fsa_walk.proofs.SameMarks.{both, numbers_same, number_itself, all_true, same_answers}
+use Rattle.fsa_explore.proofs.SameMarks.{both, numbers_same, number_itself, all_true, same_answers}
 
 abbrev pub edge_eq : Edge ℕ → Edge ℕ → Bool
 edge_eq x y = nat_eq x.from y.from && (option_eq nat_eq x.letter y.letter && nat_eq x.to y.to)

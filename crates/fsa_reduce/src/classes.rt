@@ -1,10 +1,10 @@
 ghost use Rattle.std.specs.Prelude.{◌≡◌, ◌<◌, ◌-◌, ℕ, Some, IfOk, OnOk, map, reverse, take, length, slice_get, slice_index};
-ghost use Rattle.fsa_walk.specs.Targets.{AreWithin};
+ghost use Rattle.fsa_explore.specs.Targets.{AreWithin};
 ghost use Rattle.fsa_reduce.specs.Numbering.{Keeps};
 ghost use Rattle.fsa_reduce.specs.Classes.{AreAlike, AreClasses, renumbered};
 
 use fsa::Edge;
-use fsa_walk::{Rows, Table, signature_of};
+use fsa_explore::{EdgesByState, ListTable, signature_of};
 use std::alloc::{AllocError, Global};
 
 /// Classes of states that go on alike.
@@ -31,7 +31,7 @@ pub fn classes_of(
     ensures start { IfOk result (λ c. slice_get c.of_states.items 0 ≡ Some 0) }
     ensures alike { IfOk result (λ c. AreAlike finals.now edges.now c.of_states.items c.count) }
 {
-    let found = classes_back(alloc, finals, &Rows::of(alloc, edges)?, ends_first)?;
+    let found = classes_back(alloc, finals, &EdgesByState::of(alloc, edges)?, ends_first)?;
     let of_states = from_start(alloc, &found.of_states, found.count)?;
     Ok(Classes {
         of_states,
@@ -43,13 +43,13 @@ pub fn classes_of(
 fn classes_back(
     alloc: Global,
     finals: &[bool],
-    rows: &Rows<usize>,
+    rows: &EdgesByState<usize>,
     ends_first: bool,
 ) -> Result<Classes, AllocError>
     requires { AreWithin rows.now (length finals.now) }
     ensures { IfOk result (λ c. AreClasses finals.now rows.now c.of_states.items c.count) }
 {
-    let mut signatures = Table::new(alloc);
+    let mut signatures = ListTable::new(alloc);
     let mut classes = Vec::new(alloc);
     number_nowhere(alloc, &mut signatures)?;
     while classes.len() < finals.len() {
@@ -66,14 +66,14 @@ fn classes_back(
 
 /// Numbers the signature of a state that isn't final and that no edge leaves. Its class is the first one found, and
 /// the last one of the new numbers, so that `without_last` finds it.
-fn number_nowhere(alloc: Global, signatures: &mut Table) -> Result<(), AllocError> {
+fn number_nowhere(alloc: Global, signatures: &mut ListTable) -> Result<(), AllocError> {
     let signature = signature_of(alloc, false, &[], &[], 0)?;
     number_of(alloc, signatures, &signature)?;
     Ok(())
 }
 
 /// The number of a list, which is added where it isn't there.
-fn number_of(alloc: Global, table: &mut Table, list: &[usize]) -> Result<usize, AllocError>
+fn number_of(alloc: Global, table: &mut ListTable, list: &[usize]) -> Result<usize, AllocError>
     ensures number { IfOk result (λ k. slice_get table.new k ≡ Some list.now) }
     ensures kept { OnOk result (Keeps table.old table.new) }
 {

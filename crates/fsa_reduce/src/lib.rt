@@ -2,18 +2,18 @@
 //! Introduction to Automata Theory, section 4.4; what is merged here is what edges show to be alike at once, and
 //! not all that has the same language).
 //!
-//! - [`reduced`]: merges states, takes silent edges away where that is cheap, and merges again.
+//! - [`reduced`]: merges states, takes epsilon edges away where that is cheap, and merges again.
 //! - `merging`: an automaton with one state for each class of states. `classes`: which states go on alike.
 //!   `numbering`: numbers in place of letters.
-//! - `cutting`: an automaton without a last state that nothing reaches. `silent`: whether silent edges
+//! - `cutting`: an automaton without a last state that nothing reaches. `epsilon`: whether epsilon edges
 //!   are cheap to take away.
 #![tactic(auto)]
 
 mod classes;
 mod cutting;
+mod epsilon;
 mod merging;
 mod numbering;
 mod reduction;
-mod silent;
 
 pub use reduction::reduced;

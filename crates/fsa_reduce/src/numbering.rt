@@ -6,7 +6,7 @@ use fsa::Edge;
 use fsm_base::Letter;
 use std::alloc::{AllocError, Global};
 
-/// Edges with numbers in place of their letters, silence being a letter too.
+/// Edges with numbers in place of their letters, none being a letter of its own.
 #[derive(Drop)]
 pub struct Numbered<L> {
     /// The letter of each number.

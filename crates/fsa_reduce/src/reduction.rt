@@ -2,8 +2,8 @@ ghost use Rattle.std.specs.Prelude.{◌≡◌, ◌↔◌, IfOk, List};
 ghost use Rattle.fsa.specs.Automaton.{UsesLetter};
 ghost use Rattle.fsa.specs.Language.{Accepts};
 
+use crate::epsilon::is_cheap;
 use crate::merging::merged;
-use crate::silent::is_cheap;
 use fsa::Fsa;
 use fsa_rational::without_empty;
 use fsm_base::Letter;
@@ -13,7 +13,7 @@ use std::alloc::{AllocError, Global};
 /// one in any case.
 const PASSES: usize = 500;
 
-/// A smaller automaton of the same language: states that go on alike become one, and silent edges go away where
+/// A smaller automaton of the same language: states that go on alike become one, and epsilon edges go away where
 /// that is cheap. Takes time in proportion to the edges, which are sorted.
 pub fn reduced<L: Letter>(alloc: Global, a: &Fsa<L>) -> Result<Fsa<L>, AllocError>
     ensures letters { IfOk result (λ m. (x : L) → UsesLetter m x → UsesLetter a.now x) }

@@ -6,8 +6,8 @@ use Rattle.std.specs.Ordering.{is_eq}
 use Rattle.std.specs.declared.cmp.Ordering.{Ordering}
 use Rattle.std.specs.declared.cmp.Ordering.TheVariants.{Less, Equal, Greater}
 use Rattle.std.proofs.lemmas.Option.{same_Some, slice_get_within}
-use Rattle.fsm_words.proofs.Places.{slice_get-append_cases, slice_get-append_left, slice_get-push}
-use Rattle.fsm_words.specs.Words.{IsDistinct}
+use Rattle.word_relations.proofs.Places.{slice_get-append_cases, slice_get-append_left, slice_get-push}
+use Rattle.word_relations.specs.Words.{IsDistinct}
 use Rattle.fsa_subset.specs.Placed.{AreFound}
 
 pub found_some : (o : Option ℕ) → is_some o ≡ true → (k : ℕ) × (o ≡ Some k)

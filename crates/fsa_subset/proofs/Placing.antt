@@ -5,17 +5,17 @@ use Rattle.std.specs.Option.{option_and_then}
 use Rattle.std.proofs.lemmas.Option.{slice_get_within, same_Some, none-some}
 use Rattle.std.proofs.lemmas.List.{take_all}
 use Rattle.std.proofs.lemmas.List.Sorted.{Contains-permutation, IsPermutation-sym}
-use Rattle.fsm_words.proofs.Members.{Contains-map, Contains-map_cases}
-use Rattle.fsm_words.proofs.Places.{slice_get_from_Contains}
+use Rattle.word_relations.proofs.Members.{Contains-map, Contains-map_cases}
+use Rattle.word_relations.proofs.Places.{slice_get_from_Contains}
 use Rattle.fsa.specs.declared.automaton.Edge.{Edge}
-use Rattle.fsa_walk.specs.Targets.{AreWithin}
+use Rattle.fsa_explore.specs.Targets.{AreWithin}
 use Rattle.fsa_subset.specs.Placed.{Goes, IsPlaced, FindsPlaces, at_place}
-use Rattle.fsa_subset.specs.declared.places.Place.{Place}
+use Rattle.fsa_subset.specs.declared.places.LetterIndex.{LetterIndex}
 
-module _ {L : Type 0} (letters : List L) (find : L → Option Place) (finds : FindsPlaces letters (length letters) find) (edges : List (Edge L)) (all : (e : Edge L) (x : L) → Contains edges e → e.letter ≡ Some x → Contains letters x) where
+module _ {L : Type 0} (letters : List L) (find : L → Option LetterIndex) (finds : FindsPlaces letters (length letters) find) (edges : List (Edge L)) (all : (e : Edge L) (x : L) → Contains edges e → e.letter ≡ Some x → Contains letters x) where
   -- the letter of an edge, by what is found for it
   letter_of : (e : Edge L) → Contains edges e → (o : Option L) → e.letter ≡ o → (k : ℕ) → option_and_then find o ≡ Some (record { 0 = k }) → (x : L) × (slice_get letters k ≡ Some x) × (e.letter ≡ Some x)
-  letter_of e held None is k found = let place : Place = record { 0 = k } in absurd (none-some place found)
+  letter_of e held None is k found = let place : LetterIndex = record { 0 = k } in absurd (none-some place found)
   letter_of e held (Some x) is k found =
       let place = slice_get_from_Contains letters x (all e x held is) in
       let j : ℕ = place.0 in
@@ -53,7 +53,7 @@ module _ {L : Type 0} (letters : List L) (find : L → Option Place) (finds : Fi
   map_placed = record {
     only = placed_only;
     all = placed_all;
-    silent = λ p q. (
+    epsilon = λ p q. (
       λ h.
           let r = Contains-map_cases (at_place find) edges (record { from = p; letter = None; to = q }) h in
           let e : Edge L = r.0 in
@@ -63,27 +63,27 @@ module _ {L : Type 0} (letters : List L) (find : L → Option Place) (finds : Fi
   }
 
   -- what the loop over the edges leaves
-  pub loop_placed : (placed : List (Edge Place)) (i : ℕ) → length edges ≤ i → placed ≡ map (at_place find) (take i edges) → IsPlaced letters edges placed
+  pub loop_placed : (placed : List (Edge LetterIndex)) (i : ℕ) → length edges ≤ i → placed ≡ map (at_place find) (take i edges) → IsPlaced letters edges placed
   loop_placed placed i past is = subst (IsPlaced letters edges) (sym (is ∙ ap (map (at_place find)) (take_all i edges past))) map_placed
 
 -- the same edges in another order
-pub IsPlaced-permutation : {L : Type 0} (letters : List L) (edges : List (Edge L)) (placed sorted : List (Edge Place)) → IsPermutation placed sorted → IsPlaced letters edges placed → IsPlaced letters edges sorted
+pub IsPlaced-permutation : {L : Type 0} (letters : List L) (edges : List (Edge L)) (placed sorted : List (Edge LetterIndex)) → IsPermutation placed sorted → IsPlaced letters edges placed → IsPlaced letters edges sorted
 IsPlaced-permutation letters edges placed sorted same is =
-    let there : (e : Edge Place) → Contains placed e → Contains sorted e = λ e. Contains-permutation placed sorted e same in
-    let back : (e : Edge Place) → Contains sorted e → Contains placed e = λ e. Contains-permutation sorted placed e (IsPermutation-sym placed sorted same) in
+    let there : (e : Edge LetterIndex) → Contains placed e → Contains sorted e = λ e. Contains-permutation placed sorted e same in
+    let back : (e : Edge LetterIndex) → Contains sorted e → Contains placed e = λ e. Contains-permutation sorted placed e (IsPermutation-sym placed sorted same) in
     record {
       only = λ p k q h. is.only p k q (back (record { from = p; letter = Some (record { 0 = k }); to = q }) h);
       all = λ p k q x at h. there (record { from = p; letter = Some (record { 0 = k }); to = q }) (is.all p k q x at h);
-      silent = λ p q. (
-        λ h. (is.silent p q).0 (back (record { from = p; letter = None; to = q }) h),
-        λ h. there (record { from = p; letter = None; to = q }) ((is.silent p q).1 h),
+      epsilon = λ p q. (
+        λ h. (is.epsilon p q).0 (back (record { from = p; letter = None; to = q }) h),
+        λ h. there (record { from = p; letter = None; to = q }) ((is.epsilon p q).1 h),
       );
     }
 
 -- the edges enter the same states
-pub placed_within : {L : Type 0} (letters : List L) (edges : List (Edge L)) (placed : List (Edge Place)) (bound : ℕ) → IsPlaced letters edges placed → ((e : Edge L) → Contains edges e → e.to < bound) → AreWithin placed bound
+pub placed_within : {L : Type 0} (letters : List L) (edges : List (Edge L)) (placed : List (Edge LetterIndex)) (bound : ℕ) → IsPlaced letters edges placed → ((e : Edge L) → Contains edges e → e.to < bound) → AreWithin placed bound
 placed_within {L} letters edges placed bound is within e h = go e.letter h
   where
-    go : (o : Option Place) → Goes placed e.from o e.to → e.to < bound
-    go None held = within (record { from = e.from; letter = None; to = e.to }) ((is.silent e.from e.to).0 held)
+    go : (o : Option LetterIndex) → Goes placed e.from o e.to → e.to < bound
+    go None held = within (record { from = e.from; letter = None; to = e.to }) ((is.epsilon e.from e.to).0 held)
     go (Some p) held = let r = is.only e.from p.0 e.to held in within (record { from = e.from; letter = Some r.0; to = e.to }) r.2

@@ -1,20 +1,20 @@
--- Sets of states: what silent edges add, and where the letters lead.
+-- Sets of states: what epsilon edges add, and where the letters lead.
 use Rattle.std.proofs.Common.{◌≡◌, ℕ, ◌+◌, ◌<◌, ◌≤◌, ◌↔◌, List, [], ◌∷◌, ◌++◌, Bool, Option, Some, None, IsPermutation, length, get_or, take, refl, subst, sym, ap, inl, inr, ◌∙◌}
 use Rattle.std.specs.List.{Contains, flat_map}
 use Rattle.std.proofs.lemmas.List.{take_more, take_all}
 use Rattle.std.proofs.lemmas.List.Elements.{Contains-push_cases, Contains-push, Contains-append_left, Contains-append_right, Contains-append_cases, Contains-get_or}
 use Rattle.std.proofs.lemmas.List.Sorted.{Contains-permutation, IsPermutation-sym}
-use Rattle.fsm_words.proofs.Members.{Contains-nil_cases, Contains-cons_cases, Contains-head, Contains-tail}
+use Rattle.word_relations.proofs.Members.{Contains-nil_cases, Contains-cons_cases, Contains-head, Contains-tail}
 use Rattle.fsa.specs.declared.automaton.Edge.{Edge}
-use Rattle.fsa_walk.specs.Marks.{Marks, IsBounded, Adds}
-use Rattle.fsa_walk.specs.Reaches.{Reaches, IsReached, here}
-use Rattle.fsa_walk.specs.Targets.{IsTarget, AreWithin}
-use Rattle.fsa_walk.proofs.Closed.{Reaches-push}
+use Rattle.fsa_explore.specs.Marks.{Marks, IsBounded, Adds}
+use Rattle.fsa_explore.specs.Reaches.{Reaches, IsReached, here}
+use Rattle.fsa_explore.specs.Targets.{IsTarget, AreWithin}
+use Rattle.fsa_explore.proofs.Closed.{Reaches-push}
 use Rattle.fsa_subset.specs.Placed.{Goes}
-use Rattle.fsa_walk.specs.Explored.{Numbered, AddsRow}
-use Rattle.fsa_walk.proofs.Exploring.{AddsRow-weaker}
+use Rattle.fsa_explore.specs.Explored.{Numbered, AddsRow}
+use Rattle.fsa_explore.proofs.Exploring.{AddsRow-weaker}
 use Rattle.fsa_subset.specs.Sets.{Placed, IsStateSet, LeadsTo, IsSettled, AreMoves, IsTargetSet, from_letter, from_place}
-use Rattle.fsa_subset.specs.declared.places.Place.{Place}
+use Rattle.fsa_subset.specs.declared.places.LetterIndex.{LetterIndex}
 
 -- an edge is what it is made of
 pub goes_from : {X : Type 0} (edges : List (Edge X)) (e : Edge X) (p q : ℕ) (o : Option X) → Contains edges e → e.from ≡ p → e.letter ≡ o → e.to ≡ q → Goes edges p o q
@@ -23,20 +23,20 @@ goes_from {X} edges e p q o held from letter to =
     subst (λ a. at a o q) from (subst (λ b. at e.from b q) letter (subst (λ c. at e.from e.letter c) to held))
 
 -- the moves of one letter
-from_letter_cases : (o : Option Place) (to : ℕ) (e : Edge Place) → Contains (from_letter o to) e → (e.letter ≡ None) × (o ≡ Some (record { 0 = e.from })) × (to ≡ e.to)
+from_letter_cases : (o : Option LetterIndex) (to : ℕ) (e : Edge LetterIndex) → Contains (from_letter o to) e → (e.letter ≡ None) × (o ≡ Some (record { 0 = e.from })) × (to ≡ e.to)
 from_letter_cases None to e h = absurd (Contains-nil_cases e h)
 from_letter_cases (Some p) to e h =
-    let first : Edge Place = record { from = p.0; letter = None; to = to } in
+    let first : Edge LetterIndex = record { from = p.0; letter = None; to = to } in
     elim (Contains-cons_cases first [] e h) [
       | inl same ↦
           let place_is : p.0 ≡ e.from = ap (λ y. y.from) same in
-          let as_place : ℕ → Place = λ k. record { 0 = k } in
+          let as_place : ℕ → LetterIndex = λ k. record { 0 = k } in
           (sym (ap (λ y. y.letter) same), ap (λ k. Some (as_place k)) place_is, ap (λ y. y.to) same)
       | inr past ↦ absurd (Contains-nil_cases e past)
     ]
 
 -- the moves of edges
-from_place_cases : (edges : List (Edge Place)) (e : Edge Place) → Contains (flat_map from_place edges) e → (e.letter ≡ None) × ((p : ℕ) × Goes edges p (Some (record { 0 = e.from })) e.to)
+from_place_cases : (edges : List (Edge LetterIndex)) (e : Edge LetterIndex) → Contains (flat_map from_place edges) e → (e.letter ≡ None) × ((p : ℕ) × Goes edges p (Some (record { 0 = e.from })) e.to)
 from_place_cases [] e h = absurd (Contains-nil_cases e h)
 from_place_cases (first ∷ edges) e h =
     elim (Contains-append_cases (from_letter first.letter first.to) (flat_map from_place edges) e h) [
@@ -48,11 +48,11 @@ from_place_cases (first ∷ edges) e h =
           (t.0, (t.1.0, Contains-tail first edges (record { from = t.1.0; letter = Some (record { 0 = e.from }); to = e.to }) t.1.1))
     ]
 
-from_place_has : (edges : List (Edge Place)) (p place r : ℕ) → Goes edges p (Some (record { 0 = place })) r → Goes (flat_map from_place edges) place None r
+from_place_has : (edges : List (Edge LetterIndex)) (p place r : ℕ) → Goes edges p (Some (record { 0 = place })) r → Goes (flat_map from_place edges) place None r
 from_place_has [] p place r h = absurd (Contains-nil_cases (record { from = p; letter = Some (record { 0 = place }); to = r }) h)
 from_place_has (e ∷ edges) p place r h =
-    let edge : Edge Place = record { from = p; letter = Some (record { 0 = place }); to = r } in
-    let this : Edge Place = record { from = place; letter = None; to = r } in
+    let edge : Edge LetterIndex = record { from = p; letter = Some (record { 0 = place }); to = r } in
+    let this : Edge LetterIndex = record { from = place; letter = None; to = r } in
     elim (Contains-cons_cases e edges edge h) [
       | inl same ↦
           let whole : Contains (flat_map from_place (edge ∷ edges)) this = Contains-append_left (this ∷ []) (flat_map from_place edges) this (Contains-head this []) in
@@ -60,16 +60,16 @@ from_place_has (e ∷ edges) p place r h =
       | inr rest ↦ Contains-append_right (from_letter e.letter e.to) (flat_map from_place edges) this (from_place_has edges p place r rest)
     ]
 
--- the silent edge with these ends
-silent_edge : (edges : List (Edge Place)) (e : Edge Place) → e.letter ≡ None → Goes edges e.from None e.to → Contains edges e
-silent_edge edges e silent h = subst (λ o. Goes edges e.from o e.to) (sym silent) h
+-- the epsilon edge with these ends
+epsilon_edge : (edges : List (Edge LetterIndex)) (e : Edge LetterIndex) → e.letter ≡ None → Goes edges e.from None e.to → Contains edges e
+epsilon_edge edges e epsilon h = subst (λ o. Goes edges e.from o e.to) (sym epsilon) h
 
 -- what one more state of the set adds to the moves
-module _ (rows : List (Edge Place)) (set : List ℕ) where
+module _ (rows : List (Edge LetterIndex)) (set : List ℕ) where
   pub moves_none : AreMoves rows (take 0 set) []
   moves_none e = (λ h. absurd (Contains-nil_cases e h), λ h. absurd (Contains-nil_cases h.1.0 h.1.1))
 
-  module _ (i p : ℕ) (inside : i < length set) (at : p ≡ get_or set i p) (out : List (Edge Place)) (leaves : (e : Edge Place) → Contains out e ↔ (Contains rows e × (e.from ≡ p))) (moves new : List (Edge Place)) (is : new ≡ moves ++ flat_map from_place out) (before : AreMoves rows (take i set) moves) where
+  module _ (i p : ℕ) (inside : i < length set) (at : p ≡ get_or set i p) (out : List (Edge LetterIndex)) (leaves : (e : Edge LetterIndex) → Contains out e ↔ (Contains rows e × (e.from ≡ p))) (moves new : List (Edge LetterIndex)) (is : new ≡ moves ++ flat_map from_place out) (before : AreMoves rows (take i set) moves) where
     front : take (i + 1) set ≡ take i set ++ p ∷ []
     front = take_more set i p inside ∙ ap (λ y. take i set ++ y ∷ []) (sym at)
 
@@ -89,31 +89,31 @@ module _ (rows : List (Edge Place)) (set : List ℕ) where
       λ m. subst (λ ms. Contains ms e) (sym is) (elim (Contains-push_cases (take i set) p m.1.0 (subst (λ ps. Contains ps m.1.0) front m.1.1)) [
         | inl old ↦ Contains-append_left moves (flat_map from_place out) e ((before e).1 (m.0, (m.1.0, old, m.1.2)))
         | inr same ↦
-            let edge : Edge Place = record { from = m.1.0; letter = Some (record { 0 = e.from }); to = e.to } in
+            let edge : Edge LetterIndex = record { from = m.1.0; letter = Some (record { 0 = e.from }); to = e.to } in
             let held : Contains out edge = (leaves edge).1 (m.1.2, sym same) in
-            Contains-append_right moves (flat_map from_place out) e (silent_edge (flat_map from_place out) e m.0 (from_place_has out m.1.0 e.from e.to held))
+            Contains-append_right moves (flat_map from_place out) e (epsilon_edge (flat_map from_place out) e m.0 (from_place_has out m.1.0 e.from e.to held))
       ]),
     )
 
   -- when each state was looked at
-  pub moves_all : (i : ℕ) (moves : List (Edge Place)) → length set ≤ i → AreMoves rows (take i set) moves → AreMoves rows set moves
+  pub moves_all : (i : ℕ) (moves : List (Edge LetterIndex)) → length set ≤ i → AreMoves rows (take i set) moves → AreMoves rows set moves
   moves_all i moves past = subst (λ ps. AreMoves rows ps moves) (take_all i set past)
 
   -- the same moves in another order
-  pub moves_sorted : (moves sorted : List (Edge Place)) → IsPermutation moves sorted → AreMoves rows set moves → AreMoves rows set sorted
+  pub moves_sorted : (moves sorted : List (Edge LetterIndex)) → IsPermutation moves sorted → AreMoves rows set moves → AreMoves rows set sorted
   moves_sorted moves sorted same are e = (
     λ h. (are e).0 (Contains-permutation sorted moves e (IsPermutation-sym moves sorted same) h),
     λ h. Contains-permutation moves sorted e same ((are e).1 h),
   )
 
   -- moves enter states that are there
-  pub moves_within : (moves : List (Edge Place)) (bound : ℕ) → AreMoves rows set moves → AreWithin rows bound → AreWithin moves bound
+  pub moves_within : (moves : List (Edge LetterIndex)) (bound : ℕ) → AreMoves rows set moves → AreWithin rows bound → AreWithin moves bound
   moves_within moves bound is within e h =
       let m = (is e).0 h in
       within (record { from = m.1.0; letter = Some (record { 0 = e.from }); to = e.to }) m.1.2
 
 -- a closed set, as a sorted list
-module _ (rows : List (Edge Place)) (old new : Marks) (adds : Adds old new (IsReached rows old.found)) (bounded : IsBounded new) (set : List ℕ) (same : IsPermutation new.found set) where
+module _ (rows : List (Edge LetterIndex)) (old new : Marks) (adds : Adds old new (IsReached rows old.found)) (bounded : IsBounded new) (set : List ℕ) (same : IsPermutation new.found set) where
   pub settled_set : (q : ℕ) → Contains set q ↔ IsReached rows old.found q
   settled_set q = (
     λ h. elim (adds.grows.only q (Contains-permutation set new.found q (IsPermutation-sym new.found set same) h)) [
@@ -139,7 +139,7 @@ module _ (rows : List (Edge Place)) (old new : Marks) (adds : Adds old new (IsRe
   settled_is = record { closed = settled_closed; within = settled_within }
 
 -- the set that one letter leads to, by what the targets and their closure add
-pub target_set_is : (rows out : List (Edge Place)) (start targets : Marks) → start.found ≡ [] → Adds start targets (IsTarget out None) → (set : List ℕ) → ((q : ℕ) → Contains set q ↔ IsReached rows targets.found q) → (q : ℕ) → Contains set q ↔ ((r : ℕ) × IsTarget out None r × Reaches rows r q)
+pub target_set_is : (rows out : List (Edge LetterIndex)) (start targets : Marks) → start.found ≡ [] → Adds start targets (IsTarget out None) → (set : List ℕ) → ((q : ℕ) → Contains set q ↔ IsReached rows targets.found q) → (q : ℕ) → Contains set q ↔ ((r : ℕ) × IsTarget out None r × Reaches rows r q)
 target_set_is rows out start targets none adds set is q = (
   λ h.
       let r = (is q).0 h in
@@ -151,21 +151,21 @@ target_set_is rows out start targets none adds set is q = (
 )
 
 -- one more letter
-pub target_of : (rows moves out : List (Edge Place)) (place : ℕ) → ((e : Edge Place) → Contains out e ↔ (Contains moves e × (e.from ≡ place))) → (set : List ℕ) → ((q : ℕ) → Contains set q ↔ ((r : ℕ) × IsTarget out None r × Reaches rows r q)) → IsTargetSet rows moves place set
+pub target_of : (rows moves out : List (Edge LetterIndex)) (place : ℕ) → ((e : Edge LetterIndex) → Contains out e ↔ (Contains moves e × (e.from ≡ place))) → (set : List ℕ) → ((q : ℕ) → Contains set q ↔ ((r : ℕ) × IsTarget out None r × Reaches rows r q)) → IsTargetSet rows moves place set
 target_of rows moves out place leaves set is q = (
   λ h.
       let t = (is q).0 h in
       let r : ℕ = t.0 in
-      let e : Edge Place = t.1.0 in
+      let e : Edge LetterIndex = t.1.0 in
       let l = (leaves e).0 t.1.1 in
       (r, goes_from moves e place r None l.0 l.1 t.1.2 t.1.3, t.2),
   λ g.
-      let e : Edge Place = record { from = place; letter = None; to = g.0 } in
+      let e : Edge LetterIndex = record { from = place; letter = None; to = g.0 } in
       (is q).1 (g.0, (e, (leaves e).1 (g.1, refl), refl, refl), g.2),
 )
 
 -- a row by the moves is a row of the subset construction
-pub row_of_sets : (m : Placed) (rows : List (Edge Place)) (finals : List Bool) (letters bound : ℕ) (moves : List (Edge Place)) (set : List ℕ) (found new : Numbered) → record { edges = rows; finals = finals; letters = letters } ≡ m → bound ≡ length finals → AreMoves rows set moves → AddsRow (IsSettled rows bound) (IsTargetSet rows moves) letters found new → AddsRow (IsStateSet m) (LeadsTo m set) m.letters found new
+pub row_of_sets : (m : Placed) (rows : List (Edge LetterIndex)) (finals : List Bool) (letters bound : ℕ) (moves : List (Edge LetterIndex)) (set : List ℕ) (found new : Numbered) → record { edges = rows; finals = finals; letters = letters } ≡ m → bound ≡ length finals → AreMoves rows set moves → AddsRow (IsSettled rows bound) (IsTargetSet rows moves) letters found new → AddsRow (IsStateSet m) (LeadsTo m set) m.letters found new
 row_of_sets m rows finals letters bound moves set found new view is_bound are row =
     let of : Placed = record { edges = rows; finals = finals; letters = letters } in
     let whole : AddsRow (IsStateSet of) (LeadsTo of set) letters found new =
@@ -177,8 +177,8 @@ row_of_sets m rows finals letters bound moves set found new view is_bound are ro
     )) row in
     subst (λ v. AddsRow (IsStateSet v) (LeadsTo v set) v.letters found new) view whole
 
--- the set of the start alone and what silent edges reach from it
-pub start_is : (rows : List (Edge Place)) (old new : Marks) → old.found ≡ [] → Adds old new (λ k. k ≡ 0) → (set : List ℕ) → ((q : ℕ) → Contains set q ↔ IsReached rows new.found q) → (q : ℕ) → Contains set q ↔ Reaches rows 0 q
+-- the set of the start alone and what epsilon edges reach from it
+pub start_is : (rows : List (Edge LetterIndex)) (old new : Marks) → old.found ≡ [] → Adds old new (λ k. k ≡ 0) → (set : List ℕ) → ((q : ℕ) → Contains set q ↔ IsReached rows new.found q) → (q : ℕ) → Contains set q ↔ Reaches rows 0 q
 start_is rows old new none adds set is q = (
   λ h.
       let r = (is q).0 h in

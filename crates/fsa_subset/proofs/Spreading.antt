@@ -6,13 +6,13 @@ use Rattle.std.proofs.lemmas.List.{append-nil, take_more, take_all}
 use Rattle.std.proofs.lemmas.List.Elements.{Contains-push_cases, Contains-push, Contains-append_left}
 use Rattle.std.proofs.lemmas.List.Sorted.{Contains-permutation, IsPermutation-sym}
 use Rattle.std.proofs.lemmas.Option.{slice_get_within}
-use Rattle.fsm_words.proofs.Members.{Contains-nil_cases}
-use Rattle.fsm_words.proofs.Places.{slice_get-append_left, same_at}
+use Rattle.word_relations.proofs.Members.{Contains-nil_cases}
+use Rattle.word_relations.proofs.Places.{slice_get-append_left, same_at}
 use Rattle.fsa.specs.declared.automaton.Edge.{Edge}
 use Rattle.fsa_subset.specs.Placed.{Goes}
 use Rattle.fsa_subset.specs.Partial.{Partial, AddsEdge, AddsSteps, IsStep, IsSpread}
 use Rattle.fsa_subset.specs.Sets.{AreMoves, HasMove, IsMove, IsSettled, IsTargetSet, LeadsBy}
-use Rattle.fsa_subset.specs.declared.places.Place.{Place}
+use Rattle.fsa_subset.specs.declared.places.LetterIndex.{LetterIndex}
 
 -- sets keep their numbers when more are found
 abbrev pub IsLonger : List (List ℕ) → List (List ℕ) → Type 0
@@ -28,7 +28,7 @@ longer_by : (old new : List (List ℕ)) (set : List ℕ) → (new ≡ old) ⊎ (
 longer_by old new set (inl same) = ([], same ∙ sym (append-nil old))
 longer_by old new set (inr is) = (set ∷ [], is)
 
-step_kept : (Leads : ℕ → List ℕ → Type 0) (number place : ℕ) (old new : List (List ℕ)) (e : Edge Place) → IsLonger old new → IsStep Leads number old place e → IsStep Leads number new place e
+step_kept : (Leads : ℕ → List ℕ → Type 0) (number place : ℕ) (old new : List (List ℕ)) (e : Edge LetterIndex) → IsLonger old new → IsStep Leads number old place e → IsStep Leads number new place e
 step_kept Leads number place old new e longer (from, letter, (to, at, leads)) = (from, letter, (to, kept_at old new longer e.to to at, leads))
 
 pub steps_none : (IsState : List ℕ → Type 0) (Leads : ℕ → List ℕ → Type 0) (number : ℕ) (places : List ℕ) (found : Partial) → AddsSteps IsState Leads number (Contains (take 0 places)) found found
@@ -46,7 +46,7 @@ pub steps_more : (IsState : List ℕ → Type 0) (Leads : ℕ → List ℕ → T
 steps_more IsState Leads number places i place set old now new within at state leads adds before =
     let front : take (i + 1) places ≡ take i places ++ place ∷ [] = take_more places i 0 within ∙ ap (λ y. take i places ++ y ∷ []) (sym at) in
     let longer : IsLonger now.sets new.sets = longer_by now.sets new.sets set adds.sets in
-    let edge : Edge Place = record { from = number; letter = Some (record { 0 = place }); to = adds.edge.0 } in
+    let edge : Edge LetterIndex = record { from = number; letter = Some (record { 0 = place }); to = adds.edge.0 } in
     let step : IsStep Leads number new.sets place edge = (refl, refl, (set, adds.edge.1, leads)) in
     record {
       sets = longer_then old.sets now.sets new.sets before.sets longer;
@@ -78,20 +78,20 @@ pub steps_all : (IsState : List ℕ → Type 0) (Leads : ℕ → List ℕ → Ty
 steps_all IsState Leads number places i old now past = subst (λ ps. AddsSteps IsState Leads number (Contains ps) old now) (take_all i places past)
 
 -- the places of the moves are those by which an edge leaves the set
-module _ (rows : List (Edge Place)) (bound : ℕ) (set : List ℕ) (moves by_place : List (Edge Place)) (are : AreMoves rows set moves) (same : IsPermutation moves by_place) (places : List ℕ) (at : (place : ℕ) → Contains places place ↔ ((e : Edge Place) × Contains moves e × (e.from ≡ place))) where
+module _ (rows : List (Edge LetterIndex)) (bound : ℕ) (set : List ℕ) (moves by_place : List (Edge LetterIndex)) (are : AreMoves rows set moves) (same : IsPermutation moves by_place) (places : List ℕ) (at : (place : ℕ) → Contains places place ↔ ((e : Edge LetterIndex) × Contains moves e × (e.from ≡ place))) where
   goes_move : (place r : ℕ) → Goes by_place place None r → IsMove rows set place r
   goes_move place r h =
-      let e : Edge Place = record { from = place; letter = None; to = r } in
+      let e : Edge LetterIndex = record { from = place; letter = None; to = r } in
       ((are e).0 (Contains-permutation by_place moves e (IsPermutation-sym moves by_place same) h)).1
 
   move_goes : (place r : ℕ) → IsMove rows set place r → Goes by_place place None r
   move_goes place r move =
-      let e : Edge Place = record { from = place; letter = None; to = r } in
+      let e : Edge LetterIndex = record { from = place; letter = None; to = r } in
       Contains-permutation moves by_place e same ((are e).1 (refl, move))
 
   has_place : (place : ℕ) → HasMove rows set place → Contains places place
   has_place place (r, move) =
-      let e : Edge Place = record { from = place; letter = None; to = r } in
+      let e : Edge LetterIndex = record { from = place; letter = None; to = r } in
       (at place).1 (e, (are e).1 (refl, move), refl)
 
   place_has : (place : ℕ) → Contains places place → HasMove rows set place
@@ -105,7 +105,7 @@ module _ (rows : List (Edge Place)) (bound : ℕ) (set : List ℕ) (moves by_pla
     λ t. (is q).1 (t.0, move_goes place t.0 t.1, t.2),
   )
 
-  step_leads : (number place : ℕ) (sets : List (List ℕ)) (e : Edge Place) → IsStep (IsTargetSet rows by_place) number sets place e → IsStep (LeadsBy rows set) number sets place e
+  step_leads : (number place : ℕ) (sets : List (List ℕ)) (e : Edge LetterIndex) → IsStep (IsTargetSet rows by_place) number sets place e → IsStep (LeadsBy rows set) number sets place e
   step_leads number place sets e (from, letter, (to, there, is)) = (from, letter, (to, there, target_leads place to is))
 
   pub steps_leave : (number : ℕ) (old new : Partial) → AddsSteps (IsSettled rows bound) (IsTargetSet rows by_place) number (Contains places) old new → AddsSteps (IsSettled rows bound) (LeadsBy rows set) number (HasMove rows set) old new

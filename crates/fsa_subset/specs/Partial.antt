@@ -3,13 +3,13 @@
 -- set is a state by its number.
 use Rattle.std.specs.Prelude.{◌≡◌, ◌<◌, ◌++◌, ◌⊎◌, ◌↔◌, ℕ, List, [], ◌∷◌, Bool, true, Some, Contains, slice_get, length}
 use Rattle.fsa.specs.declared.automaton.Edge.{Edge}
-use Rattle.fsa_walk.specs.Reaches.{Reaches}
+use Rattle.fsa_explore.specs.Reaches.{Reaches}
 use Rattle.fsa_subset.specs.Sets.{IsSettled, LeadsBy, HasMove}
-use Rattle.fsa_subset.specs.declared.places.Place.{Place}
+use Rattle.fsa_subset.specs.declared.places.LetterIndex.{LetterIndex}
 
 pub record Partial : Type 0 where
   pub sets : List (List ℕ)
-  pub edges : List (Edge Place)
+  pub edges : List (Edge LetterIndex)
 
 -- an edge from the set with the number to the set, which is found where it wasn't yet
 pub record AddsEdge (number place : ℕ) (set : List ℕ) (old new : Partial) : Type 0 where
@@ -17,7 +17,7 @@ pub record AddsEdge (number place : ℕ) (set : List ℕ) (old new : Partial) : 
   pub edge : (to : ℕ) × (slice_get new.sets to ≡ Some set) × (new.edges ≡ old.edges ++ record { from = number; letter = Some (record { 0 = place }); to = to } ∷ [])
 
 -- the edge leads from the set with the number by the letter at the place
-abbrev pub IsStep : (ℕ → List ℕ → Type 0) → ℕ → List (List ℕ) → ℕ → Edge Place → Type 0
+abbrev pub IsStep : (ℕ → List ℕ → Type 0) → ℕ → List (List ℕ) → ℕ → Edge LetterIndex → Type 0
 IsStep Leads number sets place e =
     (e.from ≡ number) × (e.letter ≡ Some (record { 0 = place })) × ((to : List ℕ) × (slice_get sets e.to ≡ Some to) × Leads place to)
 
@@ -25,21 +25,21 @@ IsStep Leads number sets place e =
 pub record AddsSteps (IsState : List ℕ → Type 0) (Leads : ℕ → List ℕ → Type 0) (number : ℕ) (At : ℕ → Type 0) (old new : Partial) : Type 0 where
   pub sets : (more : List (List ℕ)) × (new.sets ≡ old.sets ++ more)
   pub states : (set : List ℕ) → Contains new.sets set → Contains old.sets set ⊎ IsState set
-  pub kept : (e : Edge Place) → Contains old.edges e → Contains new.edges e
-  pub only : (e : Edge Place) → Contains new.edges e → Contains old.edges e ⊎ ((place : ℕ) × At place × IsStep Leads number new.sets place e)
-  pub all : (place : ℕ) → At place → (e : Edge Place) × Contains new.edges e × IsStep Leads number new.sets place e
+  pub kept : (e : Edge LetterIndex) → Contains old.edges e → Contains new.edges e
+  pub only : (e : Edge LetterIndex) → Contains new.edges e → Contains old.edges e ⊎ ((place : ℕ) × At place × IsStep Leads number new.sets place e)
+  pub all : (place : ℕ) → At place → (e : Edge LetterIndex) × Contains new.edges e × IsStep Leads number new.sets place e
 
 -- the sets before a number have their edges
 pub record IsSpread (IsState : List ℕ → Type 0) (Leads : List ℕ → ℕ → List ℕ → Type 0) (Moves : List ℕ → ℕ → Type 0) (start : List ℕ) (done : ℕ) (found : Partial) : Type 0 where
   pub start_first : slice_get found.sets 0 ≡ Some start
   pub states : (set : List ℕ) → Contains found.sets set → IsState set
-  pub only : (e : Edge Place) → Contains found.edges e
+  pub only : (e : Edge LetterIndex) → Contains found.edges e
       → (number : ℕ) × (set : List ℕ) × (place : ℕ) × (slice_get found.sets number ≡ Some set) × Moves set place × IsStep (Leads set) number found.sets place e
   pub all : (number place : ℕ) (set : List ℕ) → number < done → slice_get found.sets number ≡ Some set → Moves set place
-      → (e : Edge Place) × Contains found.edges e × IsStep (Leads set) number found.sets place e
+      → (e : Edge LetterIndex) × Contains found.edges e × IsStep (Leads set) number found.sets place e
 
--- the same, by these edges, from what silent edges reach from the start
-abbrev pub IsSpreadBy : List (Edge Place) → ℕ → ℕ → Partial → Type 0
+-- the same, by these edges, from what epsilon edges reach from the start
+abbrev pub IsSpreadBy : List (Edge LetterIndex) → ℕ → ℕ → Partial → Type 0
 IsSpreadBy edges states done found =
     (start : List ℕ) × ((q : ℕ) → Contains start q ↔ Reaches edges 0 q) × IsSpread (IsSettled edges states) (LeadsBy edges) (HasMove edges) start done found
 

@@ -1,9 +1,9 @@
 ghost use Rattle.std.specs.Prelude.{◌≡◌, ◌<◌, [], ◌∷◌, Some, IfOk, OnOk, length, slice_get};
 ghost use Rattle.fsa_subset.specs.Partial.{AddsEdge};
 
-use crate::places::Place;
+use crate::places::LetterIndex;
 use fsa::Edge;
-use fsa_walk::Table;
+use fsa_explore::ListTable;
 use std::alloc::{AllocError, Global};
 use std::marker::Model;
 
@@ -11,9 +11,9 @@ use std::marker::Model;
 #[derive(Drop)]
 pub struct Partial {
     /// The sets, each as the sorted list of its states.
-    sets: Table,
+    sets: ListTable,
     /// The edges, each with the place of its letter, between the numbers of sets.
-    edges: Vec<Edge<Place>>,
+    edges: Vec<Edge<LetterIndex>>,
 }
 
 impl Model for Partial {
@@ -30,7 +30,7 @@ impl Partial {
         ensures sets { IfOk result (λ found. found.sets ≡ set.now ∷ []) }
         ensures edges { IfOk result (λ found. found.edges ≡ []) }
     {
-        let mut sets = Table::new(alloc);
+        let mut sets = ListTable::new(alloc);
         sets.number_of(alloc, set)?;
         Ok(Partial {
             sets,
@@ -56,7 +56,7 @@ impl Partial {
     }
 
     /// The edges.
-    pub fn edges(&self) -> &[Edge<Place>]
+    pub fn edges(&self) -> &[Edge<LetterIndex>]
         ensures { result.now ≡ self.now.edges }
     {
         let _ = &self.sets;
@@ -77,7 +77,7 @@ impl Partial {
         let to = self.sets.number_of(alloc, set)?;
         self.edges.push(Edge {
             from: number,
-            letter: Some(Place(place)),
+            letter: Some(LetterIndex(place)),
             to,
         })?;
         Ok(())

@@ -1,20 +1,20 @@
 ghost use Rattle.std.specs.Prelude.{◌≡◌, Some, IfOk, Contains, length};
 ghost use Rattle.std.specs.BTreeMap.{get};
-ghost use Rattle.fsm_words.specs.Words.{IsDistinct};
+ghost use Rattle.word_relations.specs.Words.{IsDistinct};
 ghost use Rattle.fsa.specs.declared.automaton.Edge.{Edge};
 ghost use Rattle.fsa_subset.specs.Placed.{IsPlaced, FindsPlaces, at_place};
 
 use fsa::Edge;
-use fsa_walk::Rows;
+use fsa_explore::EdgesByState;
 use fsm_base::Letter;
 use std::alloc::{AllocError, Global};
 use std::collections::BTreeMap;
 
 /// The place of a letter in a list of letters, counted from 0.
 #[derive(Clone, Copy, Debug, PartialEq, Eq, PartialOrd, Ord)]
-pub struct Place(pub usize);
+pub struct LetterIndex(pub usize);
 
-impl Letter for Place {
+impl Letter for LetterIndex {
     ghost use Rattle.std.proofs.Common.{rules};
 
     ghost equal_is_same = { Prim.search rules };
@@ -25,7 +25,7 @@ pub fn placed_edges<L: Letter>(
     alloc: Global,
     edges: &[Edge<L>],
     letters: &[L],
-) -> Result<Vec<Edge<Place>>, AllocError>
+) -> Result<Vec<Edge<LetterIndex>>, AllocError>
     requires distinct { IsDistinct letters.now }
     requires all { (e : Edge L) (x : L) → Contains edges.now e → e.letter ≡ Some x → Contains letters.now x }
     ensures { IfOk result (λ placed. IsPlaced letters.now edges.now placed.items) }
@@ -43,29 +43,32 @@ pub fn placed_rows<L: Letter>(
     alloc: Global,
     edges: &[Edge<L>],
     letters: &[L],
-) -> Result<Rows<Place>, AllocError>
+) -> Result<EdgesByState<LetterIndex>, AllocError>
     requires distinct { IsDistinct letters.now }
     requires all { (e : Edge L) (x : L) → Contains edges.now e → e.letter ≡ Some x → Contains letters.now x }
     ensures { IfOk result (λ rows. IsPlaced letters.now edges.now rows) }
 {
     let placed = placed_edges(alloc, edges, letters)?;
-    Rows::of(alloc, &placed)
+    EdgesByState::of(alloc, &placed)
 }
 
 /// The place of each letter.
-fn places_of<L: Letter>(alloc: Global, letters: &[L]) -> Result<BTreeMap<L, Place>, AllocError>
+fn places_of<L: Letter>(
+    alloc: Global,
+    letters: &[L],
+) -> Result<BTreeMap<L, LetterIndex>, AllocError>
     requires { IsDistinct letters.now }
     ensures { IfOk result (λ places. FindsPlaces letters.now (length letters.now) (get L.cmp places)) }
 {
     let mut places = BTreeMap::new(alloc);
     for (place, letter) in letters.iter().enumerate() {
-        places.insert(*letter, Place(place))?;
+        places.insert(*letter, LetterIndex(place))?;
     }
     Ok(places)
 }
 
 /// The edge with the place of its letter.
-fn at_place<L: Letter>(places: &BTreeMap<L, Place>, edge: Edge<L>) -> Edge<Place>
+fn at_place<L: Letter>(places: &BTreeMap<L, LetterIndex>, edge: Edge<L>) -> Edge<LetterIndex>
     ensures { result ≡ at_place (get L.cmp places.now) edge }
 {
     let letter = match edge.letter {

@@ -2,18 +2,18 @@ ghost use Rattle.std.specs.Prelude.{◌≡◌, ◌<◌, ◌↔◌, ℕ, List, If
 ghost use Rattle.fsa.specs.Automaton.{UsesLetter};
 ghost use Rattle.fsa.specs.Language.{Accepts};
 ghost use Rattle.fsa.specs.declared.automaton.Edge.{Edge};
-ghost use Rattle.fsa_walk.specs.Targets.{AreWithin};
+ghost use Rattle.fsa_explore.specs.Targets.{AreWithin};
 ghost use Rattle.fsa_subset.specs.Placed.{with_letter};
 ghost use Rattle.fsa_subset.specs.Sets.{HasMove, IsSettled, IsTargetSet, LeadsBy};
 ghost use Rattle.fsa_subset.specs.Partial.{AddsSteps, AreFinal, IsSpreadBy};
-ghost use Rattle.fsa_subset.specs.declared.places.Place.{Place};
+ghost use Rattle.fsa_subset.specs.declared.places.LetterIndex.{LetterIndex};
 
 use crate::letters::letters_on;
 use crate::partial::Partial;
-use crate::places::{Place, placed_rows};
+use crate::places::{LetterIndex, placed_rows};
 use crate::subsets::{any_final, moves_from, settled, target_set};
 use fsa::{Edge, Fsa};
-use fsa_walk::{Marked, Rows};
+use fsa_explore::{EdgesByState, NumberSet};
 use fsm_base::Letter;
 use std::alloc::{AllocError, Global};
 
@@ -41,7 +41,7 @@ pub fn determine_within<L: Letter>(
 /// The sets that the start reaches, and the edges between them, or None where that takes more steps.
 fn spread(
     alloc: Global,
-    rows: &Rows<Place>,
+    rows: &EdgesByState<LetterIndex>,
     states: usize,
     steps: usize,
 ) -> Result<Option<Partial>, AllocError>
@@ -49,7 +49,7 @@ fn spread(
     requires within { AreWithin rows.now states }
     ensures { IfOk result (λ found. IfSome found (λ p. IsSpreadBy rows.now states (length p.sets) p)) }
 {
-    let mut reached = Marked::new(alloc, states)?;
+    let mut reached = NumberSet::new(alloc, states)?;
     let mut found = first_set(alloc, rows, &mut reached)?;
     let mut left = steps;
     let mut next = 0;
@@ -65,8 +65,12 @@ fn spread(
     Ok(Some(found))
 }
 
-/// The start, and what silent edges reach from it.
-fn first_set(alloc: Global, rows: &Rows<Place>, reached: &mut Marked) -> Result<Partial, AllocError>
+/// The start, and what epsilon edges reach from it.
+fn first_set(
+    alloc: Global,
+    rows: &EdgesByState<LetterIndex>,
+    reached: &mut NumberSet,
+) -> Result<Partial, AllocError>
     requires start { 0 < reached.old.bound }
     requires within { AreWithin rows.now reached.old.bound }
     ensures found { IfOk result (IsSpreadBy rows.now reached.old.bound 0) }
@@ -82,10 +86,10 @@ fn first_set(alloc: Global, rows: &Rows<Place>, reached: &mut Marked) -> Result<
 /// Adds the edges that leave a set, which has the number, and gives how many edges leave its states.
 fn leave(
     alloc: Global,
-    rows: &Rows<Place>,
+    rows: &EdgesByState<LetterIndex>,
     set: &[usize],
     number: usize,
-    reached: &mut Marked,
+    reached: &mut NumberSet,
     found: &mut Partial,
 ) -> Result<usize, AllocError>
     requires { AreWithin rows.now reached.old.bound }
@@ -94,14 +98,14 @@ fn leave(
 {
     let moves = moves_from(alloc, rows, set)?;
     let places = places_on(alloc, &moves)?;
-    let by_place = Rows::of(alloc, &moves)?;
+    let by_place = EdgesByState::of(alloc, &moves)?;
     add_steps(alloc, rows, &by_place, &places, number, reached, found)?;
     Ok(moves.len())
 }
 
 /// The states that edges leave, sorted, each once.
-fn places_on(alloc: Global, moves: &[Edge<Place>]) -> Result<Vec<usize>, AllocError>
-    ensures { IfOk result (λ places. (place : ℕ) → Contains places.items place ↔ ((e : Edge Place) × Contains moves.now e × (e.from ≡ place))) }
+fn places_on(alloc: Global, moves: &[Edge<LetterIndex>]) -> Result<Vec<usize>, AllocError>
+    ensures { IfOk result (λ places. (place : ℕ) → Contains places.items place ↔ ((e : Edge LetterIndex) × Contains moves.now e × (e.from ≡ place))) }
 {
     let mut places = sources_of(alloc, moves)?;
     places.sort_unstable();
@@ -110,7 +114,7 @@ fn places_on(alloc: Global, moves: &[Edge<Place>]) -> Result<Vec<usize>, AllocEr
 }
 
 /// The state that each edge leaves.
-fn sources_of(alloc: Global, edges: &[Edge<Place>]) -> Result<Vec<usize>, AllocError>
+fn sources_of(alloc: Global, edges: &[Edge<LetterIndex>]) -> Result<Vec<usize>, AllocError>
     ensures { IfOk result (λ sources. sources.items ≡ map (λ e. e.from) edges.now) }
 {
     edges.iter().map(|edge| edge.from).collect(alloc)
@@ -119,11 +123,11 @@ fn sources_of(alloc: Global, edges: &[Edge<Place>]) -> Result<Vec<usize>, AllocE
 /// Adds an edge for each of these places, from the set with the number.
 fn add_steps(
     alloc: Global,
-    rows: &Rows<Place>,
-    moves: &Rows<Place>,
+    rows: &EdgesByState<LetterIndex>,
+    moves: &EdgesByState<LetterIndex>,
     places: &[usize],
     number: usize,
-    reached: &mut Marked,
+    reached: &mut NumberSet,
     found: &mut Partial,
 ) -> Result<(), AllocError>
     requires edges { AreWithin rows.now reached.old.bound }
@@ -154,11 +158,11 @@ fn finals_of(alloc: Global, found: &Partial, finals: &[bool]) -> Result<Vec<bool
 fn with_letters<L: Letter>(
     alloc: Global,
     finals: Vec<bool>,
-    edges: &[Edge<Place>],
+    edges: &[Edge<LetterIndex>],
     letters: &[L],
 ) -> Result<Fsa<L>, AllocError>
     requires start { 0 < length finals.items }
-    requires within { (e : Edge Place) → Contains edges.now e → (e.from < length finals.items) × (e.to < length finals.items) }
+    requires within { (e : Edge LetterIndex) → Contains edges.now e → (e.from < length finals.items) × (e.to < length finals.items) }
     ensures { IfOk result (λ m. m ≡ record { edges = map (with_letter letters.now) edges.now; finals = finals.items }) }
 {
     let mut m = Fsa::of_states(alloc, finals);
@@ -169,11 +173,11 @@ fn with_letters<L: Letter>(
 }
 
 /// The edge with the letter at the place that it carries.
-fn with_letter<L: Copy>(letters: &[L], edge: Edge<Place>) -> Edge<L>
+fn with_letter<L: Copy>(letters: &[L], edge: Edge<LetterIndex>) -> Edge<L>
     ensures { result ≡ with_letter letters.now edge }
 {
     let letter = match edge.letter {
-        Some(Place(place)) => letters.get(place).copied(),
+        Some(LetterIndex(place)) => letters.get(place).copied(),
         None => None,
     };
     Edge {

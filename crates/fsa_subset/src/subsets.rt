@@ -1,21 +1,21 @@
 ghost use Rattle.std.specs.Prelude.{◌≡◌, ◌<◌, ◌+◌, ◌↔◌, ◌++◌, ℕ, List, Some, None, true, IfOk, OnOk, IsTrue, All, Contains, length, slice_get};
-ghost use Rattle.fsm_words.specs.Words.{IsDistinct};
+ghost use Rattle.word_relations.specs.Words.{IsDistinct};
 ghost use Rattle.fsa.specs.Automaton.{UsesLetter};
 ghost use Rattle.fsa.specs.Complete as complete;
 ghost use Rattle.fsa.specs.Language as language;
 ghost use Rattle.fsa.specs.declared.automaton.Edge.{Edge};
-ghost use Rattle.fsa_walk.specs.Reaches.{Reaches, IsReached};
-ghost use Rattle.fsa_walk.specs.Targets.{IsTarget, AreWithin};
-ghost use Rattle.fsa_walk.specs.Explored.{AddsRow};
+ghost use Rattle.fsa_explore.specs.Reaches.{Reaches, IsReached};
+ghost use Rattle.fsa_explore.specs.Targets.{IsTarget, AreWithin};
+ghost use Rattle.fsa_explore.specs.Explored.{AddsRow};
 ghost use Rattle.std.specs.List.{flat_map};
 ghost use Rattle.fsa_subset.specs.Sets.{IsStateSet, LeadsTo, IsFinalSet, IsSettled, AreMoves, IsTargetSet, IsBuiltByClass, IsSubsetBuilt, from_place};
 
 use crate::classes::{rows_by_class, rows_by_letter};
-use crate::places::{Place, placed_edges};
+use crate::places::{LetterIndex, placed_edges};
 use fsa::{Dfa, Edge, Fsa};
-use fsa_walk::{
-    Explored, Found, LazyAutomaton, LetterClasses, Marked, Rows, add_targets, close,
-    explore_by_class, rows_alike,
+use fsa_explore::{
+    EdgesByState, Explored, FoundLists, LazyAutomaton, LetterClasses, NumberSet, add_targets,
+    close, explore_by_class, rows_alike,
 };
 use fsm_base::Letter;
 use std::alloc::{AllocError, Global};
@@ -26,18 +26,18 @@ use std::marker::Model;
 #[derive(Drop)]
 struct Subsets<'a> {
     /// The edges, with places of letters.
-    rows: Rows<Place>,
+    rows: EdgesByState<LetterIndex>,
     /// Whether each state is final.
     finals: &'a [bool],
     /// How many letters there are.
     letters: usize,
     /// The set that is being worked out.
-    reached: Marked,
+    reached: NumberSet,
 }
 
 impl<'a> Model for Subsets<'a> {
     ghost use Rattle.std.specs.Prelude.{◌≡◌, length};
-    ghost use Rattle.fsa_walk.specs.Targets.{AreWithin};
+    ghost use Rattle.fsa_explore.specs.Targets.{AreWithin};
     ghost use Rattle.fsa_subset.specs.Sets.{Placed};
 
     ghost Value = { Placed };
@@ -64,7 +64,7 @@ impl<'a> LazyAutomaton for Subsets<'a> {
         &mut self,
         alloc: Global,
         set: &[usize],
-        found: &mut Found,
+        found: &mut FoundLists,
     ) -> Result<(), AllocError> {
         let moves = moves_of(alloc, &self.rows, set)?;
         add_sets(
@@ -92,20 +92,24 @@ pub fn any_final(finals: &[bool], set: &[usize]) -> bool
 }
 
 /// Where the letters lead from a set, found again by the places of the letters.
-fn moves_of(alloc: Global, rows: &Rows<Place>, set: &[usize]) -> Result<Rows<Place>, AllocError>
+fn moves_of(
+    alloc: Global,
+    rows: &EdgesByState<LetterIndex>,
+    set: &[usize],
+) -> Result<EdgesByState<LetterIndex>, AllocError>
     ensures { IfOk result (AreMoves rows.now set.now) }
 {
     let moves = moves_from(alloc, rows, set)?;
-    Rows::of(alloc, &moves)
+    EdgesByState::of(alloc, &moves)
 }
 
-/// Where the letters lead from a set: for each edge that leaves one of its states by a letter, a silent edge from
+/// Where the letters lead from a set: for each edge that leaves one of its states by a letter, an epsilon edge from
 /// the place of the letter.
 pub fn moves_from(
     alloc: Global,
-    rows: &Rows<Place>,
+    rows: &EdgesByState<LetterIndex>,
     set: &[usize],
-) -> Result<Vec<Edge<Place>>, AllocError>
+) -> Result<Vec<Edge<LetterIndex>>, AllocError>
     ensures { IfOk result (λ moves. AreMoves rows.now set.now moves.items) }
 {
     let mut moves = Vec::new(alloc);
@@ -115,12 +119,15 @@ pub fn moves_from(
     Ok(moves)
 }
 
-/// Adds a silent edge from the place of the letter, for each of the edges that has a letter.
-fn add_moves(edges: &[Edge<Place>], moves: &mut Vec<Edge<Place>>) -> Result<(), AllocError>
+/// Adds an epsilon edge from the place of the letter, for each of the edges that has a letter.
+fn add_moves(
+    edges: &[Edge<LetterIndex>],
+    moves: &mut Vec<Edge<LetterIndex>>,
+) -> Result<(), AllocError>
     ensures { OnOk result (moves.new.items ≡ moves.old.items ++ flat_map from_place edges.now) }
 {
     for edge in edges {
-        if let Some(Place(place)) = edge.letter {
+        if let Some(LetterIndex(place)) = edge.letter {
             moves.push(Edge {
                 from: place,
                 letter: None,
@@ -134,11 +141,11 @@ fn add_moves(edges: &[Edge<Place>], moves: &mut Vec<Edge<Place>>) -> Result<(), 
 /// Adds the set that each letter leads to, in the order of the letters' places.
 fn add_sets(
     alloc: Global,
-    rows: &Rows<Place>,
+    rows: &EdgesByState<LetterIndex>,
     letters: usize,
-    moves: &Rows<Place>,
-    states: &mut Marked,
-    found: &mut Found,
+    moves: &EdgesByState<LetterIndex>,
+    states: &mut NumberSet,
+    found: &mut FoundLists,
 ) -> Result<(), AllocError>
     requires edges { AreWithin rows.now states.old.bound }
     requires moves { AreWithin moves.now states.old.bound }
@@ -152,12 +159,12 @@ fn add_sets(
     Ok(())
 }
 
-/// The states that the moves enter, and what silent edges reach from them.
+/// The states that the moves enter, and what epsilon edges reach from them.
 pub fn target_set(
     alloc: Global,
-    rows: &Rows<Place>,
-    moves: &[Edge<Place>],
-    states: &mut Marked,
+    rows: &EdgesByState<LetterIndex>,
+    moves: &[Edge<LetterIndex>],
+    states: &mut NumberSet,
 ) -> Result<Vec<usize>, AllocError>
     requires edges { AreWithin rows.now states.old.bound }
     requires moves { AreWithin moves.now states.old.bound }
@@ -170,11 +177,11 @@ pub fn target_set(
     settled(alloc, rows, states)
 }
 
-/// The states and what silent edges reach from them, as a sorted list.
+/// The states and what epsilon edges reach from them, as a sorted list.
 pub fn settled(
     alloc: Global,
-    rows: &Rows<Place>,
-    states: &mut Marked,
+    rows: &EdgesByState<LetterIndex>,
+    states: &mut NumberSet,
 ) -> Result<Vec<usize>, AllocError>
     requires { AreWithin rows.now states.old.bound }
     ensures set { IfOk result (λ set. (q : ℕ) → Contains set.items q ↔ IsReached rows.now states.old.found q) }
@@ -191,7 +198,7 @@ pub fn settled(
 /// worked out once for all letters that the same edges carry.
 fn built_sets(
     alloc: Global,
-    edges: &[Edge<Place>],
+    edges: &[Edge<LetterIndex>],
     finals: &[bool],
     letters: usize,
 ) -> Result<Explored, AllocError>
@@ -208,7 +215,7 @@ fn built_sets(
 /// Builds the deterministic automaton of an automaton whose edges have classes of letters.
 fn built_by_class(
     alloc: Global,
-    rows: Rows<Place>,
+    rows: EdgesByState<LetterIndex>,
     finals: &[bool],
     classes: &LetterClasses,
 ) -> Result<Explored, AllocError>
@@ -217,7 +224,7 @@ fn built_by_class(
     requires within { All (λ class. class < length classes.now.firsts.items) classes.now.of_places.items }
     ensures { IfOk result (λ built. IsBuiltByClass (record { edges = rows; finals = finals.now; letters = length classes.now.firsts.items }) classes.now.of_places.items built.next.items built.finals.items) }
 {
-    let mut states = Marked::new(alloc, finals.len())?;
+    let mut states = NumberSet::new(alloc, finals.len())?;
     states.add(0)?;
     let start = settled(alloc, &rows, &mut states)?;
     let mut sets = Subsets {

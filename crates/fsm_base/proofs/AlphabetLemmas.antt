@@ -1,40 +1,30 @@
 -- Alphabets: the text of a symbol, and the words that a cut gives.
-use Rattle.std.proofs.Common.{◌≡◌, ℕ, ◌+◌, ◌-◌, ◌<◌, ◌≤◌, zero, suc, Bool, true, false, cond, List, [], ◌∷◌, ◌++◌, length, map, take, drop, Some, None, Ok, Err, All, Contains, nat_eq, get_or, slice_get, unwrap_or, refl, sym, ap, subst, ◌∙◌, ◌⊎◌, inl, inr, arith, append-nil, true≢false}
+use Rattle.std.proofs.Common.{◌≡◌, ℕ, ◌+◌, ◌-◌, ◌<◌, ◌≤◌, zero, suc, Bool, true, false, cond, List, [], ◌∷◌, ◌++◌, length, map, take, drop, Option, Some, None, Ok, Err, All, Contains, nat_eq, get_or, slice_get, refl, sym, ap, subst, ◌∙◌, ◌⊎◌, inl, inr, arith, append-nil, true≢false}
 use Rattle.std.proofs.lemmas.Bool.Decides.{Decides-eqb}
-use Rattle.std.proofs.lemmas.List.{map-append, length-drop, length-take, length-append, drop_all}
+use Rattle.std.proofs.lemmas.List.{map-append, length-drop, length-append, drop_all}
 use Rattle.std.proofs.lemmas.List.Prefix.{front_rest}
 use Rattle.std.proofs.Math.Seq.{take-add, take-length, take-append_seam, drop-nil}
 use Rattle.std.proofs.lemmas.List.Elements.{All-contains, All-push, All-map, All-weaker, All-nil, All-get_or}
 use Rattle.std.proofs.lemmas.List.Sorted.{IsPermutation-map, IsPermutation-sym, Contains-permutation}
-use Rattle.std.proofs.lemmas.Option.{slice_get-map, slice_get_cases, slice_get-get_or, same_Some}
+use Rattle.std.proofs.lemmas.Option.{slice_get-map, slice_get_cases, slice_get-get_or}
 use Rattle.std.specs.List.{slice_index_or}
 use Rattle.std.specs.List.Sorted.{IsPermutation}
-use Rattle.std.specs.Map.{lookup}
 use Rattle.std.specs.Option.{option_map}
-use Rattle.fsm_words.specs.Words.{IsDistinct, IsOver, joined}
+use Rattle.word_relations.specs.Words.{IsDistinct, IsOver, joined}
 use Rattle.fsm_base.specs.Symbols.{IsSymbol, IsTable}
 use Rattle.fsm_base.specs.Alphabet.{IsAlphabet, listed, symbols_of, texts_of, text_of, spelled}
 use Rattle.fsm_base.specs.Cut.{cut, characters}
 use Rattle.fsm_base.specs.Longest.{IsLongest, BeginsWithNone}
-use Rattle.fsm_base.specs.Sorted.{IsByText, IsKept, entries_of, pair_of, texts_in, text_at}
+use Rattle.fsm_base.specs.Kept.{IsKept}
+use Rattle.fsm_base.specs.Lone.{AreLone}
+use Rattle.fsm_base.specs.Sorted.{IsByText, IsNext, entries_of, pair_of, texts_in}
 use Rattle.fsm_base.specs.declared.letters.Sym.{Sym}
 use Rattle.fsm_base.specs.declared.longest.Entry.{Entry}
-use Rattle.fsm_base.proofs.SortedLemmas.{get_or-texts}
-use Rattle.fsm_base.proofs.TableLemmas.{slice_get_front}
-use Rattle.fsm_base.proofs.CutLemmas.{Contains-cons_cases, Contains-first, Contains-later, preceded, preceded-nil, preceded-push, joined-push, cut-symbol, cut-none, longest-from_is, longest-from_none}
+use Rattle.fsm_base.proofs.CutLemmas.{Contains-cons_cases, preceded, preceded-nil, preceded-push, joined-push, cut-symbol, cut-none, longest-from_is, longest-from_none}
 
 -- symbols with one number are one symbol
 pub same_symbol : (s t : Sym) → nat_eq s.0 t.0 ≡ true → s ≡ t
 same_symbol s t test = let e : s.0 ≡ t.0 = (Decides-eqb s.0 t.0).0 test in λ i. record { 0 = e i }
-
--- the text of a symbol by the look-up of its number
-pub text_of-lookup : (alphabet : List (Sym × List ℕ)) (s : Sym) → unwrap_or (lookup (λ (k : Sym). nat_eq s.0 k.0) alphabet) [] ≡ text_of alphabet s
-text_of-lookup [] s = refl
-text_of-lookup (e ∷ alphabet) s = by (nat_eq s.0 e.0.0) (text_of-lookup alphabet s)
-  where
-    by : (b : Bool) → unwrap_or (lookup (λ (k : Sym). nat_eq s.0 k.0) alphabet) [] ≡ text_of alphabet s → unwrap_or (cond b (Some e.1) (lookup (λ (k : Sym). nat_eq s.0 k.0) alphabet)) [] ≡ cond b e.1 (text_of alphabet s)
-    by true later = refl
-    by false later = later
 
 -- a part of a list of distinct things
 pub IsDistinct-tail : {X : Type 0} (x : X) (xs : List X) → IsDistinct (x ∷ xs) → IsDistinct xs
@@ -84,16 +74,6 @@ IsLongest-sorted alphabet sorted text s p is =
 
 pub BeginsWithNone-sorted : (alphabet : List (Sym × List ℕ)) (sorted : List Entry) (text : List ℕ) → IsPermutation alphabet (map pair_of sorted) → BeginsWithNone (texts_in sorted) text → BeginsWithNone (texts_of alphabet) text
 BeginsWithNone-sorted alphabet sorted text p none = λ s among begins. none s (Contains-permutation _ _ s (texts_permuted alphabet sorted p) among) begins
-
--- an entry is a pair of the alphabet
-pub Contains-entry : (alphabet : List (Sym × List ℕ)) (sorted : List Entry) (place : ℕ) (entry : Entry) → IsPermutation alphabet (map pair_of sorted) → place < length sorted → entry ≡ get_or sorted place entry → Contains alphabet (entry.symbol, entry.text)
-Contains-entry alphabet sorted place entry p within is =
-    Contains-permutation _ _ _ (IsPermutation-sym _ _ p) (there sorted place within is)
-  where
-    there : (es : List Entry) (k : ℕ) → k < length es → entry ≡ get_or es k entry → Contains (map pair_of es) (entry.symbol, entry.text)
-    there [] k l e = absurd (omega arith)
-    there (x ∷ es) zero l e = (0, omega arith, sym (ap pair_of e))
-    there (x ∷ es) (suc k) l e = let later = there es k (omega arith) e in (suc later.0, omega (arith, later.1), later.2)
 
 -- a symbol of a pair is a symbol of the alphabet
 pub Contains-symbols_of : (alphabet : List (Sym × List ℕ)) (s : Sym) (t : List ℕ) → Contains alphabet (s, t) → Contains (symbols_of alphabet) s
@@ -173,33 +153,6 @@ pub listed-entries : (table : List (List ℕ)) (syms : List Sym) → map pair_of
 listed-entries table [] = refl
 listed-entries table (s ∷ syms) = ap (λ (z : List (Sym × List ℕ)). (s, slice_index_or table s.0 []) ∷ z) (listed-entries table syms)
 
--- a symbol that is not among these has no text in them
-pub lookup-listed : (table : List (List ℕ)) (syms : List Sym) (s : Sym) → (Contains syms s → ⊥) → lookup (λ (k : Sym). nat_eq s.0 k.0) (listed table syms) ≡ None
-lookup-listed table [] s absent = refl
-lookup-listed table (t ∷ syms) s absent = by (nat_eq s.0 t.0) refl (lookup-listed table syms s (λ among. absent (Contains-later t syms s among)))
-  where
-    by : (b : Bool) → nat_eq s.0 t.0 ≡ b → lookup (λ (k : Sym). nat_eq s.0 k.0) (listed table syms) ≡ None → cond b (Some (slice_index_or table t.0 [])) (lookup (λ (k : Sym). nat_eq s.0 k.0) (listed table syms)) ≡ None
-    by true test later = absurd (absent (subst (λ v. Contains (t ∷ syms) v) (sym (same_symbol s t test)) (Contains-first t syms)))
-    by false test later = later
-
--- the next of distinct symbols is not among those before it
-pub not_before : (syms : List Sym) (i : ℕ) (s : Sym) → IsDistinct syms → slice_get syms i ≡ Some s → Contains (take i syms) s → ⊥
-not_before syms i s apart at h =
-    let l : h.0 < i = omega (arith, h.1, length-take i syms) in
-    let there : slice_get (take i syms) h.0 ≡ Some s = slice_get-get_or (take i syms) h.0 s h.1 ∙ ap Some h.2 in
-    let e : h.0 ≡ i = apart h.0 i s (slice_get_front i syms h.0 s there) at in
-    absurd (omega arith)
-
--- the pairs of one more symbol
-pub listed-more : (table : List (List ℕ)) (syms : List Sym) (i : ℕ) (s : Sym) → slice_get syms i ≡ Some s → listed table (take (i + 1) syms) ≡ listed table (take i syms) ++ (s, slice_index_or table s.0 []) ∷ []
-listed-more table syms i s at =
-    ap (λ (v : List Sym). listed table v) (take_next syms i s at) ∙ map-append (λ (v : Sym). (v, slice_index_or table v.0 [])) (take i syms) (s ∷ [])
-  where
-    take_next : (xs : List Sym) (i : ℕ) (s : Sym) → slice_get xs i ≡ Some s → take (i + 1) xs ≡ take i xs ++ s ∷ []
-    take_next [] i s at = cc
-    take_next (x ∷ xs) zero s at = let e : x ≡ s = same_Some x s at in ap (λ v. v ∷ []) e
-    take_next (x ∷ xs) (suc i) s at = let e : suc i + 1 ≡ suc (i + 1) = omega arith in ap (λ k. take k (x ∷ xs)) e ∙ ap (λ (z : List Sym). x ∷ z) (take_next xs i s at)
-
 -- the symbols of a table, each once, are an alphabet
 pub IsAlphabet-listed : (table : List (List ℕ)) (syms : List Sym) → IsTable table → IsDistinct syms → All (λ s. s.0 < length table) syms → IsAlphabet (listed table syms)
 IsAlphabet-listed table syms formed apart held = record {
@@ -236,32 +189,61 @@ IsAlphabet-listed table syms formed apart held = record {
         let same : q.0 ≡ p.0 = λ k. record { 0 = sym number k } in
         apart i j p.0 p.1 (q.1 ∙ ap Some same)
 
+-- an entry is a pair of the alphabet
+pub Contains-entry : (alphabet : List (Sym × List ℕ)) (sorted : List Entry) (entry : Entry) → IsPermutation alphabet (map pair_of sorted) → Contains sorted entry → Contains alphabet (entry.symbol, entry.text)
+Contains-entry alphabet sorted entry p h = Contains-permutation _ _ _ (IsPermutation-sym _ _ p) (there sorted h.0 h.1 h.2)
+  where
+    there : (es : List Entry) (k : ℕ) → k < length es → get_or es k entry ≡ entry → Contains (map pair_of es) (entry.symbol, entry.text)
+    there [] k l e = absurd (omega arith)
+    there (x ∷ es) zero l e = (0, omega arith, ap pair_of e)
+    there (x ∷ es) (suc k) l e = let later = there es k (omega arith) e in (suc later.0, omega (arith, later.1), later.2)
+
+-- a symbol of an alphabet has its text in the table
+pub text_of-listed : (table : List (List ℕ)) (syms : List Sym) (s : Sym) → Contains syms s → text_of (listed table syms) s ≡ slice_index_or table s.0 []
+text_of-listed table syms s h = by syms h.0 h.1 h.2
+  where
+    step : (x : Sym) (ss : List Sym) (b : Bool) → nat_eq s.0 x.0 ≡ b → (b ≡ false → text_of (listed table ss) s ≡ slice_index_or table s.0 [])
+        → cond b (slice_index_or table x.0 []) (text_of (listed table ss) s) ≡ slice_index_or table s.0 []
+    step x ss true test later = ap (λ (v : Sym). slice_index_or table v.0 []) (sym (same_symbol s x test))
+    step x ss false test later = later refl
+
+    by : (ss : List Sym) (k : ℕ) → k < length ss → get_or ss k s ≡ s → text_of (listed table ss) s ≡ slice_index_or table s.0 []
+    by [] k l e = absurd (omega arith)
+    by (x ∷ ss) zero l e = step x ss (nat_eq s.0 x.0) refl (λ no. absurd (true≢false (sym ((Decides-eqb s.0 x.0).1 (ap (λ (v : Sym). v.0) (sym e))) ∙ no)))
+    by (x ∷ ss) (suc k) l e = step x ss (nat_eq s.0 x.0) refl (λ _. by ss k (omega arith) e)
+
 -- an alphabet as it is kept
-pub IsKept-listed : (table : List (List ℕ)) (syms : List Sym) (sorted : List Entry) → IsAlphabet (listed table syms) → IsPermutation (entries_of table syms) sorted → IsByText sorted → IsKept syms (listed table syms) sorted
-IsKept-listed table syms sorted formed same by_text = record {
-  formed = formed;
+pub IsKept-listed : (table : List (List ℕ)) (syms : List Sym) (sorted : List Entry) (lone : List (Option Sym)) → IsTable table → IsDistinct syms → All (λ s. s.0 < length table) syms
+    → IsPermutation (entries_of table syms) sorted → IsByText sorted → AreLone sorted lone → IsKept syms table sorted lone
+IsKept-listed table syms sorted lone formed apart held same by_text are = record {
+  formed = IsAlphabet-listed table syms formed apart held;
   same_symbols = sym (symbols_of-listed table syms);
+  within = held;
   same_entries = subst (λ v. IsPermutation v (map pair_of sorted)) (listed-entries table syms) (IsPermutation-map pair_of (entries_of table syms) sorted same);
   by_text = by_text;
+  lone_symbols = are;
 }
 
--- the alphabet of no symbol
-pub IsAlphabet-none : (table : List (List ℕ)) → IsAlphabet (listed table [])
-IsAlphabet-none table = record {
-  distinct = λ i j x at_i at_j. cc;
-  apart = λ i j x at_i at_j. cc;
-  symbols = All-nil IsSymbol;
-}
+-- the symbol of the longest text is taken, and it is not empty
+pub next_taken : (symbols : List Sym) (texts : List (List ℕ)) (sorted : List Entry) (lone : List (Option Sym)) (bytes : List ℕ) (word : List Sym) (from : ℕ) (symbol : Sym) (len : ℕ)
+    → IsKept symbols texts sorted lone → IsCutTo (listed texts symbols) bytes word from → IsNext sorted (drop from bytes) symbol len
+    → IsCutTo (listed texts symbols) bytes (word ++ symbol ∷ []) (from + len) × (0 < len)
+next_taken symbols texts sorted lone bytes word from symbol len kept to next =
+    let alphabet = listed texts symbols in
+    let longest = IsLongest-sorted alphabet sorted (drop from bytes) next.text kept.same_entries next.longest in
+    let some : 0 < length next.text = All-contains IsSymbol (texts_of alphabet) next.text kept.formed.symbols longest.listed in
+    let held = Contains-entry alphabet sorted (record { text = next.text; symbol = symbol }) kept.same_entries next.listed in (
+      subst (λ (n : ℕ). IsCutTo alphabet bytes (word ++ symbol ∷ []) (from + n)) (sym next.len_is) (cut_to_more alphabet bytes word from symbol next.text kept.formed held to longest),
+      omega (arith, next.len_is, some),
+    )
 
--- the entry of the longest text is taken, and it is not empty
-pub entry_taken : (symbols : List Sym) (alphabet : List (Sym × List ℕ)) (sorted : List Entry) (bytes : List ℕ) (word : List Sym) (from place : ℕ) (entry : Entry)
-    → IsKept symbols alphabet sorted → IsCutTo alphabet bytes word from → place < length sorted → IsLongest (texts_in sorted) (drop from bytes) (text_at sorted place) → entry ≡ get_or sorted place entry
-    → IsCutTo alphabet bytes (word ++ entry.symbol ∷ []) (from + length entry.text) × (0 < length entry.text)
-entry_taken symbols alphabet sorted bytes word from place entry kept to within is at =
-    let text : text_at sorted place ≡ entry.text = get_or-texts sorted place entry [] within ∙ ap (λ (e : Entry). e.text) (sym at) in
-    let longest = IsLongest-sorted alphabet sorted (drop from bytes) entry.text kept.same_entries (subst (λ (t : List ℕ). IsLongest (texts_in sorted) (drop from bytes) t) text is) in (
-      cut_to_more alphabet bytes word from entry.symbol entry.text kept.formed (Contains-entry alphabet sorted place entry kept.same_entries within at) to longest,
-      All-contains IsSymbol (texts_of alphabet) entry.text kept.formed.symbols longest.listed,
+-- the text that is kept for a symbol of the alphabet
+pub text_kept : (symbols : List Sym) (texts : List (List ℕ)) (sorted : List Entry) (lone : List (Option Sym)) (alphabet : List (Sym × List ℕ)) (s : Sym)
+    → IsKept symbols texts sorted lone → listed texts symbols ≡ alphabet → Contains (symbols_of alphabet) s → (s.0 < length texts) × (slice_index_or texts s.0 [] ≡ text_of alphabet s)
+text_kept symbols texts sorted lone alphabet s kept is h =
+    let among : Contains symbols s = subst (λ (ss : List Sym). Contains ss s) (ap symbols_of (sym is) ∙ sym kept.same_symbols) h in (
+      All-contains (λ (v : Sym). v.0 < length texts) symbols s kept.within among,
+      sym (text_of-listed texts symbols s among) ∙ ap (λ (a : List (Sym × List ℕ)). text_of a s) is,
     )
 
 -- what a range to the end of a slice holds

@@ -6,7 +6,7 @@ use Rattle.std.proofs.lemmas.List.Elements.{All-contains}
 use Rattle.std.proofs.lemmas.List.Sums.{sum_by-append}
 use Rattle.std.proofs.lemmas.Slice.Eq.{starts_is}
 use Rattle.std.specs.List.{starts_with, slice_index_or}
-use Rattle.fsm_words.specs.Words.{joined}
+use Rattle.word_relations.specs.Words.{joined}
 use Rattle.fsm_base.specs.Symbols.{IsSymbol}
 use Rattle.fsm_base.specs.Cut.{longer, longest, begins_character, characters, followed, cut_by, cut_behind, cut}
 use Rattle.fsm_base.specs.Longest.{BeginsWith, IsLongest, BeginsWithNone, TakesLongest, StopsAt}

@@ -1,5 +1,6 @@
 pub mod AlphabetLemmas
 pub mod CutLemmas
+pub mod LoneLemmas
 pub mod NormalLemmas
 pub mod OrderLemmas
 pub mod SortedLemmas

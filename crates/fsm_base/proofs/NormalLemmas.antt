@@ -4,9 +4,10 @@ use Rattle.std.proofs.lemmas.Bool.Decides.{nat_tests}
 use Rattle.std.proofs.lemmas.List.{take-append-drop, drop_all}
 use Rattle.std.proofs.Math.Seq.{take-length}
 use Rattle.std.proofs.lemmas.List.Sums.{sum_by-append, take_while-cons}
-use Rattle.std.proofs.lemmas.Str.{length-encode, len_utf8_bounds, chars_from_encodes, encodes-chars, encodes-append, chars_past_char, is_utf8-from_IsUtf8, IsUtf8-from_is_utf8}
+use Rattle.std.proofs.lemmas.Str.{length-encode, len_utf8_bounds, chars_from_encodes, encodes-chars, encodes-append, chars_past_char, chars-IsAscii, encodes-IsAscii, is_utf8-from_IsUtf8, IsUtf8-from_is_utf8}
+use Rattle.std.proofs.lemmas.Str.Ascii.{All-from_ascii}
 use Rattle.std.specs.List.{before_first, list_any, starts_with}
-use Rattle.std.specs.Str.{IsUtf8, NoCharPasses, NonePass, chars, is_utf8}
+use Rattle.std.specs.Str.{IsAscii, IsUtf8, NoCharPasses, NonePass, chars, is_utf8}
 use Rattle.std.specs.Str.Pattern.{FindsText}
 use Rattle.std.specs.Str.Replace.{ReplacesMatches}
 use lib.Pointwise.{pointwise}
@@ -14,6 +15,7 @@ use denote.Ref.{Bor}
 use lib.Utf8.{encode}
 use Rattle.std.specs.Str.Lossy.{utf8_valid_len}
 use Rattle.unicode_normalization.specs.Forms.{nfc, Nfc}
+use Rattle.unicode_normalization.proofs.FormsLemmas.{normalize-ascii}
 use Rattle.unicode_normalization.proofs.LengthLemmas.{length-normalize-chars}
 use Rattle.fsm_base.specs.declared.normalize.TextError.TheVariants.{NotUtf8, Control}
 use Rattle.fsm_base.specs.Normal.{is_refused, line_behind, most_growth, nfc_of, source_text, text_of_characters, without_mark, without_returns}
@@ -236,3 +238,10 @@ length-encode_all (c ∷ cs) =
 
 pub length-nfc_of : (text : List ℕ) → IsUtf8 text → length (nfc_of text) ≤ most_growth * length text
 length-nfc_of text is = omega (arith, length-normalize-chars Nfc text is, length-encode_all (nfc (chars text)))
+
+-- a text of ASCII is in Normalization Form C
+pub nfc_of-ascii : (text : List ℕ) → IsAscii text → nfc_of text ≡ text
+nfc_of-ascii text ascii =
+    ap (λ (cs : List ℕ). encode_utf8_all (nfc cs)) (chars-IsAscii text ascii)
+    ∙ ap encode_utf8_all (normalize-ascii Nfc text (All-from_ascii text ascii))
+    ∙ encodes-IsAscii text ascii

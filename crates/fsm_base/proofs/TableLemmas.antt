@@ -11,7 +11,7 @@ use Rattle.std.specs.Option.{option_map}
 use Rattle.std.specs.Str.{bytes_eq}
 use Rattle.std.specs.String.{string_bytes, string_eq}
 use Rattle.indexmap.specs.IndexSet.{insert_key}
-use Rattle.fsm_words.specs.Words.{IsDistinct}
+use Rattle.word_relations.specs.Words.{IsDistinct}
 use Rattle.fsm_base.specs.Symbols.{IsTable, IsSymbol, number_of, with_text}
 
 module _ {K X : Type 0} (eq : K → K → Bool) (f : K → X) (same : (a b : K) → f a ≡ f b → eq a b ≡ true) where

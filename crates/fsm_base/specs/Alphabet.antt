@@ -1,7 +1,7 @@
 -- An alphabet: its symbols in the order in which they were given, each with its text. The symbols are
 -- numbers for the program, and texts in every statement on what a source means.
 use Rattle.std.specs.Prelude.{ℕ, ◌==◌, List, [], ◌∷◌, map, All, if◌then◌else◌, slice_index_or}
-use Rattle.fsm_words.specs.Words.{IsDistinct}
+use Rattle.word_relations.specs.Words.{IsDistinct}
 use Rattle.fsm_base.specs.Symbols.{IsSymbol}
 use Rattle.fsm_base.specs.declared.letters.Sym.{Sym}
 

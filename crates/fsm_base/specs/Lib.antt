@@ -1,5 +1,7 @@
 pub mod Alphabet
 pub mod Cut
+pub mod Kept
+pub mod Lone
 pub mod Longest
 pub mod Normal
 pub mod Sorted

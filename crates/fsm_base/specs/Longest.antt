@@ -1,7 +1,7 @@
 -- What the cut of a text is, in the words of its rule: at each place the longest symbol of the alphabet
 -- that the rest begins with, or the first place where there is none.
 use Rattle.std.specs.Prelude.{◌≡◌, ℕ, ◌+◌, ◌<◌, ◌≤◌, List, [], ◌∷◌, ◌++◌, length, All, Contains, Ok, Err, MatchResult}
-use Rattle.fsm_words.specs.Words.{joined}
+use Rattle.word_relations.specs.Words.{joined}
 use Rattle.fsm_base.specs.Cut.{characters, cut}
 use Rattle.fsm_base.specs.Symbols.{IsSymbol}
 

@@ -1,10 +1,10 @@
 -- The entries of an alphabet sorted by their texts, in the order of bytes, and how the longest symbol is
 -- found among them.
-use Rattle.std.specs.Prelude.{◌≡◌, ℕ, true, List, [], map, Contains, slice_index_or}
+use Rattle.std.specs.Prelude.{◌≡◌, ℕ, true, List, [], length, map, Contains, slice_index_or}
 use Rattle.std.specs.Cmp.Lexicographic.{slice_cmp}
-use Rattle.std.specs.List.Sorted.{IsPermutation, IsSortedByKey}
+use Rattle.std.specs.List.Sorted.{IsSortedByKey}
 use Rattle.std.specs.Ordering.{nat_cmp, is_le}
-use Rattle.fsm_base.specs.Alphabet.{IsAlphabet, symbols_of}
+use Rattle.fsm_base.specs.Longest.{IsLongest}
 use Rattle.fsm_base.specs.declared.letters.Sym.{Sym}
 use Rattle.fsm_base.specs.declared.longest.Entry.{Entry}
 
@@ -41,9 +41,9 @@ entries_of table symbols = map (λ symbol. record { text = slice_index_or table 
 abbrev pub pair_of : Entry → Sym × List ℕ
 pair_of entry = (entry.symbol, entry.text)
 
--- how an alphabet is kept: its symbols, the symbols with their texts, and the same sorted by text
-pub record IsKept (symbols : List Sym) (alphabet : List (Sym × List ℕ)) (sorted : List Entry) : Type 0 where
-  pub formed : IsAlphabet alphabet
-  pub same_symbols : symbols ≡ symbols_of alphabet
-  pub same_entries : IsPermutation alphabet (map pair_of sorted)
-  pub by_text : IsByText sorted
+-- the symbol whose text is the longest that the bytes begin with, and the length of that text
+pub record IsNext (entries : List Entry) (bytes : List ℕ) (symbol : Sym) (len : ℕ) : Type 0 where
+  pub text : List ℕ
+  pub listed : Contains entries (record { text = text; symbol = symbol })
+  pub longest : IsLongest (texts_in entries) bytes text
+  pub len_is : len ≡ length text

@@ -3,7 +3,7 @@
 -- symbols). Texts are lists of the bytes of UTF-8.
 use Rattle.std.specs.Prelude.{ℕ, ◌<◌, ◌≤◌, List, [], ◌∷◌, ◌++◌, length, bytes_eq, All, if◌then◌else◌}
 use Rattle.std.specs.List.{list_any, position_or_len}
-use Rattle.fsm_words.specs.Words.{IsDistinct}
+use Rattle.word_relations.specs.Words.{IsDistinct}
 
 -- a text that may be a symbol
 abbrev pub IsSymbol : List ℕ → Type 0

@@ -1,16 +1,16 @@
-ghost use Rattle.std.specs.Prelude.{◌≡◌, ◌+◌, ◌-◌, ◌^◌, ◌<◌, [], length, Ok, All, IfOk, IfErr};
+ghost use Rattle.std.specs.Prelude.{◌≡◌, ◌+◌, ◌-◌, ◌^◌, ◌<◌, [], length, Ok, All, Contains, IfOk, IfErr};
 ghost use Rattle.std.specs.List.{slice_index_or};
 ghost use Rattle.std.specs.List.Sorted.{IsPermutation};
-ghost use Rattle.fsm_words.specs.Words.{IsDistinct, IsOver, joined};
+ghost use Rattle.word_relations.specs.Words.{IsDistinct, IsOver, joined};
 ghost use Rattle.fsm_base.specs.Alphabet.{IsAlphabet, listed, spelled, symbols_of, text_of, texts_of};
 ghost use Rattle.fsm_base.specs.Cut.{characters, cut};
 ghost use Rattle.fsm_base.specs.Sorted.{IsByText, entries_of};
 ghost use Rattle.fsm_base.specs.Symbols.{IsTable};
 ghost use Rattle.fsm_base.specs.Tokens.{IsStopped};
 
-use crate::longest::{Entry, longest_place};
+use crate::lone::lone_symbols;
+use crate::longest::{Entry, next_symbol};
 use crate::{Sym, SymbolTable, Text};
-use indexmap::IndexMap;
 use std::alloc::{AllocError, AllocFailed, Global};
 use std::marker::Model;
 use thiserror::Error;
@@ -59,26 +59,30 @@ impl<T: Drop> From<AllocFailed<T>> for TokensError {
 pub struct Alphabet {
     /// The symbols, each once, in the order in which they were given.
     symbols: Vec<Sym>,
-    /// The text of each symbol; none is empty and no two are the same.
-    texts: IndexMap<Sym, Text>,
+    /// The texts of the table, at the places of their numbers: those of the symbols, none empty and no two the same, and
+    /// others.
+    texts: Vec<Text>,
     /// The symbols with their texts, sorted by the bytes of these, for the cut.
     sorted: Vec<Entry>,
+    /// For each byte the symbol whose text it is, where no longer text begins with it, for the cut.
+    lone: Vec<Option<Sym>>,
 }
 
 impl Model for Alphabet {
     ghost use Rattle.std.specs.Prelude.{List, ℕ};
     ghost use Rattle.fsm_base.specs.declared.letters.Sym.{Sym};
-    ghost use Rattle.fsm_base.specs.Sorted.{IsKept};
+    ghost use Rattle.fsm_base.specs.Alphabet.{listed};
+    ghost use Rattle.fsm_base.specs.Kept.{IsKept};
 
     ghost Value = { List (Sym × List ℕ) };
 
-    ghost view = { λ a. a.texts.entries };
+    ghost view = { λ a. listed a.texts.items a.symbols.items };
 
-    ghost invariant = { λ a. IsKept a.symbols.items a.texts.entries a.sorted.items };
+    ghost invariant = { λ a. IsKept a.symbols.items a.texts.items a.sorted.items a.lone.items };
 }
 
 impl Alphabet {
-    /// The alphabet of these symbols of a table, which are distinct.
+    /// The alphabet of these symbols of a table, which are distinct. It keeps a copy of the table's texts.
     pub fn of(alloc: Global, table: &SymbolTable, syms: &[Sym]) -> Result<Alphabet, AllocError>
         requires distinct { IsDistinct syms.now }
         requires held { All (λ sym. sym.0 < length table.now) syms.now }
@@ -86,12 +90,14 @@ impl Alphabet {
         ensures formed { IfOk result IsAlphabet }
     {
         let symbols = Vec::from_slice(alloc, syms)?;
-        let texts = texts_by_symbol(alloc, table, syms)?;
+        let texts = texts_by_number(alloc, table)?;
         let sorted = entries_by_text(alloc, table, syms)?;
+        let lone = lone_symbols(alloc, &sorted)?;
         Ok(Alphabet {
             symbols,
             texts,
             sorted,
+            lone,
         })
     }
 
@@ -113,17 +119,17 @@ impl Alphabet {
         ensures stopped { IfErr result (IsStopped (cut (texts_of self.now) text.now)) }
     {
         let bytes = text.as_bytes();
-        let mut word = Vec::new(alloc);
+        // A symbol takes a byte of the text at least.
+        let mut word = Vec::with_capacity(alloc, bytes.len())?;
         let mut from = 0;
         'symbols: while from < bytes.len() {
-            let Some(place) = longest_place(&self.sorted, &bytes[from..]) else {
+            let Some(next) = next_symbol(&self.sorted, &self.lone, &bytes[from..]) else {
                 return Err(TokensError::NoSymbol {
                     at: character_at(&bytes[..from]),
                 });
             };
-            let entry = &self.sorted[place];
-            word.push(entry.symbol)?;
-            from += entry.text.as_str().len();
+            word.push(next.symbol)?;
+            from += next.len;
         }
         Ok(word)
     }
@@ -133,21 +139,20 @@ impl Alphabet {
         requires { IsOver (symbols_of self.now) word.now }
         ensures { IfOk result (λ text. text ≡ joined (spelled self.now word.now)) }
     {
-        let mut text = String::new(alloc);
+        // Each symbol has a byte at least.
+        let mut text = String::with_capacity(alloc, word.len())?;
         'symbols: for sym in word {
             text.push_str(self.text_of(*sym))?;
         }
         Ok(Text::from(text))
     }
 
-    /// The text of a symbol, which is empty where the alphabet does not have it.
+    /// The text of a symbol of the alphabet.
     fn text_of(&self, sym: Sym) -> &str
+        requires { Contains (symbols_of self.now) sym }
         ensures { result.now ≡ text_of self.now sym }
     {
-        match self.texts.get(&sym) {
-            Some(text) => text.as_str(),
-            None => "",
-        }
+        self.texts[sym.0 as usize].as_str()
     }
 }
 
@@ -166,26 +171,19 @@ fn character_at(before: &[u8]) -> u32
 /// The text of a symbol that the table holds, copied.
 fn copy_of(alloc: Global, table: &SymbolTable, sym: Sym) -> Result<Text, AllocError>
     requires { sym.0 < length table.now }
-    ensures text { IfOk result (λ text. text ≡ slice_index_or table.now sym.0 []) }
-    ensures formed { IsTable table.now }
+    ensures { IfOk result (λ text. text ≡ slice_index_or table.now sym.0 []) }
 {
     Text::of(alloc, table.text_of(sym).unwrap())
 }
 
-/// The texts of these symbols under their numbers, in the given order.
-fn texts_by_symbol(
-    alloc: Global,
-    table: &SymbolTable,
-    syms: &[Sym],
-) -> Result<IndexMap<Sym, Text>, AllocError>
-    requires distinct { IsDistinct syms.now }
-    requires held { All (λ sym. sym.0 < length table.now) syms.now }
-    ensures texts { IfOk result (λ texts. texts.entries ≡ listed table.now syms.now) }
-    ensures formed { IfOk result (λ _. IsAlphabet (listed table.now syms.now)) }
+/// The texts of a table, by their numbers.
+fn texts_by_number(alloc: Global, table: &SymbolTable) -> Result<Vec<Text>, AllocError>
+    ensures texts { IfOk result (λ texts. texts.items ≡ table.now) }
+    ensures formed { IsTable table.now }
 {
-    let mut texts = IndexMap::new(alloc);
-    'symbols: for sym in syms {
-        texts.insert(*sym, copy_of(alloc, table, *sym)?)?;
+    let mut texts = Vec::with_capacity(alloc, table.len())?;
+    'numbers: for number in 0..table.len() {
+        texts.push(copy_of(alloc, table, Sym(number as u32))?)?;
     }
     Ok(texts)
 }

@@ -13,6 +13,7 @@
 mod alphabet;
 mod laws;
 mod letters;
+mod lone;
 mod longest;
 mod normalize;
 mod symbols;

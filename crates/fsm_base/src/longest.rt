@@ -1,9 +1,11 @@
 //! The longest symbol that a text begins with, among entries that are sorted by text.
 ghost use Rattle.std.specs.Prelude.{◌≡◌, ◌==◌, ◌<◌, length, MatchOption};
 ghost use Rattle.std.specs.List.{take_while, zip};
+ghost use Rattle.fsm_base.specs.Lone.{AreLone};
 ghost use Rattle.fsm_base.specs.Longest.{IsLongest, BeginsWithNone};
-ghost use Rattle.fsm_base.specs.Sorted.{IsByText, IsLastUpTo, NoneUpTo, text_at, texts_in};
+ghost use Rattle.fsm_base.specs.Sorted.{IsByText, IsLastUpTo, IsNext, NoneUpTo, text_at, texts_in};
 
+use crate::lone::lone_symbol;
 use crate::{Sym, Text};
 
 /// A symbol of an alphabet under its text.
@@ -13,12 +15,36 @@ pub(crate) struct Entry {
     pub(crate) symbol: Sym,
 }
 
+/// The symbol that a text goes on with.
+#[derive(Clone, Copy, Debug)]
+pub(crate) struct Next {
+    pub(crate) symbol: Sym,
+    /// How many bytes its text has.
+    pub(crate) len: usize,
+}
+
+/// The symbol with the longest text that these bytes begin with. Where the first byte is a lone symbol, that is the one.
+pub(crate) fn next_symbol(entries: &[Entry], lone: &[Option<Sym>], bytes: &[u8]) -> Option<Next>
+    requires sorted { IsByText entries.now }
+    requires lone { AreLone entries.now lone.now }
+    ensures { MatchOption result (BeginsWithNone (texts_in entries.now) bytes.now) (λ next. IsNext entries.now bytes.now next.symbol next.len) }
+{
+    if let Some(symbol) = lone_symbol(lone, bytes) {
+        return Some(Next { symbol, len: 1 });
+    }
+    let entry = &entries[longest_place(entries, bytes)?];
+    Some(Next {
+        symbol: entry.symbol,
+        len: entry.text.as_str().len(),
+    })
+}
+
 /// The place of the longest text that these bytes begin with.
 ///
 /// The search takes the last text up to the bytes in their order. A symbol that the bytes begin with
 /// is a front of that text too, so where the text is no front itself, it goes on with the front that
 /// the two share.
-pub(crate) fn longest_place(entries: &[Entry], bytes: &[u8]) -> Option<usize>
+fn longest_place(entries: &[Entry], bytes: &[u8]) -> Option<usize>
     requires { IsByText entries.now }
     ensures { MatchOption result (BeginsWithNone (texts_in entries.now) bytes.now) (λ place. (place < length entries.now) × IsLongest (texts_in entries.now) bytes.now (text_at entries.now place)) }
 {

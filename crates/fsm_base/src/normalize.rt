@@ -43,11 +43,15 @@ impl From<AllocError> for TextError {
     }
 }
 
-/// The text in Normalization Form C (Unicode Standard Annex 15), at most eight times as long.
+/// The text in Normalization Form C (Unicode Standard Annex 15), at most eight times as long. A text of ASCII, which is
+/// in that form, is copied.
 pub fn nfc(alloc: Global, text: &str) -> Result<Text, AllocError>
     ensures text { IfOk result (λ normalized. normalized ≡ nfc_of text.now) }
     ensures short { IfOk result (λ normalized. length normalized ≤ most_growth * length text.now) }
 {
+    if text.is_ascii() {
+        return Text::of(alloc, text);
+    }
     Ok(Text::from(to_nfc(alloc, text)?))
 }
 

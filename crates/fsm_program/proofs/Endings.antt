@@ -4,10 +4,10 @@ use Rattle.std.specs.Io.KnownBytes.{Consumes}
 use Rattle.fsm_io.specs.Folders.{Files, Told, IsTold}
 use Rattle.fsm_io.specs.Reading.{LinesView, at_start}
 use Rattle.regex_ast.specs.declared.fault.Fault.{Fault}
-use Rattle.fsm_meaning.specs.declared.ending.Ending.{Ending}
-use Rattle.fsm_meaning.specs.declared.ending.Ending.TheVariants.{Finished, WriteFailed, ReadFailed, Spent}
+use Rattle.reply_meaning.specs.declared.ending.Ending.{Ending}
+use Rattle.reply_meaning.specs.declared.ending.Ending.TheVariants.{Finished, WriteFailed, ReadFailed, Spent}
 use Rattle.project_meaning.specs.Projects.{Project}
-use Rattle.fsm_meaning.specs.Replies.{Replies}
+use Rattle.reply_meaning.specs.Replies.{Replies}
 use Rattle.project_sources.specs.Sources.{Said, project_in}
 use Rattle.project_sources.specs.Faults.{rows_so_far}
 use Rattle.project_sources.specs.Laws.{unbuilt as no_readers}

@@ -2,18 +2,18 @@
 use Rattle.std.proofs.Common.{◌≡◌, ◌↔◌, ◌++◌, ℕ, ◌==◌, Bool, true, false, cond, List, [], ◌∷◌, Some, None, Ok, Err, IfOk, Result, codes, decimal, refl, sym, ap, subst, ◌∙◌, inl, inr, slice_get, arith, suc, Contains}
 use Rattle.std.proofs.lemmas.Bool.Decides.{nat_tests}
 use Rattle.std.proofs.lemmas.List.Elements.{All-head, All-tail, All-weaker, All-contains_itself}
-use Rattle.fsm_words.specs.Words.{IsOver}
-use Rattle.fsm_words.proofs.Members.{Contains-nil_cases, Contains-cons_cases}
+use Rattle.word_relations.specs.Words.{IsOver}
+use Rattle.word_relations.proofs.Members.{Contains-nil_cases, Contains-cons_cases}
 use Rattle.fsm_base.specs.declared.letters.Sym.{Sym}
 use Rattle.fsm_base.specs.Alphabet.{IsAlphabet, symbols_of, texts_of, text_of, spelled}
 use Rattle.fsm_base.specs.Cut.{cut}
-use Rattle.fsm_words.specs.Answers.{Answers, Found, strings, more, loop, times}
+use Rattle.word_relations.specs.Answers.{Answers, Found, strings, more, loop, times}
 use Rattle.lookup_answers.specs.declared.direction.Direction.{Direction}
 use Rattle.lookup_answers.specs.declared.direction.Direction.TheVariants.{Up, Down}
 use Rattle.fsa.specs.Automaton.{Automaton}
 use Rattle.fsm_base.specs.declared.letters.Pair.{Pair}
 use Rattle.project_meaning.specs.Projects.{Project}
-use Rattle.fsm_meaning.specs.Replies.{RepliesToWord, answered, no_net, no_symbol, Related, answer_bytes, headed}
+use Rattle.reply_meaning.specs.Replies.{RepliesToWord, answered, no_net, no_symbol, Related, answer_bytes, headed}
 use Rattle.fst_relation.specs.Relation.{IsRelated}
 use Rattle.fst_relation.proofs.Used.{upper_used, lower_used}
 use Rattle.lookup.specs.Answering.{UpperTexts, LowerTexts}

@@ -8,8 +8,8 @@ use Rattle.std.specs.List.Sorted.{IsPermutation, IsSorted}
 use Rattle.std.specs.Ordering.{nat_cmp}
 use Rattle.fsm_base.specs.Alphabet.{IsAlphabet, listed, symbols_of, texts_of}
 use Rattle.fsm_base.specs.declared.letters.Sym.{Sym}
-use Rattle.fsm_words.specs.Words.{IsDistinct}
-use Rattle.fsm_words.proofs.Members.{Contains-map, Contains-map_cases}
+use Rattle.word_relations.specs.Words.{IsDistinct}
+use Rattle.word_relations.proofs.Members.{Contains-map, Contains-map_cases}
 use Rattle.project_meaning.specs.Projects.{Definition as Meant, Defines, Written, definition_in, names_of}
 use Rattle.project_sources.specs.Sources.{Said, project_in}
 use Rattle.project_model.specs.Numbered.{numbers_in}

@@ -11,8 +11,8 @@ use Rattle.std.specs.Cmp.Lexicographic.{slice_cmp}
 use Rattle.std.specs.List.{IsDistinct as IsApart}
 use Rattle.std.specs.List.Sorted.{IsPermutation, IsSorted}
 use Rattle.std.specs.Ordering.{eq_by_cmp, is_eq, is_lt, nat_cmp, ordering_reverse}
-use Rattle.fsm_words.specs.Words.{IsDistinct}
-use Rattle.fsm_words.specs.Answers.{IsInOrder}
+use Rattle.word_relations.specs.Words.{IsDistinct}
+use Rattle.word_relations.specs.Answers.{IsInOrder}
 
 abbrev order : List ℕ → List ℕ → Ordering
 order = slice_cmp nat_cmp

@@ -6,9 +6,9 @@ use Rattle.fsm_io.specs.Sinks.{Gathers}
 use Rattle.fsm_io.proofs.Known.{appends_none, appends_more}
 use Rattle.fsm_io.specs.Buffers.{most_ahead}
 use Rattle.fsm_io.proofs.Streams.{told_start, told_all, told_so_far, told_behind}
-use Rattle.fsm_meaning.specs.Transcripts.{IsTranscript, HasAnswered}
-use Rattle.fsm_meaning.specs.declared.ending.Ending.{Ending}
-use Rattle.fsm_meaning.specs.declared.ending.Ending.TheVariants.{Finished, WriteFailed, ReadFailed, Spent}
+use Rattle.reply_meaning.specs.Transcripts.{IsTranscript, HasAnswered}
+use Rattle.reply_meaning.specs.declared.ending.Ending.{Ending}
+use Rattle.reply_meaning.specs.declared.ending.Ending.TheVariants.{Finished, WriteFailed, ReadFailed, Spent}
 use Rattle.fsm_program.specs.Running.{Sofar, Turns, flushed}
 use Rattle.fsm_io.specs.declared.source.Failed.{Failed}
 use Rattle.fsm_program.specs.Sending.{Sends}

@@ -4,9 +4,9 @@ use Rattle.std.proofs.lemmas.List.Elements.{All-contains}
 use Rattle.std.proofs.lemmas.Option.{slice_get-get_or, slice_get-map, same_Some}
 use Rattle.std.specs.List.{Contains}
 use Rattle.std.specs.Option.{option_map}
-use Rattle.fsm_words.specs.Relations.{AreSame}
-use Rattle.fsm_words.specs.Words.{IsDistinct}
-use Rattle.fsm_words.proofs.Members.{Contains-nil_cases, Contains-cons_cases, Contains-head, Contains-tail, Contains-map, Contains-map_cases}
+use Rattle.word_relations.specs.Relations.{AreSame}
+use Rattle.word_relations.specs.Words.{IsDistinct}
+use Rattle.word_relations.proofs.Members.{Contains-nil_cases, Contains-cons_cases, Contains-head, Contains-tail, Contains-map, Contains-map_cases}
 use Rattle.fsm_base.specs.Alphabet.{IsAlphabet, spelled, symbols_of, texts_of}
 use Rattle.fsm_base.specs.declared.letters.Pair.{Pair}
 use Rattle.fsm_base.specs.declared.letters.Sym.{Sym}
@@ -15,9 +15,9 @@ use Rattle.fst_relation.specs.Relation.{IsRelated}
 use Rattle.regex_ast.specs.Terms.{Term}
 use Rattle.expr_meaning.specs.Leaves.{stands_for}
 use Rattle.expr_meaning.specs.Meaning.{Relates}
-use Rattle.expr_forms.specs.Built.{IsBuilt}
+use Rattle.expr_kinds.specs.Built.{IsBuilt}
 use Rattle.expr_spelling.specs.Laws.{IsSpelled}
-use Rattle.expr_parts.specs.Mapped.{mapped}
+use Rattle.expr_leaves.specs.Mapped.{mapped}
 use Rattle.expr_spelling.proofs.Leaves.{symbols_spelled}
 use Rattle.expr_spelling.proofs.Spelling.{spelling}
 use Rattle.project_meaning.specs.Trees.{Body, xfst}

@@ -8,9 +8,9 @@ use Rattle.std.specs.Str.{bytes_eq}
 use Rattle.fsm_base.specs.Alphabet.{listed, texts_of}
 use Rattle.fsm_base.specs.Symbols.{number_of, with_text}
 use Rattle.fsm_base.specs.declared.letters.Sym.{Sym}
-use Rattle.fsm_words.specs.Words.{IsDistinct}
-use Rattle.fsm_words.proofs.Members.{Contains-head, Contains-tail, Contains-map}
-use Rattle.fsm_words.proofs.Places.{slice_get_from_Contains, slice_get-append_left, slice_get-append_right}
+use Rattle.word_relations.specs.Words.{IsDistinct}
+use Rattle.word_relations.proofs.Members.{Contains-head, Contains-tail, Contains-map}
+use Rattle.word_relations.proofs.Places.{slice_get_from_Contains, slice_get-append_left, slice_get-append_right}
 use Rattle.project_meaning.specs.Projects.{with_texts}
 use Rattle.project_model.specs.Numbered.{numbers_in}
 use Rattle.project_model.proofs.Alphabets.{at_number, cases_bool, texts_of-numbers}

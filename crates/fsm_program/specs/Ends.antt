@@ -4,14 +4,14 @@ use Rattle.std.specs.Option.{option_map}
 use Rattle.std.specs.Str.{bytes_eq}
 use Rattle.regex_ast.specs.declared.fault.Fault.{Fault}
 use Rattle.fsm_io.specs.Folders.{Told}
-use Rattle.fsm_meaning.specs.declared.ending.Ending.{Ending}
-use Rattle.fsm_meaning.specs.declared.ending.Ending.TheVariants.{Finished, WriteFailed, ReadFailed, Spent}
+use Rattle.reply_meaning.specs.declared.ending.Ending.{Ending}
+use Rattle.reply_meaning.specs.declared.ending.Ending.TheVariants.{Finished, WriteFailed, ReadFailed, Spent}
 use Rattle.fsm_base.specs.Normal.{nfc_of}
 use Rattle.project_meaning.specs.Projects.{Project}
 use Rattle.lookup_answers.specs.declared.direction.Direction.{Direction}
 use Rattle.lookup_answers.specs.declared.direction.Direction.TheVariants.{Up, Down}
-use Rattle.fsm_meaning.specs.Replies.{Replies, line_of}
-use Rattle.fsm_meaning.specs.Transcripts.{HasAnswered, WithoutState}
+use Rattle.reply_meaning.specs.Replies.{Replies, line_of}
+use Rattle.reply_meaning.specs.Transcripts.{HasAnswered, WithoutState}
 use Rattle.fsm_program.specs.Loaded.{AreNames}
 use Rattle.reply_text.specs.Projects.{accepted_line, refused_line}
 use Rattle.fsm_program.specs.Files.{Reads}

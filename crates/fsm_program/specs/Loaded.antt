@@ -2,7 +2,7 @@
 use Rattle.std.specs.Prelude.{◌≡◌, ◌↔◌, ℕ, List, All, Contains, map}
 use Rattle.fsm_base.specs.Alphabet.{IsAlphabet, listed, symbols_of, texts_of}
 use Rattle.fsm_base.specs.declared.letters.Sym.{Sym}
-use Rattle.fsm_words.specs.Answers.{IsInOrder}
+use Rattle.word_relations.specs.Answers.{IsInOrder}
 use Rattle.project_meaning.specs.Projects.{Project, Defines, names_of}
 use Rattle.project_sources.specs.Sources.{Said, project_in}
 use Rattle.project_model.specs.Numbered.{IsBodyOver, numbers_in}

@@ -4,9 +4,9 @@ use Rattle.fsm_io.specs.declared.source.Failed.{Failed}
 use Rattle.std.specs.Io.KnownBytes.{Appends}
 use Rattle.fsm_io.specs.Buffers.{most_ahead}
 use Rattle.fsm_io.specs.Reading.{LinesView, HasTold}
-use Rattle.fsm_meaning.specs.Transcripts.{IsTranscript, HasAnswered}
-use Rattle.fsm_meaning.specs.declared.ending.Ending.{Ending}
-use Rattle.fsm_meaning.specs.declared.ending.Ending.TheVariants.{Finished, WriteFailed, ReadFailed, Spent}
+use Rattle.reply_meaning.specs.Transcripts.{IsTranscript, HasAnswered}
+use Rattle.reply_meaning.specs.declared.ending.Ending.{Ending}
+use Rattle.reply_meaning.specs.declared.ending.Ending.TheVariants.{Finished, WriteFailed, ReadFailed, Spent}
 
 -- every line told so far has its reply, and the bytes of these are written or gathered
 pub record Sofar {S : Type 0} (Step : S → Option (List ℕ) → List ℕ → S → Type 0) (first : S) (budget : ℕ) (left0 left held0 held : Option (List ℕ)) (reader : LinesView) (gathered : List ℕ) : Type 0 where

@@ -1,8 +1,8 @@
 -- The replies of a session of look-ups, as steps of a transcript.
 use Rattle.std.specs.Prelude.{ℕ, List, Option}
 use Rattle.project_meaning.specs.Projects.{Project}
-use Rattle.fsm_meaning.specs.Replies.{Replies}
-use Rattle.fsm_meaning.specs.Transcripts.{WithoutState}
+use Rattle.reply_meaning.specs.Replies.{Replies}
+use Rattle.reply_meaning.specs.Transcripts.{WithoutState}
 use Rattle.fsm_program.specs.declared.look_up.LookUp.{LookUp}
 
 -- each line has its reply in what it is looked up in, where that shows this project

@@ -1,7 +1,7 @@
 ghost use Rattle.std.specs.Prelude.{◌<◌, ◌-◌, ◌^◌, List, ℕ, Some, length, IfOk};
-ghost use Rattle.fsm_words.specs.Answers.{Answers};
+ghost use Rattle.word_relations.specs.Answers.{Answers};
 ghost use Rattle.project_meaning.specs.Projects.{Project};
-ghost use Rattle.fsm_meaning.specs.Replies.{RepliesToWord};
+ghost use Rattle.reply_meaning.specs.Replies.{RepliesToWord};
 ghost use Rattle.lookup_answers.specs.Answers.{found_of};
 ghost use Rattle.lookup.specs.Answering.{IsOverAlphabet};
 ghost use Rattle.fsm_program.specs.Networks.{Shows, TextsTo};

@@ -1,5 +1,5 @@
 ghost use Rattle.std.specs.Prelude.{◌≡◌};
-ghost use Rattle.fsm_meaning.specs.Replies.{without_last};
+ghost use Rattle.reply_meaning.specs.Replies.{without_last};
 
 /// The bytes without this byte at their end.
 pub fn without_last(end: u8, bytes: &[u8]) -> &[u8]

@@ -4,7 +4,7 @@ ghost use Rattle.fsm_io.specs.Causes.{HasCause};
 ghost use Rattle.fsm_io.specs.Lines.{most_line};
 ghost use Rattle.fsm_io.specs.Sinks.{Gathers};
 ghost use Rattle.project_meaning.specs.Projects.{Project};
-ghost use Rattle.fsm_meaning.specs.Replies.{Replies, RepliesToWord, headed};
+ghost use Rattle.reply_meaning.specs.Replies.{Replies, RepliesToWord, headed};
 ghost use Rattle.reply_text.specs.Heads.{head_word};
 ghost use Rattle.fsm_program.specs.Networks.{Shows};
 ghost use Rattle.fsm_program.specs.Sending.{Sends};

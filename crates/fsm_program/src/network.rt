@@ -2,7 +2,7 @@ ghost use Rattle.std.specs.Prelude.{◌≡◌, ◌<◌, ◌-◌, ◌^◌, length
 ghost use Rattle.std.specs.Option.{option_map};
 ghost use Rattle.lookup.specs.Answering.{IsOverAlphabet};
 ghost use Rattle.project_meaning.specs.Projects.{Project as Meant};
-ghost use Rattle.fsm_meaning.specs.Replies.{RepliesToWord};
+ghost use Rattle.reply_meaning.specs.Replies.{RepliesToWord};
 ghost use Rattle.project_sources.specs.Sources.{Said, project_in};
 ghost use Rattle.fsm_program.specs.Loaded.{IsLoadedFrom};
 ghost use Rattle.fsm_program.specs.Networks.{Shows, ShowsNet};

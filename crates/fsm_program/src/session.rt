@@ -3,14 +3,14 @@ ghost use Rattle.fsm_io.specs.Causes.{HasCause, Rose};
 ghost use Rattle.fsm_io.specs.Reading.{at_start, size_of};
 ghost use Rattle.fsm_io.specs.Sinks.{Gathers};
 ghost use Rattle.project_meaning.specs.Projects.{Project};
-ghost use Rattle.fsm_meaning.specs.Transcripts.{HasAnswered};
+ghost use Rattle.reply_meaning.specs.Transcripts.{HasAnswered};
 ghost use Rattle.fsm_program.specs.Networks.{Shows};
 ghost use Rattle.fsm_program.specs.Steps.{steps};
 ghost use Rattle.fsm_program.specs.Running.{MayRead, Sofar, Turns, flushed, most_taken};
 
 use crate::look_up::LookUp;
 use fsm_io::{Failed, LineEvent, Lines, Outbox, Sink, Source};
-use fsm_meaning::Ending;
+use reply_meaning::Ending;
 use std::alloc::Global;
 
 /// Whether a reply was written or gathered, or how that ends the answering.

@@ -2,7 +2,7 @@
 use Rattle.std.proofs.Common.{◌≡◌, ℕ, ◌↔◌, List, [], ◌++◌, true, Option, Some, None, refl, subst, sym, ap, inl, inr, ◌∙◌}
 use Rattle.std.specs.List.{Contains, slice_get}
 use Rattle.std.specs.Option.{option_to_list}
-use Rattle.fsm_words.proofs.Members.{Contains-nil_cases}
+use Rattle.word_relations.proofs.Members.{Contains-nil_cases}
 use Rattle.fsa.specs.Automaton.{Automaton, UsesLetter}
 use Rattle.fsa.specs.Language.{AcceptsFrom, Accepts, stop}
 use Rattle.fsa.specs.declared.automaton.Edge.{Edge}

@@ -4,8 +4,8 @@ use Rattle.std.specs.Option.{option_to_list}
 use Rattle.std.proofs.lemmas.Option.{same_Some}
 use Rattle.fsm_base.specs.declared.letters.Sym.{Sym}
 use Rattle.fsm_base.specs.declared.letters.Pair.{Pair}
-use Rattle.fsm_words.specs.Relations.{AreSame, IsIdentity, IsCross, IsInverse, IsUpper, IsLower}
-use Rattle.fsm_words.specs.Words.{IsConcatenation}
+use Rattle.word_relations.specs.Relations.{AreSame, IsIdentity, IsCross, IsInverse, IsUpper, IsLower}
+use Rattle.word_relations.specs.Words.{IsConcatenation}
 use Rattle.fsa.specs.Automaton.{Automaton, UsesLetter}
 use Rattle.fsa.specs.Language.{Accepts}
 use Rattle.fst_relation.specs.Relation.{uppers, lowers, IsRelated}

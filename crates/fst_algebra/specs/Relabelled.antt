@@ -13,7 +13,7 @@ relabelled change word = flat_map (λ x. option_to_list (change x)) word
 abbrev pub IsRelabelled : {L M : Type 0} → (L → Option M) → (List L → Type 0) → List M → Type 0
 IsRelabelled {L} change P w = (v : List L) × P v × (relabelled change v ≡ w)
 
--- what stands on an edge in place of its letter; a silent edge stays silent
+-- what stands on an edge in place of its letter; an epsilon edge stays one
 abbrev pub relabelled_letter : {L M : Type 0} → (L → Option M) → Option L → Option M
 relabelled_letter change None = None
 relabelled_letter change (Some x) = change x

@@ -37,7 +37,7 @@ pub fn relabel<L: Letter, M: Letter, R: Relabelling<L, M>>(
     Ok(m)
 }
 
-/// What stands in place of an edge's letter. A silent edge stays silent.
+/// What stands in place of an edge's letter. An epsilon edge stays one.
 fn relabel_letter<L: Letter, M: Letter, R: Relabelling<L, M>>(
     letter: Option<L>,
     relabelling: &R,

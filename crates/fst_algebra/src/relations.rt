@@ -1,5 +1,5 @@
 ghost use Rattle.std.specs.Prelude.{◌↔◌, Some, None, IfOk, List};
-ghost use Rattle.fsm_words.specs.Relations.{AreSame, IsIdentity, IsCross, IsInverse, IsUpper, IsLower};
+ghost use Rattle.word_relations.specs.Relations.{AreSame, IsIdentity, IsCross, IsInverse, IsUpper, IsLower};
 ghost use Rattle.fsm_base.specs.declared.letters.Sym.{Sym};
 ghost use Rattle.fsa.specs.Automaton.{UsesLetter};
 ghost use Rattle.fsa.specs.Language.{Accepts};

@@ -3,7 +3,7 @@ use Rattle.std.proofs.Common.{◌≡◌, ℕ, ◌+◌, ◌<◌, ◌≤◌, ◌�
 use Rattle.std.specs.List.{Contains}
 use Rattle.std.proofs.lemmas.List.{take_more, take_all}
 use Rattle.std.proofs.lemmas.List.Elements.{Contains-push_cases, Contains-push, Contains-append_left}
-use Rattle.fsm_words.proofs.Members.{Contains-nil_cases}
+use Rattle.word_relations.proofs.Members.{Contains-nil_cases}
 use Rattle.fst_compose.specs.Gains.{Gains, ForSome}
 
 module _ {X : Type 0} where

@@ -5,7 +5,7 @@ use Rattle.std.specs.Option.{is_some}
 use Rattle.fsm_base.specs.declared.letters.Sym.{Sym}
 use Rattle.fsm_base.specs.declared.letters.Pair.{Pair}
 use Rattle.fsa.specs.declared.automaton.Edge.{Edge}
-use Rattle.fst_compose.specs.declared.operand.Place.{Place}
+use Rattle.fst_compose.specs.declared.operand.EdgeKey.{EdgeKey}
 use Rattle.fst_compose.specs.declared.operand.Onward.{Onward}
 use Rattle.fst_compose.specs.declared.moves.Move.{Move}
 use Rattle.fst_compose.specs.Index.{IsRow}
@@ -13,21 +13,21 @@ use Rattle.fst_compose.specs.Gains.{Gains, ForSome}
 use Rattle.fst_compose.specs.Meeting.{upper_of, lower_of, Passes, IsMatch, FirstMoves, SecondMoves, BothMove, IsMove, both_move, IsMatchOf}
 use Rattle.fst_compose.proofs.Gaining.{Gains-then, Gains-same, gained}
 
-abbrev pub first_move : ℕ → Place × Onward → Move
+abbrev pub first_move : ℕ → EdgeKey × Onward → Move
 first_move q row = record { up = row.1.up; low = None; first = row.1.to; second = q }
 
-abbrev pub second_move : ℕ → Place × Onward → Move
+abbrev pub second_move : ℕ → EdgeKey × Onward → Move
 second_move p row = record { up = None; low = row.1.up; first = p; second = row.1.to }
 
 -- the rows at a place are what passes from there
-module _ (edges : List (Edge Pair)) (rows : List (Place × Onward)) (place : Place) (at : (row : Place × Onward) → Contains rows row ↔ (IsRow edges row × (row.0 ≡ place))) where
-  passes_at : (row : Place × Onward) → Contains rows row → Passes edges place.state row.1.up place.low row.1.to
-  passes_at row h = let r = (at row).0 h in subst (λ (x : Place). Passes edges x.state row.1.up x.low row.1.to) r.1 r.0
+module _ (edges : List (Edge Pair)) (rows : List (EdgeKey × Onward)) (place : EdgeKey) (at : (row : EdgeKey × Onward) → Contains rows row ↔ (IsRow edges row × (row.0 ≡ place))) where
+  passes_at : (row : EdgeKey × Onward) → Contains rows row → Passes edges place.state row.1.up place.low row.1.to
+  passes_at row h = let r = (at row).0 h in subst (λ (x : EdgeKey). Passes edges x.state row.1.up x.low row.1.to) r.1 r.0
 
   row_at : (onward : Onward) → Passes edges place.state onward.up place.low onward.to → Contains rows (place, onward)
   row_at onward h = (at (place, onward)).1 (h, refl)
 
-module _ (first : List (Edge Pair)) (p q : ℕ) (rows : List (Place × Onward)) (at : (row : Place × Onward) → Contains rows row ↔ (IsRow first row × (row.0 ≡ record { state = p; low = None }))) (old new : List Move) where
+module _ (first : List (Edge Pair)) (p q : ℕ) (rows : List (EdgeKey × Onward)) (at : (row : EdgeKey × Onward) → Contains rows row ↔ (IsRow first row × (row.0 ≡ record { state = p; low = None }))) (old new : List Move) where
   pub first_moves : Gains (ForSome (λ row m. m ≡ first_move q row) rows) old new → Gains (FirstMoves first p q) old new
   first_moves = Gains-same (ForSome (λ row m. m ≡ first_move q row) rows) (FirstMoves first p q) old new
       (λ m r. subst (λ n. FirstMoves first p q n) (sym r.2) (passes_at first rows (record { state = p; low = None }) at r.0 r.1, refl, refl))
@@ -37,7 +37,7 @@ module _ (first : List (Edge Pair)) (p q : ℕ) (rows : List (Place × Onward)) 
         ap (λ (l : Option Sym). record { up = m.up; low = l; first = m.first; second = m.second }) r.1 ∙ ap (λ (s : ℕ). record { up = m.up; low = None; first = m.first; second = s }) r.2,
       ))
 
-module _ (second : List (Edge Pair)) (p q : ℕ) (rows : List (Place × Onward)) (at : (row : Place × Onward) → Contains rows row ↔ (IsRow second row × (row.0 ≡ record { state = q; low = None }))) (old new : List Move) where
+module _ (second : List (Edge Pair)) (p q : ℕ) (rows : List (EdgeKey × Onward)) (at : (row : EdgeKey × Onward) → Contains rows row ↔ (IsRow second row × (row.0 ≡ record { state = q; low = None }))) (old new : List Move) where
   pub second_moves : Gains (ForSome (λ row m. m ≡ second_move p row) rows) old new → Gains (SecondMoves second p q) old new
   second_moves = Gains-same (ForSome (λ row m. m ≡ second_move p row) rows) (SecondMoves second p q) old new
       (λ m r. subst (λ n. SecondMoves second p q n) (sym r.2) (passes_at second rows (record { state = q; low = None }) at r.0 r.1, refl, refl))
@@ -98,16 +98,16 @@ exchanged_gained pairs turned h x y =
     )
 
 -- an edge with those that match it
-module _ (second : List (Edge Pair)) (q : ℕ) (e : Edge Pair) (place : Place) (onward : Onward) (low_is : place.low ≡ lower_of e.letter) (onward_is : onward ≡ record { up = upper_of e.letter; to = e.to }) where
+module _ (second : List (Edge Pair)) (q : ℕ) (e : Edge Pair) (place : EdgeKey) (onward : Onward) (low_is : place.low ≡ lower_of e.letter) (onward_is : onward ≡ record { up = upper_of e.letter; to = e.to }) where
   there : (low : Option Sym) → place.low ≡ low → is_some low ≡ true → (symbol : Sym) × (place.low ≡ Some symbol)
   there None is other = cc
   there (Some symbol) is other = (symbol, is)
 
-  pub matches_some : is_some place.low ≡ true → (rows : List (Place × Onward)) → ((row : Place × Onward) → Contains rows row ↔ (IsRow second row × (row.0 ≡ record { state = q; low = place.low }))) → (old new : List (Onward × Onward)) → Gains (ForSome (λ row both. both ≡ (onward, row.1)) rows) old new → Gains (IsMatchOf second q e) old new
+  pub matches_some : is_some place.low ≡ true → (rows : List (EdgeKey × Onward)) → ((row : EdgeKey × Onward) → Contains rows row ↔ (IsRow second row × (row.0 ≡ record { state = q; low = place.low }))) → (old new : List (Onward × Onward)) → Gains (ForSome (λ row both. both ≡ (onward, row.1)) rows) old new → Gains (IsMatchOf second q e) old new
   matches_some some rows at old new =
       let s = there place.low refl some in
       let symbol : Sym = s.0 in
-      let wanted : Place = record { state = q; low = place.low } in
+      let wanted : EdgeKey = record { state = q; low = place.low } in
       Gains-same (ForSome (λ row both. both ≡ (onward, row.1)) rows) (IsMatchOf second q e) old new
       (λ both r.
       let passes : Passes second q r.0.1.up (Some symbol) r.0.1.to = subst (λ l. Passes second q r.0.1.up l r.0.1.to) s.1 (passes_at second rows wanted at r.0 r.1) in

@@ -6,8 +6,8 @@ use Rattle.std.proofs.lemmas.List.{take_more, take_all, length_push}
 use Rattle.std.proofs.lemmas.List.Elements.{Contains-push_cases, Contains-push, Contains-append_left}
 use Rattle.std.proofs.lemmas.Option.{slice_get_within, same_Some, slice_get-get_or}
 use Rattle.fsm_base.specs.declared.letters.Pair.{Pair}
-use Rattle.fsm_words.proofs.Members.{Contains-nil_cases}
-use Rattle.fsm_words.proofs.Places.{slice_get-append_left, slice_get-push}
+use Rattle.word_relations.proofs.Members.{Contains-nil_cases}
+use Rattle.word_relations.proofs.Places.{slice_get-append_left, slice_get-push}
 use Rattle.fsa.specs.Automaton.{Automaton, IsFinal}
 use Rattle.fsa.specs.declared.automaton.Edge.{Edge}
 use Rattle.fst_compose.specs.declared.moves.Move.{Move}

@@ -6,7 +6,7 @@ use Rattle.std.specs.Option.{option_to_list}
 use Rattle.std.proofs.lemmas.Option.{same_Some}
 use Rattle.fsm_base.specs.declared.letters.Sym.{Sym}
 use Rattle.fsm_base.specs.declared.letters.Pair.{Pair}
-use Rattle.fsm_words.specs.Relations.{AreSame, ShareLower}
+use Rattle.word_relations.specs.Relations.{AreSame, ShareLower}
 use Rattle.fsa.specs.Automaton.{Automaton, IsFinal}
 use Rattle.fsa.specs.Language.{AcceptsFrom}
 use Rattle.fsa.specs.Language as language

@@ -7,18 +7,18 @@ use Rattle.std.proofs.lemmas.Bool.{cases_lt, cases_eq}
 use Rattle.std.proofs.lemmas.Option.{slice_get_within, slice_get-get_or, slice_get-map, get_or_from_slice_get, same_Some}
 use Rattle.std.proofs.lemmas.List.{take_more, take_all, length-map}
 use Rattle.std.proofs.lemmas.List.Elements.{Contains-push_cases}
-use Rattle.fsm_words.proofs.Members.{Contains-map, Contains-map_cases}
-use Rattle.fsm_words.proofs.Places.{slice_get-append_left, slice_get-set_same, slice_get-set_other, same_at, Contains-from_slice_get}
+use Rattle.word_relations.proofs.Members.{Contains-map, Contains-map_cases}
+use Rattle.word_relations.proofs.Places.{slice_get-append_left, slice_get-set_same, slice_get-set_other, same_at, Contains-from_slice_get}
 use Rattle.fsa.specs.Automaton.{Automaton, IsFinal, IsWellFormed, UsesLetter}
 use Rattle.fsa.specs.Language.{AcceptsFrom, Accepts, stop, read, skip}
 use Rattle.fsa.specs.declared.automaton.Edge.{Edge}
-use Rattle.fsa_walk.specs.Marks.{Marks, Adds, Grows, IsBounded}
-use Rattle.fsa_walk.specs.Reaches.{IsReached, here}
-use Rattle.fsa_walk.proofs.Added.{Adds-then, Adds-same}
-use Rattle.fsa_walk.proofs.Closed.{Reaches-push}
+use Rattle.fsa_explore.specs.Marks.{Marks, Adds, Grows, IsBounded}
+use Rattle.fsa_explore.specs.Reaches.{IsReached, here}
+use Rattle.fsa_explore.proofs.Added.{Adds-then, Adds-same}
+use Rattle.fsa_explore.proofs.Closed.{Reaches-push}
 use Rattle.fsa_rational.proofs.Walks.{same_elements}
 use Rattle.fst_compose.specs.Gains.{Gains, ForSome}
-use Rattle.fst_compose.specs.Trimmed.{IsNumbering, IsRenumbered, turned}
+use Rattle.fst_compose.specs.Trimmed.{IsNumbering, IsRenumbered, reversed}
 use Rattle.fst_compose.proofs.Gaining.{Gains-none, Gains-push, Gains-same, some_more, some_all, gained}
 
 -- the final states, state by state
@@ -118,11 +118,11 @@ pub edges_all : {L : Type 0} (numbers : List (Option ℕ)) (edges : List (Edge L
 edges_all numbers edges i now past h = gained (ForSome (IsRenumbered numbers) edges) now (some_all (IsRenumbered numbers) edges i [] now past h)
 
 -- each state on a path to a final state is reached backwards
-module _ {L : Type 0} (a : Automaton L) (back rows : List (Edge L)) (is : back ≡ map turned a.edges) (perm : IsPermutation back rows) (found : List ℕ) (finals : (k : ℕ) → IsFinal a k → Contains found k) where
+module _ {L : Type 0} (a : Automaton L) (back rows : List (Edge L)) (is : back ≡ map reversed a.edges) (perm : IsPermutation back rows) (found : List ℕ) (finals : (k : ℕ) → IsFinal a k → Contains found k) where
   backwards : (p : ℕ) (letter : Option L) (q : ℕ) → Contains a.edges (record { from = p; letter = letter; to = q }) → Contains rows (record { from = q; letter = None; to = p })
   backwards p letter q h =
       let e : Edge L = record { from = p; letter = letter; to = q } in
-      (same_elements back rows perm (turned e)).1 (subst (λ es. Contains es (turned e)) (sym is) (Contains-map turned a.edges e h))
+      (same_elements back rows perm (reversed e)).1 (subst (λ es. Contains es (reversed e)) (sym is) (Contains-map reversed a.edges e h))
 
   further : (p q : ℕ) → Contains rows (record { from = q; letter = None; to = p }) → IsReached rows found q → IsReached rows found p
   further p q h (f, start, path) = (f, start, Reaches-push rows p path h)
@@ -132,9 +132,9 @@ module _ {L : Type 0} (a : Automaton L) (back rows : List (Edge L)) (is : back �
   live {p} (read {q = q} {x = x} h rest) = further p q (backwards p (Some x) q h) (live rest)
   live {p} (skip {q = q} h rest) = further p q (backwards p None q h) (live rest)
 
-pub turned_within : {L : Type 0} (a : Automaton L) → IsWellFormed a → (back rows : List (Edge L)) → back ≡ map turned a.edges → IsPermutation back rows → (e : Edge L) → Contains rows e → e.to < length a.finals
+pub turned_within : {L : Type 0} (a : Automaton L) → IsWellFormed a → (back rows : List (Edge L)) → back ≡ map reversed a.edges → IsPermutation back rows → (e : Edge L) → Contains rows e → e.to < length a.finals
 turned_within {L} a ok back rows is perm e h =
-    let r = Contains-map_cases turned a.edges e (subst (λ es. Contains es e) is ((same_elements back rows perm e).0 h)) in
+    let r = Contains-map_cases reversed a.edges e (subst (λ es. Contains es e) is ((same_elements back rows perm e).0 h)) in
     subst (λ k. k < length a.finals) (ap (λ (f : Edge L). f.to) r.2) (ok.within r.0 r.1).0
 
 -- what was found first stays first

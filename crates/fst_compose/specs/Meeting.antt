@@ -7,7 +7,7 @@ use Rattle.fsa.specs.declared.automaton.Edge.{Edge}
 use Rattle.fst_compose.specs.declared.operand.Onward.{Onward}
 use Rattle.fst_compose.specs.declared.moves.Move.{Move}
 
--- the symbols of an edge's letter; a silent edge has none
+-- the symbols of an edge's letter; an epsilon edge has none
 abbrev pub upper_of : Option Pair → Option Sym
 upper_of None = None
 upper_of (Some pair) = pair.up
@@ -16,7 +16,7 @@ abbrev pub lower_of : Option Pair → Option Sym
 lower_of None = None
 lower_of (Some pair) = pair.low
 
--- the letter with these symbols; with none the edge is silent
+-- the letter with these symbols; with none the edge is epsilon
 abbrev pub letter_of : Option Sym → Option Sym → Option Pair
 letter_of None None = None
 letter_of None (Some low) = Some (record { up = None; low = Some low })

@@ -12,5 +12,5 @@ abbrev pub IsRenumbered : {L : Type 0} → List (Option ℕ) → Edge L → Edge
 IsRenumbered numbers old e = (slice_get numbers old.from ≡ Some (Some e.from)) × (slice_get numbers old.to ≡ Some (Some e.to)) × (e.letter ≡ old.letter)
 
 -- the edge without its letter, in the other direction
-abbrev pub turned : {L : Type 0} → Edge L → Edge L
-turned e = record { from = e.to; letter = None; to = e.from }
+abbrev pub reversed : {L : Type 0} → Edge L → Edge L
+reversed e = record { from = e.to; letter = None; to = e.from }

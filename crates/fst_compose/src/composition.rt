@@ -1,5 +1,5 @@
 ghost use Rattle.std.specs.Prelude.{IfOk};
-ghost use Rattle.fsm_words.specs.Relations.{AreSame, IsComposition, ShareLower};
+ghost use Rattle.word_relations.specs.Relations.{AreSame, IsComposition, ShareLower};
 ghost use Rattle.fsm_base.specs.declared.letters.Sym.{Sym};
 ghost use Rattle.fst_relation.specs.Relation.{IsRelated};
 ghost use Rattle.fst_algebra.specs.Relations.{UsesUpper, UsesLower};

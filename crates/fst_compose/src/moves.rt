@@ -4,7 +4,7 @@ ghost use Rattle.fst_compose.specs.declared.moves.Move.{Move};
 ghost use Rattle.fst_compose.specs.Gains.{Gains, ForSome};
 ghost use Rattle.fst_compose.specs.Meeting.{FirstMoves, SecondMoves, IsMatch, IsMove, IsMatchOf, both_move};
 
-use crate::operand::{Onward, Operand, Place, row_of};
+use crate::operand::{EdgeKey, Onward, Operand, row_of};
 use fsa::Edge;
 use fsm_base::{Pair, Sym};
 use std::alloc::{AllocError, Global};
@@ -44,11 +44,11 @@ pub fn moves(
 fn add_first(moves: &mut Vec<Move>, first: &Operand, p: usize, q: usize) -> Result<(), AllocError>
     ensures { OnOk result (Gains (FirstMoves first.now p q) moves.old.items moves.new.items) }
 {
-    let silent = Place {
+    let epsilon = EdgeKey {
         state: p,
         low: None,
     };
-    for row in first.at(silent) {
+    for row in first.at(epsilon) {
         moves.push(Move {
             up: row.1.up,
             low: None,
@@ -63,11 +63,11 @@ fn add_first(moves: &mut Vec<Move>, first: &Operand, p: usize, q: usize) -> Resu
 fn add_second(moves: &mut Vec<Move>, second: &Operand, p: usize, q: usize) -> Result<(), AllocError>
     ensures { OnOk result (Gains (SecondMoves second.now p q) moves.old.items moves.new.items) }
 {
-    let silent = Place {
+    let epsilon = EdgeKey {
         state: q,
         low: None,
     };
-    for row in second.at(silent) {
+    for row in second.at(epsilon) {
         moves.push(Move {
             up: None,
             low: row.1.up,
@@ -140,7 +140,7 @@ fn add_matches(
     if place.low.is_none() {
         return Ok(());
     }
-    let wanted = Place {
+    let wanted = EdgeKey {
         state: q,
         low: place.low,
     };

@@ -5,14 +5,14 @@ ghost use Rattle.fsa.specs.declared.automaton.Edge.{Edge};
 ghost use Rattle.fst_compose.specs.Index.{IsRow, row_of};
 
 use fsa::Edge;
-use fsa_walk::Rows;
+use fsa_explore::EdgesByState;
 use fsm_base::{Letter, Pair, Sym};
 use std::alloc::{AllocError, Global};
 use std::marker::Model;
 
 /// The state that an edge leaves, and the symbol on its lower side.
 #[derive(Clone, Copy, Debug, PartialEq, Eq, PartialOrd, Ord)]
-pub struct Place {
+pub struct EdgeKey {
     /// The state.
     pub state: usize,
     /// The symbol, or none.
@@ -28,7 +28,7 @@ pub struct Onward {
     pub to: usize,
 }
 
-impl Letter for Place {
+impl Letter for EdgeKey {
     ghost equal_is_same = { Prim.search rules };
 }
 
@@ -37,9 +37,9 @@ impl Letter for Place {
 #[derive(Debug, Drop)]
 pub struct Operand {
     /// The edges, by the state that they leave.
-    rows: Rows<Pair>,
+    rows: EdgesByState<Pair>,
     /// The same edges, sorted by that state and then by their lower symbol.
-    by_low: Vec<(Place, Onward)>,
+    by_low: Vec<(EdgeKey, Onward)>,
 }
 
 impl Model for Operand {
@@ -52,7 +52,7 @@ impl Model for Operand {
 
     ghost view = { λ operand. operand.rows };
 
-    ghost invariant = { λ operand. IsIndexed ⟦<Place as Ord>⟧.cmp operand.rows operand.by_low.items };
+    ghost invariant = { λ operand. IsIndexed ⟦<EdgeKey as Ord>⟧.cmp operand.rows operand.by_low.items };
 }
 
 impl Operand {
@@ -60,7 +60,7 @@ impl Operand {
     pub fn of(alloc: Global, edges: &[Edge<Pair>]) -> Result<Operand, AllocError>
         ensures { IfOk result (λ operand. IsPermutation edges.now operand) }
     {
-        let rows = Rows::of(alloc, edges)?;
+        let rows = EdgesByState::of(alloc, edges)?;
         let by_low = sorted_rows(rows_of(alloc, edges)?);
         Ok(Operand { rows, by_low })
     }
@@ -74,8 +74,8 @@ impl Operand {
     }
 
     /// The edges that leave the state and have this symbol, or none, on their lower side; found by halving.
-    pub fn at(&self, place: Place) -> &[(Place, Onward)]
-        ensures { (row : Place × Onward) → Contains result.now row ↔ (IsRow self.now row × (row.0 ≡ place)) }
+    pub fn at(&self, place: EdgeKey) -> &[(EdgeKey, Onward)]
+        ensures { (row : EdgeKey × Onward) → Contains result.now row ↔ (IsRow self.now row × (row.0 ≡ place)) }
     {
         let _ = &self.rows;
         rows_at(self.by_low.as_slice(), place)
@@ -83,7 +83,7 @@ impl Operand {
 }
 
 /// Each edge as a row.
-fn rows_of(alloc: Global, edges: &[Edge<Pair>]) -> Result<Vec<(Place, Onward)>, AllocError>
+fn rows_of(alloc: Global, edges: &[Edge<Pair>]) -> Result<Vec<(EdgeKey, Onward)>, AllocError>
     ensures { IfOk result (λ rows. rows.items ≡ map row_of edges.now) }
 {
     let mut rows = Vec::new(alloc);
@@ -93,15 +93,15 @@ fn rows_of(alloc: Global, edges: &[Edge<Pair>]) -> Result<Vec<(Place, Onward)>, 
     Ok(rows)
 }
 
-/// Where the edge stands, and what it leads to. A silent edge has no symbols.
-pub fn row_of(edge: &Edge<Pair>) -> (Place, Onward)
+/// Where the edge stands, and what it leads to. An epsilon edge has no symbols.
+pub fn row_of(edge: &Edge<Pair>) -> (EdgeKey, Onward)
     ensures { result ≡ row_of edge.now }
 {
     let (up, low) = match edge.letter {
         Some(pair) => (pair.up, pair.low),
         None => (None, None),
     };
-    let place = Place {
+    let place = EdgeKey {
         state: edge.from,
         low,
     };

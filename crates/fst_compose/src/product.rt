@@ -105,7 +105,7 @@ fn add_move(found: &mut Found, number: usize, step: &Move) -> Result<(), AllocEr
     Ok(())
 }
 
-/// The letter with these symbols. With none the edge is silent.
+/// The letter with these symbols. With none the edge is epsilon.
 fn letter_of(up: Option<Sym>, low: Option<Sym>) -> Option<Pair>
     ensures { result ≡ letter_of up low }
 {

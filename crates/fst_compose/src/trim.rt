@@ -3,13 +3,13 @@ ghost use Rattle.fsm_base.specs.declared.letters.Pair.{Pair};
 ghost use Rattle.fsa.specs.Automaton.{UsesLetter};
 ghost use Rattle.fsa.specs.Language.{Accepts, AcceptsFrom};
 ghost use Rattle.fsa.specs.declared.automaton.Edge.{Edge};
-ghost use Rattle.fsa_walk.specs.Marks.{Adds};
+ghost use Rattle.fsa_explore.specs.Marks.{Adds};
 ghost use Rattle.fst_compose.specs.Gains.{ForSome};
-ghost use Rattle.fst_compose.specs.Trimmed.{IsNumbering, IsRenumbered, turned};
+ghost use Rattle.fst_compose.specs.Trimmed.{IsNumbering, IsRenumbered, reversed};
 
 use crate::product::automaton;
 use fsa::{Edge, Fsa};
-use fsa_walk::{Marked, Rows, close};
+use fsa_explore::{EdgesByState, NumberSet, close};
 use fsm_base::Pair;
 use std::alloc::{AllocError, Global};
 
@@ -28,13 +28,13 @@ pub fn trim(alloc: Global, a: &Fsa<Pair>) -> Result<Fsa<Pair>, AllocError>
 }
 
 /// The start, and each state from which a final state is reached.
-fn kept_states(alloc: Global, a: &Fsa<Pair>) -> Result<Marked, AllocError>
+fn kept_states(alloc: Global, a: &Fsa<Pair>) -> Result<NumberSet, AllocError>
     ensures bound { IfOk result (λ kept. kept.bound ≡ length a.now.finals) }
     ensures start { IfOk result (λ kept. slice_get kept.found 0 ≡ Some 0) }
     ensures live { IfOk result (λ kept. (state : ℕ) (w : List Pair) → AcceptsFrom a.now state w → Contains kept.found state) }
 {
-    let backwards = Rows::of(alloc, &turned_edges(alloc, a.edges())?)?;
-    let mut kept = Marked::new(alloc, a.states())?;
+    let backwards = EdgesByState::of(alloc, &reversed_edges(alloc, a.edges())?)?;
+    let mut kept = NumberSet::new(alloc, a.states())?;
     kept.add(0)?;
     add_finals(&mut kept, a.finals())?;
     close(&backwards, &mut kept)?;
@@ -42,22 +42,22 @@ fn kept_states(alloc: Global, a: &Fsa<Pair>) -> Result<Marked, AllocError>
 }
 
 /// The edges in the other direction, without their letters.
-fn turned_edges(alloc: Global, edges: &[Edge<Pair>]) -> Result<Vec<Edge<Pair>>, AllocError>
-    ensures { IfOk result (λ turned_edges. turned_edges.items ≡ map turned edges.now) }
+fn reversed_edges(alloc: Global, edges: &[Edge<Pair>]) -> Result<Vec<Edge<Pair>>, AllocError>
+    ensures { IfOk result (λ reversed_edges. reversed_edges.items ≡ map reversed edges.now) }
 {
-    let mut turned_edges = Vec::new(alloc);
+    let mut reversed_edges = Vec::new(alloc);
     for edge in edges {
-        turned_edges.push(Edge {
+        reversed_edges.push(Edge {
             from: edge.to,
             letter: None,
             to: edge.from,
         })?;
     }
-    Ok(turned_edges)
+    Ok(reversed_edges)
 }
 
 /// Adds the final states.
-fn add_finals(states: &mut Marked, finals: &[bool]) -> Result<(), AllocError>
+fn add_finals(states: &mut NumberSet, finals: &[bool]) -> Result<(), AllocError>
     requires { length finals.now ≤ states.old.bound }
     ensures { OnOk result (Adds states.old states.new (λ k. slice_get finals.now k ≡ Some true)) }
 {
@@ -70,7 +70,11 @@ fn add_finals(states: &mut Marked, finals: &[bool]) -> Result<(), AllocError>
 }
 
 /// For each state its new number, or None where it isn't kept.
-fn numbers_of(alloc: Global, states: usize, kept: &Marked) -> Result<Vec<Option<usize>>, AllocError>
+fn numbers_of(
+    alloc: Global,
+    states: usize,
+    kept: &NumberSet,
+) -> Result<Vec<Option<usize>>, AllocError>
     requires states { states ≡ kept.now.bound }
     requires start { slice_get kept.now.found 0 ≡ Some 0 }
     ensures start { IfOk result (λ numbers. slice_get numbers.items 0 ≡ Some (Some 0)) }

@@ -6,8 +6,8 @@ use Rattle.std.specs.Option.{option_to_list}
 use Rattle.std.specs.Prelude.{Option}
 use Rattle.fsm_base.specs.declared.letters.Sym.{Sym}
 use Rattle.fsm_base.specs.declared.letters.Pair.{Pair}
-use Rattle.fsm_words.specs.Words.{joined, IsConcatenation, IsRepetition}
-use Rattle.fsm_words.specs.Relations.{AreSame, IsConcatenationOfPairs, IsRepetitionOfPairs}
+use Rattle.word_relations.specs.Words.{joined, IsConcatenation, IsRepetition}
+use Rattle.word_relations.specs.Relations.{AreSame, IsConcatenationOfPairs, IsRepetitionOfPairs}
 use Rattle.fsa.specs.Automaton.{Automaton}
 use Rattle.fsa.specs.Language.{Accepts}
 use Rattle.fst_relation.specs.Relation.{symbols_on, uppers, lowers, IsRelated}

@@ -2,7 +2,7 @@
 -- Leipzig Glossing Rules, 2015, rule 1: glosses stand under their words, aligned at the left).
 use Rattle.std.specs.Prelude.{ℕ, max, ◌-◌, ◌++◌, false, List, [], ◌∷◌, length, replicate, codes, decimal, chars}
 use Rattle.unicode_width.specs.Width.{str_width}
-use Rattle.fsm_meaning.specs.Replies.{line_of, headed}
+use Rattle.reply_meaning.specs.Replies.{line_of, headed}
 use Rattle.interlinear.specs.declared.columns.Cell.{Cell}
 use Rattle.interlinear.specs.declared.columns.Row.{Row}
 use Rattle.interlinear.specs.declared.columns.Row.TheVariants.{Words, Analyses, Glosses}

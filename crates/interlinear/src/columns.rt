@@ -1,6 +1,6 @@
 ghost use Rattle.std.specs.Prelude.{◌≡◌, ◌++◌, replicate, IfOk, OnOk};
 ghost use Rattle.std.specs.String.{string_bytes};
-ghost use Rattle.fsm_meaning.specs.Replies.{line_of};
+ghost use Rattle.reply_meaning.specs.Replies.{line_of};
 ghost use Rattle.interlinear.specs.Blocks.{column_of, padded, text_in, row_of, block_of};
 
 use fsm_base::Text;

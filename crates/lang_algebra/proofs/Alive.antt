@@ -5,18 +5,18 @@ use Rattle.std.specs.List.{Contains, slice_get}
 use Rattle.std.proofs.lemmas.Bool.{cases_lt}
 use Rattle.std.proofs.lemmas.Option.{slice_get_within}
 use Rattle.std.proofs.lemmas.List.Elements.{Contains-append_left}
-use Rattle.fsm_words.proofs.Members.{Contains-nil_cases, Contains-map, Contains-map_cases}
-use Rattle.fsm_words.proofs.Places.{same_at}
+use Rattle.word_relations.proofs.Members.{Contains-nil_cases, Contains-map, Contains-map_cases}
+use Rattle.word_relations.proofs.Places.{same_at}
 use Rattle.fsa.specs.Automaton.{Automaton, IsFinal, IsWellFormed, UsesLetter}
 use Rattle.fsa.specs.Language.{AcceptsFrom, Accepts, stop, read, skip}
 use Rattle.fsa.specs.declared.automaton.Edge.{Edge}
-use Rattle.fsa_walk.specs.Marks.{Marks, Adds}
-use Rattle.fsa_walk.specs.Reaches.{Reaches, IsReached, here, along}
-use Rattle.fsa_walk.specs.Targets.{AreWithin}
-use Rattle.fsa_walk.proofs.Closed.{Reaches-push}
+use Rattle.fsa_explore.specs.Marks.{Marks, Adds}
+use Rattle.fsa_explore.specs.Reaches.{Reaches, IsReached, here, along}
+use Rattle.fsa_explore.specs.Targets.{AreWithin}
+use Rattle.fsa_explore.proofs.Closed.{Reaches-push}
 use Rattle.fsa_rational.specs.Shapes.{Extends}
 use Rattle.fsa_rational.proofs.Walks.{AcceptsFrom-step}
-use Rattle.lang_algebra.specs.Live.{IsLive, IsLivePart, back}
+use Rattle.lang_algebra.specs.Live.{IsLive, IsTrimmed, back}
 
 -- the numbers below the bound are those that were found, of the final states before one
 pub record AreFinalsBelow (finals : List Bool) (upto : ℕ) (marks : Marks) : Type 0 where
@@ -110,7 +110,7 @@ module _ {L : Type 0} (a : Automaton L) (turned : List (Edge L)) (same : (e : Ed
       let inside = (ok.within r.0 r.1).0 in
       omega arith
 
-module _ {L : Type 0} (a m : Automaton L) (part : IsLivePart a m) where
+module _ {L : Type 0} (a m : Automaton L) (part : IsTrimmed a m) where
   pub part_letters : (x : L) → UsesLetter m x → UsesLetter a x
   part_letters x (e, c, is) = (e, ((part.edges e).0 c).0, is)
 
@@ -128,8 +128,8 @@ module _ {L : Type 0} (a m : Automaton L) (part : IsLivePart a m) where
   part_language w = (part_down, part_up)
 
 -- the edges that enter a state that was found
-pub live_part_made : {L : Type 0} (a start m : Automaton L) (states : Marks) → start.edges ≡ [] → start.finals ≡ a.finals → ((k : ℕ) → Contains states.found k ↔ IsLive a k) → Extends start m (λ e. Contains a.edges e × Contains states.found e.to) → IsLivePart a m
-live_part_made a start m states none finals live made = record {
+pub trim_made : {L : Type 0} (a start m : Automaton L) (states : Marks) → start.edges ≡ [] → start.finals ≡ a.finals → ((k : ℕ) → Contains states.found k ↔ IsLive a k) → Extends start m (λ e. Contains a.edges e × Contains states.found e.to) → IsTrimmed a m
+trim_made a start m states none finals live made = record {
   finals = made.finals ∙ finals;
   edges = λ e. (
     λ h. elim (made.only e h) [

@@ -2,5 +2,4 @@ pub mod Alive
 pub mod OneLetter
 pub mod Inserting
 pub mod Made
-pub mod Ignored
 pub mod Small

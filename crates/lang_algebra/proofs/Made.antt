@@ -2,13 +2,13 @@
 use Rattle.std.proofs.Common.{◌≡◌, ◌↔◌, ◌∙◌, List, [], ◌∷◌, ◌++◌, All, refl, subst, sym, ap}
 use Rattle.std.specs.List.{Contains}
 use Rattle.std.proofs.lemmas.List.Elements.{All-nil, All-cons, All-head, All-tail, All-append}
-use Rattle.fsm_words.specs.Words.{IsOver, IsConcatenation, IsRepetition}
-use Rattle.fsm_words.proofs.Laws.{IsOver-repetition, IsRepetition-more}
+use Rattle.word_relations.specs.Words.{IsOver, IsConcatenation, IsRepetition}
+use Rattle.word_relations.proofs.Laws.{IsOver-repetition, IsRepetition-more}
 use Rattle.fsa.specs.Automaton.{Automaton}
 use Rattle.fsa.specs.Language as language
 use Rattle.fsa.specs.Complete.{Complete, IsComplete, Accepts}
 use Rattle.fsa_product.proofs.Turned.{accepted_over}
-use Rattle.fsm_words.specs.Operations.{IsOneLetter, HasPart, IsIgnoring}
+use Rattle.word_relations.specs.Operations.{IsOneLetter, HasPart, IsIgnoring}
 use Rattle.lang_algebra.proofs.Inserting.{IsIgnoring-more}
 use Rattle.lang_algebra.specs.Languages.{IsLang}
 

@@ -2,12 +2,12 @@
 use Rattle.std.proofs.Common.{◌≡◌, ℕ, zero, suc, ◌↔◌, List, [], ◌∷◌, ◌++◌, true, false, Some, None, length, set, refl, subst, sym, ap, inl, inr, arith, ◌∙◌}
 use Rattle.std.specs.List.{Contains, slice_get}
 use Rattle.std.proofs.lemmas.Option.{same_Some}
-use Rattle.fsm_words.proofs.Members.{Contains-nil_cases}
+use Rattle.word_relations.proofs.Members.{Contains-nil_cases}
 use Rattle.fsa.specs.Automaton.{Automaton, UsesLetter}
 use Rattle.fsa.specs.Language.{AcceptsFrom, Accepts, stop, read, skip}
 use Rattle.fsa.specs.declared.automaton.Edge.{Edge}
 use Rattle.fsa_rational.specs.Shapes.{Extends, ComesFrom}
-use Rattle.fsm_words.specs.Operations.{IsOneLetter}
+use Rattle.word_relations.specs.Operations.{IsOneLetter}
 
 abbrev pub letter_edge : {L : Type 0} → ℕ → L → Edge L
 letter_edge to x = record { from = 0; letter = Some x; to = to }

@@ -1,3 +1,2 @@
 pub mod Languages
 pub mod Live
-pub mod Sources

@@ -9,11 +9,11 @@ use Rattle.fsa.specs.declared.automaton.Edge.{Edge}
 abbrev pub IsLive : {L : Type 0} → Automaton L → ℕ → Type 0
 IsLive {L} m state = (w : List L) × AcceptsFrom m state w
 
--- a silent edge in the other direction
+-- an epsilon edge in the other direction
 abbrev pub back : {L : Type 0} → Edge L → Edge L
 back e = record { from = e.to; letter = None; to = e.from }
 
 -- the same states, and the edges that enter a state from which a final one is reached
-pub record IsLivePart {L : Type 0} (old new : Automaton L) : Type 0 where
+pub record IsTrimmed {L : Type 0} (old new : Automaton L) : Type 0 where
   pub finals : new.finals ≡ old.finals
   pub edges : (e : Edge L) → Contains new.edges e ↔ (Contains old.edges e × IsLive old e.to)

@@ -1,14 +1,13 @@
 ghost use Rattle.std.specs.Prelude.{◌≡◌, ◌↔◌, ◌⊎◌, [], IfOk, IsTrue, List, Contains, reverse};
-ghost use Rattle.fsm_words.specs.Words.{IsDistinct, IsOver, IsConcatenation, IsRepetition};
-ghost use Rattle.fsa.specs.Automaton.{UsesLetter, HasNoSilentEdge};
+ghost use Rattle.word_relations.specs.Words.{IsDistinct, IsOver, IsConcatenation, IsRepetition};
+ghost use Rattle.fsa.specs.Automaton.{UsesLetter, HasNoEpsilonEdge};
 ghost use Rattle.fsa.specs.Complete.{Accepts, IsComplete};
 ghost use Rattle.fsa.specs.Language as language;
 ghost use Rattle.lang_algebra.specs.Languages.{IsLang};
-ghost use Rattle.fsm_words.specs.Operations.{IsOneLetter, HasPart, IsIgnoring};
+ghost use Rattle.word_relations.specs.Operations.{IsOneLetter, HasPart, IsIgnoring};
 
-use crate::ignoring::ignoring;
 use crate::letters::one_letter;
-use crate::live::live_part;
+use crate::live::trim;
 use fsa::{Dfa, Fsa};
 use fsa_minimal::minimal;
 use fsa_subset::determine;
@@ -42,7 +41,7 @@ impl<L: Letter> Lang<L> {
         requires all { (x : L) → UsesLetter a.now x → Contains letters.now x }
         ensures { IfOk result (IsLang letters.now (language.Accepts a.now)) }
     {
-        let dfa = determine(alloc, &live_part(alloc, a)?, letters)?;
+        let dfa = determine(alloc, &trim(alloc, a)?, letters)?;
         Lang::of_small(alloc, &dfa)
     }
 
@@ -86,14 +85,14 @@ impl<L: Letter> Lang<L> {
         self.dfa.accepts(word)
     }
 
-    /// An automaton of the language, without silent edges. Its edges enter only states from which a final one is
+    /// An automaton of the language, without epsilon edges. Its edges enter only states from which a final one is
     /// reached.
     pub fn to_fsa(&self, alloc: Global) -> Result<Fsa<L>, AllocError>
         ensures letters { IfOk result (λ m. (x : L) → UsesLetter m x → Contains self.now.letters x) }
-        ensures silent { IfOk result HasNoSilentEdge }
+        ensures epsilon { IfOk result HasNoEpsilonEdge }
         ensures language { IfOk result (λ m. (w : List L) → language.Accepts m w ↔ Accepts self.now w) }
     {
-        live_part(alloc, &self.dfa.to_fsa(alloc)?)
+        trim(alloc, &self.dfa.to_fsa(alloc)?)
     }
 
     /// The words that are a word of this language and then one of the other. The languages have the same letters.
@@ -181,8 +180,7 @@ impl<L: Letter> Lang<L> {
         requires { other.now.letters ≡ self.now.letters }
         ensures { IfOk result (IsLang self.now.letters (IsIgnoring (Accepts self.now) (Accepts other.now))) }
     {
-        let letters = self.letters();
-        let mixed = ignoring(alloc, letters, &self.to_fsa(alloc)?, &other.to_fsa(alloc)?)?;
-        Lang::of(alloc, letters, &mixed)
+        let mixed = fsa_rational::ignore(alloc, &self.to_fsa(alloc)?, &other.to_fsa(alloc)?)?;
+        Lang::of(alloc, self.letters(), &mixed)
     }
 }

@@ -2,7 +2,7 @@ ghost use Rattle.std.specs.Prelude.{◌≡◌, ◌↔◌, [], ◌∷◌, false, 
 ghost use Rattle.fsa.specs.Automaton.{UsesLetter};
 ghost use Rattle.fsa.specs.Language.{Accepts};
 ghost use Rattle.fsa.specs.declared.automaton.Edge.{Edge};
-ghost use Rattle.fsm_words.specs.Operations.{IsOneLetter};
+ghost use Rattle.word_relations.specs.Operations.{IsOneLetter};
 
 use fsa::{Edge, Fsa};
 use fsm_base::Letter;

@@ -6,11 +6,9 @@
 //! - [`one_letter`]: the automaton of one of some letters.
 #![tactic(auto)]
 
-mod ignoring;
 mod lang;
 mod letters;
 mod live;
-mod sources;
 
 pub use lang::Lang;
 pub use letters::one_letter;

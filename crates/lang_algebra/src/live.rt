@@ -3,17 +3,17 @@ ghost use Rattle.fsa.specs.Automaton.{UsesLetter};
 ghost use Rattle.fsa.specs.Language.{Accepts};
 ghost use Rattle.fsa.specs.declared.automaton.Edge.{Edge};
 ghost use Rattle.fsa_rational.specs.Shapes.{Extends};
-ghost use Rattle.lang_algebra.specs.Live.{IsLive, IsLivePart, back};
+ghost use Rattle.lang_algebra.specs.Live.{IsLive, IsTrimmed, back};
 
 use fsa::{Edge, Fsa};
-use fsa_walk::{Marked, Rows, close};
+use fsa_explore::{EdgesByState, NumberSet, close};
 use fsm_base::Letter;
 use std::alloc::{AllocError, Global};
 
 /// An automaton of the same language, without the edges that enter a state from which no final state is reached.
 /// Takes time in proportion to the edges, which are sorted.
-pub fn live_part<L: Letter>(alloc: Global, a: &Fsa<L>) -> Result<Fsa<L>, AllocError>
-    ensures part { IfOk result (IsLivePart a.now) }
+pub fn trim<L: Letter>(alloc: Global, a: &Fsa<L>) -> Result<Fsa<L>, AllocError>
+    ensures part { IfOk result (IsTrimmed a.now) }
     ensures letters { IfOk result (λ m. (x : L) → UsesLetter m x → UsesLetter a.now x) }
     ensures language { IfOk result (λ m. (w : List L) → Accepts m w ↔ Accepts a.now w) }
 {
@@ -24,7 +24,11 @@ pub fn live_part<L: Letter>(alloc: Global, a: &Fsa<L>) -> Result<Fsa<L>, AllocEr
 }
 
 /// Adds those of the edges that enter one of the states.
-fn add_live<L: Letter>(m: &mut Fsa<L>, edges: &[Edge<L>], live: &Marked) -> Result<(), AllocError>
+fn add_live<L: Letter>(
+    m: &mut Fsa<L>,
+    edges: &[Edge<L>],
+    live: &NumberSet,
+) -> Result<(), AllocError>
     requires within { (e : Edge L) → Contains edges.now e → (e.from < length m.old.finals) × (e.to < length m.old.finals) }
     requires bound { live.now.bound ≡ length m.old.finals }
     ensures { OnOk result (Extends m.old m.new (λ e. Contains edges.now e × Contains live.now.found e.to)) }
@@ -38,18 +42,18 @@ fn add_live<L: Letter>(m: &mut Fsa<L>, edges: &[Edge<L>], live: &Marked) -> Resu
 }
 
 /// The states from which a final state is reached.
-fn live_states<L: Letter>(alloc: Global, a: &Fsa<L>) -> Result<Marked, AllocError>
+fn live_states<L: Letter>(alloc: Global, a: &Fsa<L>) -> Result<NumberSet, AllocError>
     ensures bound { IfOk result (λ live. live.bound ≡ length a.now.finals) }
     ensures live { IfOk result (λ live. (state : ℕ) → Contains live.found state ↔ IsLive a.now state) }
 {
-    let rows = Rows::of(alloc, &edges_back(alloc, a.edges())?)?;
+    let rows = EdgesByState::of(alloc, &reversed_edges(alloc, a.edges())?)?;
     let mut states = final_states(alloc, a.finals())?;
     close(&rows, &mut states)?;
     Ok(states)
 }
 
-/// A silent edge in the other direction for each edge.
-fn edges_back<L: Letter>(alloc: Global, edges: &[Edge<L>]) -> Result<Vec<Edge<L>>, AllocError>
+/// An epsilon edge in the other direction for each edge.
+fn reversed_edges<L: Letter>(alloc: Global, edges: &[Edge<L>]) -> Result<Vec<Edge<L>>, AllocError>
     ensures { IfOk result (λ turned. turned.items ≡ map back edges.now) }
 {
     let mut turned = Vec::new(alloc);
@@ -64,11 +68,11 @@ fn edges_back<L: Letter>(alloc: Global, edges: &[Edge<L>]) -> Result<Vec<Edge<L>
 }
 
 /// The set of the final states.
-fn final_states(alloc: Global, finals: &[bool]) -> Result<Marked, AllocError>
+fn final_states(alloc: Global, finals: &[bool]) -> Result<NumberSet, AllocError>
     ensures bound { IfOk result (λ states. states.bound ≡ length finals.now) }
     ensures states { IfOk result (λ states. (state : ℕ) → Contains states.found state ↔ (slice_get finals.now state ≡ Some true)) }
 {
-    let mut states = Marked::new(alloc, finals.len())?;
+    let mut states = NumberSet::new(alloc, finals.len())?;
     for (state, is_final) in finals.iter().enumerate() {
         if *is_final {
             states.add(state)?;

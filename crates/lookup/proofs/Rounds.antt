@@ -8,10 +8,10 @@ use Rattle.fsm_base.specs.Alphabet.{IsAlphabet, spelled, symbols_of, text_of, te
 use Rattle.fsm_base.specs.Symbols.{IsSymbol}
 use Rattle.fsm_base.specs.declared.letters.Sym.{Sym}
 use Rattle.fsm_base.proofs.AlphabetLemmas.{text_of-pair}
-use Rattle.fsm_words.specs.Words.{IsOver, joined}
-use Rattle.fsm_words.proofs.Laws.{joined-append}
-use Rattle.fsm_words.proofs.Members.{Contains-map, Contains-map_cases}
-use Rattle.fsm_words.specs.Answers.{Answers, Found, IsLoop, Texts, times}
+use Rattle.word_relations.specs.Words.{IsOver, joined}
+use Rattle.word_relations.proofs.Laws.{joined-append}
+use Rattle.word_relations.proofs.Members.{Contains-map, Contains-map_cases}
+use Rattle.word_relations.specs.Answers.{Answers, Found, IsLoop, Texts, times}
 use Rattle.fsa.specs.declared.automaton.Edge.{Edge}
 use Rattle.lookup_graph.specs.Graph.{Connects, IsPath, Writes, letters_of}
 use Rattle.lookup_graph.specs.Turns.{IsTurn, rounds}

@@ -25,13 +25,13 @@ module _ (moves : List Move) (finals : List Bool) (word : List Sym) (c : Config)
   step_follows out read d l are m has state is_read letter to j place =
       (m, (are m).1 (has, λ i. record { state = state i; read = is_read i }), sym letter, λ i. Some (record { place = place i; state = sym to i }))
 
-  abbrev silent : List Move → Type 0
-  silent out = AreAt moves (record { state = c.state; read = None }) out
+  abbrev epsilon : List Move → Type 0
+  epsilon out = AreAt moves (record { state = c.state; read = None }) out
 
   abbrev reading : Sym → List Move → Type 0
   reading s out = AreAt moves (record { state = c.state; read = Some s }) out
 
-  split_inside : (s : Sym) (first second : List Move) → slice_get word c.place ≡ Some s → silent first → reading s second → (l : Option Sym) (t : Option Config) → Steps moves finals word c l t → Follows first c.place l t ⊎ Follows second (c.place + 1) l t
+  split_inside : (s : Sym) (first second : List Move) → slice_get word c.place ≡ Some s → epsilon first → reading s second → (l : Option Sym) (t : Option Config) → Steps moves finals word c l t → Follows first c.place l t ⊎ Follows second (c.place + 1) l t
   split_inside s first second at out1 out2 l None (none, past, final) = let w = slice_get_within word c.place s at in absurd (omega arith)
   split_inside s first second at out1 out2 l (Some d) (m, has, state, reads, letter, to) = by m.at.read refl reads
     where
@@ -41,7 +41,7 @@ module _ (moves : List Move) (finals : List Bool) (word : List Sym) (c : Config)
           let same : x ≡ s = same_Some x s (sym here ∙ at) in
           inr (step_follows second (Some s) d l out2 m has state (is ∙ ap Some same) letter to (c.place + 1) on)
 
-  split_past : (first : List Move) → length word ≤ c.place → silent first → (l : Option Sym) (t : Option Config) → Steps moves finals word c l t → Follows first c.place l t ⊎ Ends finals c.state l t
+  split_past : (first : List Move) → length word ≤ c.place → epsilon first → (l : Option Sym) (t : Option Config) → Steps moves finals word c l t → Follows first c.place l t ⊎ Ends finals c.state l t
   split_past first past out l None (none, is_past, final) = inr (none, refl, final)
   split_past first past out l (Some d) (m, has, state, reads, letter, to) = by m.at.read refl reads
     where
@@ -49,12 +49,12 @@ module _ (moves : List Move) (finals : List Bool) (word : List Sym) (c : Config)
       by None is here = inl (step_follows first None d l out m has state is letter to c.place here)
       by (Some x) is (here, on) = let w = slice_get_within word c.place x here in absurd (omega arith)
 
-  pub visits_inside : (s : Sym) (first second : List Move) → slice_get word c.place ≡ Some s → silent first → reading s second → (node : ℕ) (old now new : Reached) → AddsSteps (Follows first c.place) node old now → AddsSteps (Follows second (c.place + 1)) node now new → AddsSteps (Steps moves finals word c) node old new
+  pub visits_inside : (s : Sym) (first second : List Move) → slice_get word c.place ≡ Some s → epsilon first → reading s second → (node : ℕ) (old now new : Reached) → AddsSteps (Follows first c.place) node old now → AddsSteps (Follows second (c.place + 1)) node now new → AddsSteps (Steps moves finals word c) node old new
   visits_inside s first second at out1 out2 node old now new =
       AddsSteps-then (Follows first c.place) (Follows second (c.place + 1)) (Steps moves finals word c) node old now new
       (split_inside s first second at out1 out2) (follows_step first None c.place out1 refl) (follows_step second (Some s) (c.place + 1) out2 (at, refl))
 
-  pub visits_past : (first : List Move) → length word ≤ c.place → silent first → (node : ℕ) (old now new : Reached) → AddsSteps (Follows first c.place) node old now → AddsSteps (Ends finals c.state) node now new → AddsSteps (Steps moves finals word c) node old new
+  pub visits_past : (first : List Move) → length word ≤ c.place → epsilon first → (node : ℕ) (old now new : Reached) → AddsSteps (Follows first c.place) node old now → AddsSteps (Ends finals c.state) node now new → AddsSteps (Steps moves finals word c) node old new
   visits_past first past out node old now new =
       AddsSteps-then (Follows first c.place) (Ends finals c.state) (Steps moves finals word c) node old now new
       (split_past first past out) (follows_step first None c.place out refl)

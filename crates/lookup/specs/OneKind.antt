@@ -3,7 +3,7 @@
 use Rattle.std.specs.Prelude.{ℕ, List}
 use Rattle.fsm_base.specs.declared.letters.Sym.{Sym}
 use Rattle.fsm_base.specs.declared.letters.Pair.{Pair}
-use Rattle.fsm_words.specs.Answers.{Answers, Found}
+use Rattle.word_relations.specs.Answers.{Answers, Found}
 use Rattle.lookup_answers.specs.OneKind.{IsSameKind}
 use Rattle.fsa.specs.Automaton.{Automaton}
 use Rattle.lookup_walk.specs.Answering.{LowerTexts, UpperTexts}

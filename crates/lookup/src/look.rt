@@ -1,7 +1,7 @@
 ghost use Rattle.std.specs.Prelude.{◌≡◌, ◌<◌, IfOk};
-ghost use Rattle.fsm_words.specs.Words.{IsOver, joined};
+ghost use Rattle.word_relations.specs.Words.{IsOver, joined};
 ghost use Rattle.fsm_base.specs.Alphabet.{spelled, symbols_of};
-ghost use Rattle.fsm_words.specs.Answers.{Answers, IsLoop, loop};
+ghost use Rattle.word_relations.specs.Answers.{Answers, IsLoop, loop};
 ghost use Rattle.lookup_graph.specs.Graph.{IsWithin};
 ghost use Rattle.lookup_graph.specs.Turns.{IsTurn};
 ghost use Rattle.lookup_texts.specs.GraphTexts.{AreOf, GraphTexts};
@@ -44,7 +44,7 @@ pub fn down(
     look(alloc, net, Direction::Down, alphabet, word)
 }
 
-/// The words that a network relates to a word, in one direction or the other. Most words have few runs, and are answered by
+/// The words that a network relates to a word, in one direction or the other. Most words have few paths, and are answered by
 /// taking these; a search that puts together what goes on alike answers the others.
 fn look(
     alloc: Global,

@@ -73,8 +73,8 @@ fn visit(
     ensures { OnOk result (AddsSteps (Steps table.now finals.now word.now config) node explored.old explored.new) }
 {
     let Config { place, state } = config;
-    let silent = table.out(Spot { state, read: None });
-    follow(silent, place, node, explored)?;
+    let epsilon = table.out(Spot { state, read: None });
+    follow(epsilon, place, node, explored)?;
     let Some(symbol) = word.get(place) else {
         end(finals, state, node, explored)?;
         return Ok(());

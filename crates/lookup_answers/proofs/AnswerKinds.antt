@@ -8,8 +8,8 @@ use Rattle.std.proofs.lemmas.List.Sums.{get_or-le-sum_by}
 use Rattle.std.proofs.lemmas.Map.Keys.{IsDistinct-from_apart}
 use Rattle.std.proofs.lemmas.Map.Made.{is_member-Decides, length-le_from_is_member}
 use Rattle.std.proofs.lemmas.Option.{slice_get-get_or}
-use Rattle.fsm_words.specs.Words.{IsDistinct}
-use Rattle.fsm_words.specs.Answers.{Answers, AreAll, AreMore, IsLoop, Found, strings, more, loop, times}
+use Rattle.word_relations.specs.Words.{IsDistinct}
+use Rattle.word_relations.specs.Answers.{Answers, AreAll, AreMore, IsLoop, Found, strings, more, loop, times}
 use Rattle.lookup_answers.specs.OneKind.{IsSameKind}
 
 -- different texts of a list are no more than its texts

@@ -7,8 +7,8 @@ use Rattle.std.specs.Cmp.Lexicographic.{slice_cmp}
 use Rattle.std.specs.Ordering.{nat_cmp, ordering_reverse, is_lt}
 use Rattle.std.proofs.lemmas.Cmp.{nat_list_cmp_total, tied_itself}
 use Rattle.std.proofs.Common.{Bool, true, false, true≢false}
-use Rattle.fsm_words.specs.Answers.{AreAll, IsInOrder}
-use Rattle.fsm_words.proofs.Members.{Contains-nil_cases, Contains-head, Contains-tail, Contains-cons_cases}
+use Rattle.word_relations.specs.Answers.{AreAll, IsInOrder}
+use Rattle.word_relations.proofs.Members.{Contains-nil_cases, Contains-head, Contains-tail, Contains-cons_cases}
 
 abbrev IsBelow : List ℕ → List ℕ → Type 0
 IsBelow x y = slice_cmp nat_cmp x y ≡ Less

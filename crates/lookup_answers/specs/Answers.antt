@@ -1,5 +1,5 @@
 -- An answer as the texts that it lists, or as the parts of its loop.
-use Rattle.fsm_words.specs.Answers.{Found, strings, more, loop}
+use Rattle.word_relations.specs.Answers.{Found, strings, more, loop}
 use Rattle.lookup_answers.specs.declared.answer.Answer.{Answer}
 use Rattle.lookup_answers.specs.declared.answer.Answer.TheVariants.{Strings, More, Loop}
 

@@ -1,7 +1,7 @@
 -- One kind of answer is lawful for a set of texts: they are few, or many, or without end. A set is a test here, so that the law
 -- speaks of every set.
 use Rattle.std.specs.Prelude.{ℕ, Bool, IsTrue, List}
-use Rattle.fsm_words.specs.Answers.{Answers, Found, strings, more, loop}
+use Rattle.word_relations.specs.Answers.{Answers, Found, strings, more, loop}
 
 abbrev pub IsSameKind : Found → Found → Type 0
 IsSameKind (strings texts) (strings others) = Unit {0}

@@ -1,4 +1,4 @@
-//! What a look-up answers, as a value. `specs/Answers.antt` says for which answer of fsm_words' `specs/Answers.antt` it
+//! What a look-up answers, as a value. `specs/Answers.antt` says for which answer of word_relations' `specs/Answers.antt` it
 //! stands, and there it is said which answers are lawful.
 //!
 //! - [`Answer`]: an answer. [`Direction`]: which words a look-up gives.

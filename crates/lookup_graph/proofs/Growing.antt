@@ -4,11 +4,11 @@ use Rattle.std.specs.List.{Contains, slice_get}
 use Rattle.std.proofs.lemmas.List.{take_all, take-append-le}
 use Rattle.std.proofs.lemmas.List.Elements.{Contains-push_cases, Contains-push, Contains-append_left}
 use Rattle.std.proofs.lemmas.Option.{slice_get_within, slice_get-get_or, same_Some}
-use Rattle.fsm_words.proofs.Members.{Contains-nil_cases}
-use Rattle.fsm_words.proofs.Places.{Contains-from_slice_get, slice_get-append_left, slice_get-append_cases, slice_get-push, take_more-slice_get}
+use Rattle.word_relations.proofs.Members.{Contains-nil_cases}
+use Rattle.word_relations.proofs.Places.{Contains-from_slice_get, slice_get-append_left, slice_get-append_cases, slice_get-push, take_more-slice_get}
 use Rattle.fsa.specs.declared.automaton.Edge.{Edge}
 use Rattle.lookup_graph.specs.Graph.{IsPath, Connects, Leads}
-use Rattle.lookup_graph.specs.Tree.{AddsStep, AreSteps, AreTurned, IsGrowing, IsTree, turned}
+use Rattle.lookup_graph.specs.Tree.{AddsStep, AreSteps, AreReversed, IsGrowing, IsTree, reversed}
 use Rattle.lookup_graph.specs.declared.tree.Step.{Step}
 use Rattle.lookup_graph.specs.declared.tree.Tree.{Tree}
 use Rattle.lookup_graph.proofs.Paths.{connects-append, connects_edge, leads-append, leads_edge, leads_turned, are_turned_back}
@@ -167,20 +167,20 @@ module _ {L : Type 0} (edges : List (Edge L)) (root : ℕ) where
       }
 
 -- the way back to the root, in edges the other way round
-module _ {L : Type 0} (edges rows : List (Edge L)) (are : AreTurned edges rows) (root : ℕ) (found : List ℕ) (steps : List (Option (Step L))) (s : AreSteps rows root found steps) where
+module _ {L : Type 0} (edges rows : List (Edge L)) (are : AreReversed edges rows) (root : ℕ) (found : List ℕ) (steps : List (Option (Step L))) (s : AreSteps rows root found steps) where
   pub back_step : (at : ℕ) (step : Step L) → slice_get steps at ≡ Some (Some step) → (node q : ℕ) (word : List L) → slice_get found at ≡ Some q → Connects edges node word q
       → (slice_get found step.before ≡ Some step.edge.from) × Connects edges node (word ++ option_to_list step.edge.letter) step.edge.from
   back_step at step is node q word there way =
       let e : q ≡ step.edge.to = same_Some q step.edge.to (sym there ∙ s.to at step is) in (
         s.from at step is,
         connects-append edges node step.edge.to step.edge.from word (option_to_list step.edge.letter)
-            (subst (λ x. Connects edges node word x) e way) (connects_edge edges (turned step.edge) ((are step.edge).0 (s.held at step is))),
+            (subst (λ x. Connects edges node word x) e way) (connects_edge edges (reversed step.edge) ((are step.edge).0 (s.held at step is))),
       )
 
   pub back_last : (at : ℕ) → slice_get steps at ≡ Some None → (node q : ℕ) (word : List L) → slice_get found at ≡ Some q → Connects edges node word q → Connects edges node word root
   back_last at is node q word there way = subst (λ x. Connects edges node word x) (same_Some q root (sym there ∙ s.rooted at is)) way
 
-pub tree_leads : {L : Type 0} (edges rows : List (Edge L)) → AreTurned edges rows → (root : ℕ) (tree : Tree L) → IsTree rows root tree → (q : ℕ) → Leads edges q root → Contains tree.reached.found q
+pub tree_leads : {L : Type 0} (edges rows : List (Edge L)) → AreReversed edges rows → (root : ℕ) (tree : Tree L) → IsTree rows root tree → (q : ℕ) → Leads edges q root → Contains tree.reached.found q
 tree_leads edges rows are root tree t q (p, h) = (t.nodes q).1 (leads_turned rows edges (are_turned_back edges rows are) q root p h)
 
 -- what is read at a place inside a list stands there

@@ -5,10 +5,10 @@ use Rattle.std.specs.List.Sorted.{IsPermutation}
 use Rattle.std.proofs.lemmas.List.{take_more, take_all}
 use Rattle.std.proofs.lemmas.List.Sorted.{Contains-permutation, IsPermutation-sym}
 use Rattle.std.proofs.lemmas.List.Elements.{Contains-push_cases, Contains-push, Contains-append_left}
-use Rattle.fsm_words.proofs.Members.{Contains-nil_cases}
+use Rattle.word_relations.proofs.Members.{Contains-nil_cases}
 use Rattle.fsa.specs.declared.automaton.Edge.{Edge}
 use Rattle.lookup_graph.specs.Graph.{AreUseful, IsPath, IsWithin, Leads, Writes, start, end}
-use Rattle.lookup_graph.specs.Tree.{AreTurned, IsTree, turned}
+use Rattle.lookup_graph.specs.Tree.{AreReversed, IsTree, reversed}
 use Rattle.lookup_graph.specs.declared.tree.Tree.{Tree}
 use Rattle.lookup_graph.proofs.Paths.{are_turned_back, leads-append, leads_edge, leads_turned, connects_among, path_among}
 
@@ -91,9 +91,9 @@ module _ {L : Type 0} (edges rows : List (Edge L)) (moved : IsPermutation edges 
     λ (p, h). (t.nodes q).1 (p, path_among edges rows (λ e. Contains-permutation edges rows e moved) root q p h),
   )
 
-module _ {L : Type 0} (edges rows : List (Edge L)) (are : AreTurned edges rows) where
+module _ {L : Type 0} (edges rows : List (Edge L)) (are : AreReversed edges rows) where
   pub within_turned : (count : ℕ) → IsWithin edges count → IsWithin rows count
-  within_turned count within e h = let r = within (turned e) ((are e).0 h) in (r.1, r.0)
+  within_turned count within e h = let r = within (reversed e) ((are e).0 h) in (r.1, r.0)
 
   pub tree_to : (root : ℕ) (tree : Tree L) → IsTree rows root tree → (q : ℕ) → Contains tree.reached.found q ↔ Leads edges q root
   tree_to root tree t q = (

@@ -4,10 +4,10 @@ use Rattle.std.specs.List.{Contains}
 use Rattle.std.specs.List.Sorted.{IsPermutation}
 use Rattle.std.proofs.lemmas.List.{append-nil}
 use Rattle.std.proofs.lemmas.List.Sorted.{Contains-permutation, IsPermutation-sym}
-use Rattle.fsm_words.proofs.Members.{Contains-map, Contains-map_cases}
+use Rattle.word_relations.proofs.Members.{Contains-map, Contains-map_cases}
 use Rattle.fsa.specs.declared.automaton.Edge.{Edge}
 use Rattle.lookup_graph.specs.Graph.{IsPath, letters_of, Connects, Leads}
-use Rattle.lookup_graph.specs.Tree.{turned, AreTurned}
+use Rattle.lookup_graph.specs.Tree.{reversed, AreReversed}
 
 module _ {L : Type 0} (edges : List (Edge L)) where
   pub path-append : (a b c : ℕ) (p q : List (Edge L)) → IsPath edges a p b → IsPath edges b q c → IsPath edges a (p ++ q) c
@@ -46,22 +46,22 @@ module _ {L : Type 0} (edges more : List (Edge L)) (among : (e : Edge L) → Con
   connects_among a b w (p, h, is) = (p, path_among a b p h, is)
 
 -- the other way round
-module _ {L : Type 0} (edges others : List (Edge L)) (are : AreTurned edges others) where
-  pub are_turned_back : AreTurned others edges
-  are_turned_back e = ((are (turned e)).1, (are (turned e)).0)
+module _ {L : Type 0} (edges others : List (Edge L)) (are : AreReversed edges others) where
+  pub are_turned_back : AreReversed others edges
+  are_turned_back e = ((are (reversed e)).1, (are (reversed e)).0)
 
   pub leads_turned : (a b : ℕ) (p : List (Edge L)) → IsPath others a p b → Leads edges b a
   leads_turned a b [] h = ([], sym h)
   leads_turned a b (e ∷ p) (held, from, rest) =
       subst (λ x. Leads edges b x) from
-      (leads-append edges b e.to e.from (leads_turned e.to b p rest) (leads_edge edges (turned e) ((are e).0 held)))
+      (leads-append edges b e.to e.from (leads_turned e.to b p rest) (leads_edge edges (reversed e) ((are e).0 held)))
 
-pub are_turned : {L : Type 0} (edges others rows : List (Edge L)) → others ≡ map turned edges → IsPermutation others rows → AreTurned edges rows
+pub are_turned : {L : Type 0} (edges others rows : List (Edge L)) → others ≡ map reversed edges → IsPermutation others rows → AreReversed edges rows
 are_turned {L = L} edges others rows is moved e = (
   λ h.
       let m : Contains others e = Contains-permutation rows others e (IsPermutation-sym others rows moved) h in
-      let r = Contains-map_cases turned edges e (subst (λ es. Contains es e) is m) in
-      let P : Edge L → Type 0 = λ f. Contains edges (turned f) in
+      let r = Contains-map_cases reversed edges e (subst (λ es. Contains es e) is m) in
+      let P : Edge L → Type 0 = λ f. Contains edges (reversed f) in
       subst P r.2 r.1,
-  λ h. Contains-permutation others rows e moved (subst (λ es. Contains es e) (sym is) (Contains-map turned edges (turned e) h)),
+  λ h. Contains-permutation others rows e moved (subst (λ es. Contains es e) (sym is) (Contains-map reversed edges (reversed e) h)),
 )

@@ -3,7 +3,7 @@ use Rattle.std.proofs.Common.{◌≡◌, ℕ, zero, suc, ◌+◌, ◌<◌, ◌�
 use Rattle.std.specs.List.{Contains, slice_index}
 use Rattle.std.proofs.lemmas.List.{take_all, take_more}
 use Rattle.std.proofs.lemmas.List.Elements.{Contains-push_cases}
-use Rattle.fsm_words.proofs.Members.{Contains-nil_cases}
+use Rattle.word_relations.proofs.Members.{Contains-nil_cases}
 use Rattle.fsa.specs.declared.automaton.Edge.{Edge}
 use Rattle.lookup_graph.specs.Graph.{IsPath, Connects, Leads, Writes, letters_of, start, end}
 use Rattle.lookup_graph.specs.Turns.{AreLevels, HasNoTurn, IsOnTurn, IsTurn, rounds}

@@ -1,6 +1,6 @@
 -- Paths in a directed graph whose edges carry letters (Cormen, Leiserson, Rivest and Stein, Introduction to
 -- Algorithms, section B.4), and what is written along them. A graph is the list of its edges. Nodes are
--- numbers: node 0 is the end, and node 1 the start. An edge with no letter is silent.
+-- numbers: node 0 is the end, and node 1 the start. An edge with no letter is epsilon.
 use Rattle.std.specs.Prelude.{◌≡◌, ◌<◌, ℕ, List, [], ◌∷◌, ◌++◌, Contains, option_to_list}
 use Rattle.fsa.specs.declared.automaton.Edge.{Edge}
 
@@ -15,7 +15,7 @@ abbrev pub IsPath : {L : Type 0} → List (Edge L) → ℕ → List (Edge L) →
 IsPath edges a [] b = a ≡ b
 IsPath edges a (e ∷ path) b = Contains edges e × (e.from ≡ a) × IsPath edges e.to path b
 
--- the letters along a path, silent edges left out
+-- the letters along a path, epsilon edges left out
 abbrev pub letters_of : {L : Type 0} → List (Edge L) → List L
 letters_of [] = []
 letters_of (e ∷ path) = option_to_list e.letter ++ letters_of path

@@ -7,12 +7,12 @@ use Rattle.lookup_graph.specs.declared.tree.Step.{Step}
 use Rattle.lookup_graph.specs.declared.tree.Tree.{Tree}
 
 -- the edge the other way round
-abbrev pub turned : {L : Type 0} → Edge L → Edge L
-turned e = record { from = e.to; letter = e.letter; to = e.from }
+abbrev pub reversed : {L : Type 0} → Edge L → Edge L
+reversed e = record { from = e.to; letter = e.letter; to = e.from }
 
 -- these are those edges, each the other way round
-abbrev pub AreTurned : {L : Type 0} → List (Edge L) → List (Edge L) → Type 0
-AreTurned {L} edges others = (e : Edge L) → Contains others e ↔ Contains edges (turned e)
+abbrev pub AreReversed : {L : Type 0} → List (Edge L) → List (Edge L) → Type 0
+AreReversed {L} edges others = (e : Edge L) → Contains others e ↔ Contains edges (reversed e)
 
 -- each step comes from a node with a smaller number
 abbrev pub AreDownward : {L : Type 0} → List (Option (Step L)) → Type 0

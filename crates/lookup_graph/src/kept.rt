@@ -2,10 +2,10 @@ ghost use Rattle.std.specs.Prelude.{◌<◌, ◌↔◌, List, Contains, IfOk};
 ghost use Rattle.fsa.specs.declared.automaton.Edge.{Edge};
 ghost use Rattle.lookup_graph.specs.Graph.{AreUseful, IsWithin, Writes};
 
-use crate::tree::{grow, turned_rows};
+use crate::tree::{grow, reversed_rows};
 use crate::{END, START};
 use fsa::Edge;
-use fsa_walk::{Marked, Rows};
+use fsa_explore::{EdgesByState, NumberSet};
 use fsm_base::Letter;
 use std::alloc::{AllocError, Global};
 
@@ -21,10 +21,10 @@ pub fn useful<L: Letter>(
     ensures useful { IfOk result (λ kept. AreUseful kept.items) }
     ensures same { IfOk result (λ kept. (word : List L) → Writes kept.items word ↔ Writes edges.now word) }
 {
-    let rows = Rows::of(alloc, edges)?;
+    let rows = EdgesByState::of(alloc, edges)?;
     let from_start = grow(alloc, &rows, count, START)?;
-    let turned = turned_rows(alloc, edges)?;
-    let to_end = grow(alloc, &turned, count, END)?;
+    let reversed = reversed_rows(alloc, edges)?;
+    let to_end = grow(alloc, &reversed, count, END)?;
     let kept = between(alloc, edges, &from_start.reached, &to_end.reached)?;
     Ok(kept)
 }
@@ -33,8 +33,8 @@ pub fn useful<L: Letter>(
 fn between<L: Letter>(
     alloc: Global,
     edges: &[Edge<L>],
-    left: &Marked,
-    entered: &Marked,
+    left: &NumberSet,
+    entered: &NumberSet,
 ) -> Result<Vec<Edge<L>>, AllocError>
     requires left { IsWithin edges.now left.now.bound }
     requires entered { IsWithin edges.now entered.now.bound }

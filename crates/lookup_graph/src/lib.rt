@@ -1,7 +1,7 @@
 //! The part of a network that a word reaches, as a graph.
 //!
 //! A graph is a list of edges ([`fsa::Edge`]) between nodes, and a count of the nodes, which are numbers below it:
-//! [`END`] is 0 and [`START`] is 1. Its words are the letters on the paths from the start to the end; a silent
+//! [`END`] is 0 and [`START`] is 1. Its words are the letters on the paths from the start to the end; an epsilon
 //! edge has no letter.
 //!
 //! - [`useful`]: only the edges that stand on a path from the start to the end.

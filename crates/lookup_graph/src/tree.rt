@@ -1,10 +1,10 @@
 ghost use Rattle.std.specs.Prelude.{◌≡◌, ◌<◌, ◌≤◌, ◌+◌, ◌↔◌, ◌++◌, ◌∷◌, [], ◌⊎◌, ℕ, List, Some, None, Contains, IfOk, IfSome, IfNone, OnOk, length, slice_get};
 ghost use Rattle.fsa.specs.declared.automaton.Edge.{Edge};
 ghost use Rattle.lookup_graph.specs.Graph.{Connects, IsWithin, Leads};
-ghost use Rattle.lookup_graph.specs.Tree.{AddsStep, AreDownward, AreSteps, AreTurned, IsGrowing, IsTree, turned as turned_of};
+ghost use Rattle.lookup_graph.specs.Tree.{AddsStep, AreDownward, AreSteps, AreReversed, IsGrowing, IsTree, reversed as reversed_of};
 
 use fsa::Edge;
-use fsa_walk::{Marked, Rows};
+use fsa_explore::{EdgesByState, NumberSet};
 use fsm_base::Letter;
 use std::alloc::{AllocError, Global};
 
@@ -21,29 +21,29 @@ pub(crate) struct Step<L> {
 #[derive(Drop)]
 pub(crate) struct Tree<L> {
     /// The nodes, in the order in which they were found.
-    pub(crate) reached: Marked,
+    pub(crate) reached: NumberSet,
     /// How each of them was reached: the root by no step.
     pub(crate) steps: Vec<Option<Step<L>>>,
 }
 
 /// The edges, each the other way round.
-pub(crate) fn turned_rows<L: Letter>(
+pub(crate) fn reversed_rows<L: Letter>(
     alloc: Global,
     edges: &[Edge<L>],
-) -> Result<Rows<L>, AllocError>
-    ensures { IfOk result (AreTurned edges.now) }
+) -> Result<EdgesByState<L>, AllocError>
+    ensures { IfOk result (AreReversed edges.now) }
 {
     let mut others = Vec::with_capacity(alloc, edges.len())?;
     for edge in edges {
-        others.push(turned(*edge))?;
+        others.push(reversed(*edge))?;
     }
-    let rows = Rows::of(alloc, &others)?;
+    let rows = EdgesByState::of(alloc, &others)?;
     Ok(rows)
 }
 
 /// The edge the other way round.
-fn turned<L: Letter>(edge: Edge<L>) -> Edge<L>
-    ensures { result ≡ turned_of edge }
+fn reversed<L: Letter>(edge: Edge<L>) -> Edge<L>
+    ensures { result ≡ reversed_of edge }
 {
     Edge {
         from: edge.to,
@@ -55,7 +55,7 @@ fn turned<L: Letter>(edge: Edge<L>) -> Edge<L>
 /// The nodes that the edges lead to from the root, each looked at once. `count` is the count of the nodes.
 pub(crate) fn grow<L: Letter>(
     alloc: Global,
-    rows: &Rows<L>,
+    rows: &EdgesByState<L>,
     count: usize,
     root: usize,
 ) -> Result<Tree<L>, AllocError>
@@ -80,7 +80,7 @@ fn planted<L: Letter>(alloc: Global, count: usize, root: usize) -> Result<Tree<L
     ensures reached { IfOk result (λ tree. tree.reached.found ≡ root ∷ []) }
     ensures steps { IfOk result (λ tree. tree.steps.items ≡ None ∷ []) }
 {
-    let mut reached = Marked::new(alloc, count)?;
+    let mut reached = NumberSet::new(alloc, count)?;
     reached.add(root)?;
     let mut steps = Vec::new(alloc);
     steps.push(None)?;
@@ -88,7 +88,11 @@ fn planted<L: Letter>(alloc: Global, count: usize, root: usize) -> Result<Tree<L
 }
 
 /// Follows the edges that leave the node with the number.
-fn follow<L: Letter>(rows: &Rows<L>, number: usize, tree: &mut Tree<L>) -> Result<(), AllocError>
+fn follow<L: Letter>(
+    rows: &EdgesByState<L>,
+    number: usize,
+    tree: &mut Tree<L>,
+) -> Result<(), AllocError>
     requires within { IsWithin rows.now tree.old.reached.bound }
     requires number { number < length tree.old.reached.found }
     ensures bound { OnOk result (tree.new.reached.bound ≡ tree.old.reached.bound) }
@@ -127,8 +131,8 @@ pub(crate) fn word_from<L: Letter>(
     node: usize,
 ) -> Result<Option<Vec<L>>, AllocError>
     requires { (rows : List (Edge L)) × ((root : ℕ) × IsTree rows root tree.now) }
-    ensures some { IfOk result (λ found. IfSome found (λ word. (edges rows : List (Edge L)) (root : ℕ) → AreTurned edges rows → IsTree rows root tree.now → Connects edges node word.items root)) }
-    ensures none { IfOk result (λ found. IfNone found ((edges rows : List (Edge L)) (root : ℕ) → AreTurned edges rows → IsTree rows root tree.now → ¬ Leads edges node root)) }
+    ensures some { IfOk result (λ found. IfSome found (λ word. (edges rows : List (Edge L)) (root : ℕ) → AreReversed edges rows → IsTree rows root tree.now → Connects edges node word.items root)) }
+    ensures none { IfOk result (λ found. IfNone found ((edges rows : List (Edge L)) (root : ℕ) → AreReversed edges rows → IsTree rows root tree.now → ¬ Leads edges node root)) }
 {
     match place_of(tree.reached.found(), node) {
         Some(number) => Ok(Some(word_back(alloc, &tree.steps, number)?)),
@@ -157,7 +161,7 @@ fn word_back<L: Letter>(
 ) -> Result<Vec<L>, AllocError>
     requires number { number < length steps.now }
     requires downward { AreDownward steps.now }
-    ensures { IfOk result (λ word. (edges rows : List (Edge L)) (root node : ℕ) (found : List ℕ) → AreTurned edges rows → AreSteps rows root found steps.now → slice_get found number ≡ Some node → Connects edges node word.items root) }
+    ensures { IfOk result (λ word. (edges rows : List (Edge L)) (root node : ℕ) (found : List ℕ) → AreReversed edges rows → AreSteps rows root found steps.now → slice_get found number ≡ Some node → Connects edges node word.items root) }
 {
     let mut word = Vec::new(alloc);
     let mut at = number;

@@ -1,13 +1,13 @@
 ghost use Rattle.std.specs.Prelude.{◌≡◌, ◌<◌, ◌≤◌, Contains, Some, IfOk, IfSome, IfNone, IsSome, length};
 ghost use Rattle.lookup_graph.specs.Graph.{IsWithin};
-ghost use Rattle.lookup_graph.specs.Tree.{AreTurned, IsTree};
+ghost use Rattle.lookup_graph.specs.Tree.{AreReversed, IsTree};
 ghost use Rattle.lookup_graph.specs.Turns.{AreLevels, HasNoTurn, IsOnTurn, IsTurn};
 
 use crate::levels::levels;
-use crate::tree::{Tree, grow, turned_rows, word_from};
+use crate::tree::{Tree, grow, reversed_rows, word_from};
 use crate::{END, START};
 use fsa::Edge;
-use fsa_walk::Rows;
+use fsa_explore::EdgesByState;
 use fsm_base::Letter;
 use std::alloc::{AllocError, Global};
 
@@ -39,7 +39,7 @@ pub fn find_turn<L: Letter>(
     let Some(suspect) = misplaced(edges, &levels) else {
         return Ok(None);
     };
-    let rows = turned_rows(alloc, edges)?;
+    let rows = reversed_rows(alloc, edges)?;
     let to_end = grow(alloc, &rows, count, END)?;
     // Where the levels are those of the components, each suspect is on a loop.
     if let Some(turn) = turn_through(alloc, edges, &rows, count, &to_end, suspect)? {
@@ -73,13 +73,13 @@ fn misplaced<L: Letter>(edges: &[Edge<L>], levels: &[usize]) -> Option<Edge<L>>
 fn turn_through<L: Letter>(
     alloc: Global,
     edges: &[Edge<L>],
-    rows: &Rows<L>,
+    rows: &EdgesByState<L>,
     count: usize,
     to_end: &Tree<L>,
     edge: Edge<L>,
 ) -> Result<Option<Turn<L>>, AllocError>
     requires within { IsWithin edges.now count }
-    requires rows { AreTurned edges.now rows.now }
+    requires rows { AreReversed edges.now rows.now }
     requires to_end { IsTree rows.now 0 to_end.now }
     requires edge { Contains edges.now edge }
     ensures found { IfOk result (λ found. IfSome found (λ turn. IsTurn edges.now turn.before.items turn.round.items turn.after.items)) }

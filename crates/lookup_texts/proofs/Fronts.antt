@@ -5,13 +5,13 @@ use Rattle.std.specs.List.{Contains, slice_get}
 use Rattle.std.proofs.lemmas.List.{append-nil, map-append, length-map, length-take-le, take_all, take_more, take-append-le, take-append-drop}
 use Rattle.std.proofs.lemmas.List.Elements.{Contains-push_cases, Contains-push, Contains-append_left}
 use Rattle.std.proofs.lemmas.Option.{slice_get_within, slice_get-map, slice_get_read, same_Some}
-use Rattle.fsm_words.proofs.Members.{Contains-nil_cases, Contains-head}
-use Rattle.fsm_words.proofs.Places.{slice_get-append_left, slice_get-append_cases}
+use Rattle.word_relations.proofs.Members.{Contains-nil_cases, Contains-head}
+use Rattle.word_relations.proofs.Places.{slice_get-append_left, slice_get-append_cases}
 use Rattle.fsa.specs.declared.automaton.Edge.{Edge}
-use Rattle.fsa_walk.specs.Marks.{Marks, Adds}
-use Rattle.fsa_walk.specs.Reaches.{Reaches, IsReached, here, along}
-use Rattle.fsa_walk.specs.Targets.{IsTarget}
-use Rattle.fsa_walk.proofs.Added.{Adds-none, Adds-then}
+use Rattle.fsa_explore.specs.Marks.{Marks, Adds}
+use Rattle.fsa_explore.specs.Reaches.{Reaches, IsReached, here, along}
+use Rattle.fsa_explore.specs.Targets.{IsTarget}
+use Rattle.fsa_explore.proofs.Added.{Adds-none, Adds-then}
 use Rattle.lookup_graph.specs.Graph.{Connects, IsPath, letters_of, start}
 use Rattle.lookup_graph.proofs.Paths.{connects-append, connects_edge}
 use Rattle.lookup_texts.specs.Walks.{AreFronts, Enters, IsFront, word_of}
@@ -40,9 +40,9 @@ module _ {L : Type 0} (edges : List (Edge L)) where
   split a b [] (y ∷ u) v x h is = absurd (cc)
   split a b (e ∷ p) [] v x (held, from, rest) is =
       elim e.letter as (λ o. e.letter ≡ o → option_to_list o ++ letters_of p ≡ x ∷ v → Split a b [] v x) [
-        | None ↦ λ silent is.
+        | None ↦ λ epsilon is.
             let r = split e.to b p [] v x rest is in
-            record { edge = r.edge; held = r.held; letter = r.letter; to_it = prepend e None a r.edge.from [] held from silent r.to_it; from_it = r.from_it }
+            record { edge = r.edge; held = r.held; letter = r.letter; to_it = prepend e None a r.edge.from [] held from epsilon r.to_it; from_it = r.from_it }
         | Some y ↦ λ letter is.
             let same : y ≡ x = cc in
             let after : letters_of p ≡ v = cc in
@@ -50,9 +50,9 @@ module _ {L : Type 0} (edges : List (Edge L)) where
       ] refl is
   split a b (e ∷ p) (z ∷ u) v x (held, from, rest) is =
       elim e.letter as (λ o. e.letter ≡ o → option_to_list o ++ letters_of p ≡ z ∷ (u ++ x ∷ v) → Split a b (z ∷ u) v x) [
-        | None ↦ λ silent is.
+        | None ↦ λ epsilon is.
             let r = split e.to b p (z ∷ u) v x rest is in
-            record { edge = r.edge; held = r.held; letter = r.letter; to_it = prepend e None a r.edge.from (z ∷ u) held from silent r.to_it; from_it = r.from_it }
+            record { edge = r.edge; held = r.held; letter = r.letter; to_it = prepend e None a r.edge.from (z ∷ u) held from epsilon r.to_it; from_it = r.from_it }
         | Some y ↦ λ letter is.
             let same : y ≡ z = cc in
             let after : letters_of p ≡ u ++ x ∷ v = cc in
@@ -66,23 +66,23 @@ module _ {L : Type 0} (edges : List (Edge L)) where
             }
       ] refl is
 
-  -- silent paths
-  pub connects_silent : {p q : ℕ} → Reaches edges p q → Connects edges p [] q
-  connects_silent here = ([], refl, refl)
-  connects_silent (along {p = p} {q = q} {r = r} held rest) = prepend (record { from = p; letter = None; to = q }) None p r [] held refl refl (connects_silent rest)
+  -- epsilon paths
+  pub connects_epsilon : {p q : ℕ} → Reaches edges p q → Connects edges p [] q
+  connects_epsilon here = ([], refl, refl)
+  connects_epsilon (along {p = p} {q = q} {r = r} held rest) = prepend (record { from = p; letter = None; to = q }) None p r [] held refl refl (connects_epsilon rest)
 
-  pub silent_connects : (a b : ℕ) (p : List (Edge L)) → IsPath edges a p b → letters_of p ≡ [] → Reaches edges a b
-  silent_connects a b [] h is = subst (λ x. Reaches edges a x) h here
-  silent_connects a b (e ∷ p) (held, from, rest) is =
+  pub epsilon_connects : (a b : ℕ) (p : List (Edge L)) → IsPath edges a p b → letters_of p ≡ [] → Reaches edges a b
+  epsilon_connects a b [] h is = subst (λ x. Reaches edges a x) h here
+  epsilon_connects a b (e ∷ p) (held, from, rest) is =
       elim e.letter as (λ o. e.letter ≡ o → option_to_list o ++ letters_of p ≡ [] → Reaches edges a b) [
-        | None ↦ λ silent is.
+        | None ↦ λ epsilon is.
             let P : ℕ → Option L → Type 0 = λ x o. Contains edges (record { from = x; letter = o; to = e.to }) in
-            along (subst (λ x. P x None) from (subst (λ o. P e.from o) silent held)) (silent_connects e.to b p rest is)
+            along (subst (λ x. P x None) from (subst (λ o. P e.from o) epsilon held)) (epsilon_connects e.to b p rest is)
         | Some y ↦ λ letter is. absurd (cc)
       ] refl is
 
 module _ (edges : List (Edge Byte)) where
-  -- what the start leads to by silent edges
+  -- what the start leads to by epsilon edges
   pub front_first : (old new : Marks) → old.found ≡ start ∷ [] → Adds old new (IsReached edges old.found) → IsFront edges [] new.found
   front_first old new is adds q = (
     λ h. elim (adds.grows.only q h) [
@@ -92,10 +92,10 @@ module _ (edges : List (Edge Byte)) where
       ]
       | inr r ↦ elim (Contains-push_cases [] start r.0 (subst (λ ks. Contains ks r.0) is r.1)) [
         | inl none ↦ absurd (Contains-nil_cases r.0 none)
-        | inr same ↦ subst (λ x. Connects edges x [] q) (sym same) (connects_silent edges r.2)
+        | inr same ↦ subst (λ x. Connects edges x [] q) (sym same) (connects_epsilon edges r.2)
       ]
     ],
-    λ (p, h, letters). adds.all q (start, subst (λ ks. Contains ks start) (sym is) (Contains-head start []), silent_connects edges start q p h letters),
+    λ (p, h, letters). adds.all q (start, subst (λ ks. Contains ks start) (sym is) (Contains-head start []), epsilon_connects edges start q p h letters),
   )
 
   -- the nodes that edges with a byte enter, from one node of the front after another
@@ -122,7 +122,7 @@ module _ (edges : List (Edge Byte)) where
     pub enters_all : (i : ℕ) (a b : Marks) → length front ≤ i → Adds a b (Enters edges (take i front) byte) → Adds a b (Enters edges front byte)
     enters_all i a b past h = subst (λ ks. Adds a b (Enters edges ks byte)) (take_all i front past) h
 
-    -- a byte more, and what silent edges lead to from there
+    -- a byte more, and what epsilon edges lead to from there
     pub front_next : (a b c : Marks) → a.found ≡ [] → Adds a b (Enters edges front byte) → Adds b c (IsReached edges b.found)
         → (text : List ℕ) → IsFront edges text front → IsFront edges (text ++ byte ∷ []) c.found
     front_next a b c empty entered reached text is q =
@@ -132,12 +132,12 @@ module _ (edges : List (Edge Byte)) where
           λ h. subst (λ w. Connects edges start w q) (sym words) (elim (reached.grows.only q h) [
             | inl old ↦ come q old
             | inr r ↦ subst (λ w. Connects edges start w q) (append-nil (word_of text ++ x ∷ []))
-                (connects-append edges start r.0 q (word_of text ++ x ∷ []) [] (come r.0 r.1) (connects_silent edges r.2))
+                (connects-append edges start r.0 q (word_of text ++ x ∷ []) [] (come r.0 r.1) (connects_epsilon edges r.2))
           ]),
           λ (p, h, letters).
               let s = split edges start q p (word_of text) [] x h (letters ∙ words) in
               let has = entered.all s.edge.to (s.edge, s.held, (is s.edge.from).1 s.to_it, s.letter, refl) in
-              reached.all q (s.edge.to, has, silent_connects edges s.edge.to q s.from_it.0 s.from_it.1 s.from_it.2),
+              reached.all q (s.edge.to, has, epsilon_connects edges s.edge.to q s.from_it.0 s.from_it.1 s.from_it.2),
         ) where
           enter_word : (k : ℕ) → Contains a.found k ⊎ Enters edges front byte k → (text : List ℕ) → IsFront edges text front → Connects edges start (word_of text ++ record { 0 = byte } ∷ []) k
           enter_word k (inl old) text is = absurd (Contains-nil_cases k (subst (λ ks. Contains ks k) empty old))

@@ -4,3 +4,5 @@ pub mod OrderOfBytes
 pub mod ListingSteps
 pub mod Spelled
 pub mod Whole
+pub mod Moves
+pub mod Trails

@@ -6,10 +6,10 @@ use Rattle.std.proofs.lemmas.List.Elements.{Contains-push_cases, Contains-push, 
 use Rattle.std.proofs.lemmas.List.Quantifiers.{all_pairs_push}
 use Rattle.std.proofs.lemmas.List.{map-append}
 use Rattle.std.proofs.lemmas.Option.{get_or_from_slice_get, slice_get_within}
-use Rattle.fsm_words.proofs.Members.{Contains-nil_cases}
-use Rattle.fsm_words.specs.Words.{IsDistinct}
+use Rattle.word_relations.proofs.Members.{Contains-nil_cases}
+use Rattle.word_relations.specs.Words.{IsDistinct}
 use Rattle.fsa.specs.declared.automaton.Edge.{Edge}
-use Rattle.fsm_words.specs.Answers.{AreAll, AreMore, IsInOrder}
+use Rattle.word_relations.specs.Answers.{AreAll, AreMore, IsInOrder}
 use Rattle.lookup_graph.specs.Graph.{Connects, Leads, letters_of, start, end}
 use Rattle.lookup_graph.proofs.Paths.{connects-append}
 use Rattle.lookup_texts.specs.Listings.{AddsText, IsListing}

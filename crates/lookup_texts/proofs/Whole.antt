@@ -3,12 +3,12 @@ use Rattle.std.proofs.Common.{◌≡◌, ℕ, suc, ◌+◌, ◌*◌, ◌≤◌, 
 use Rattle.std.specs.List.{Contains}
 use Rattle.std.proofs.Math.Nat.{mul-le-mul_right}
 use Rattle.std.proofs.lemmas.List.{length-map}
-use Rattle.fsm_words.proofs.Members.{Contains-nil_cases, Contains-cons_cases}
-use Rattle.fsm_words.specs.Words.{joined}
+use Rattle.word_relations.proofs.Members.{Contains-nil_cases, Contains-cons_cases}
+use Rattle.word_relations.specs.Words.{joined}
 use Rattle.fsm_base.specs.Alphabet.{spelled}
 use Rattle.fsm_base.specs.declared.letters.Sym.{Sym}
 use Rattle.fsa.specs.declared.automaton.Edge.{Edge}
-use Rattle.fsm_words.specs.Answers.{AreAll, AreMore}
+use Rattle.word_relations.specs.Answers.{AreAll, AreMore}
 use Rattle.lookup_graph.specs.Graph.{AreUseful, IsPath, IsWithin, Leads, Writes, letters_of, start, end}
 use Rattle.lookup_graph.proofs.Paths.{connects_among, path_among}
 use Rattle.lookup_graph.specs.Turns.{HasNoTurn}

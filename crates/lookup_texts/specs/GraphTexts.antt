@@ -4,7 +4,7 @@ use Rattle.std.specs.Prelude.{◌≡◌, ℕ, List, Some, Contains}
 use Rattle.fsa.specs.declared.automaton.Edge.{Edge}
 use Rattle.fsm_base.specs.Alphabet.{spelled, symbols_of}
 use Rattle.fsm_base.specs.declared.letters.Sym.{Sym}
-use Rattle.fsm_words.specs.Answers.{Texts}
+use Rattle.word_relations.specs.Answers.{Texts}
 use Rattle.lookup_graph.specs.Graph.{Writes}
 
 -- the symbols of a word of the graph, as texts

@@ -16,7 +16,7 @@ IsOf alphabet None = Unit {0}
 IsOf alphabet (Some symbol) = Contains (symbols_of alphabet) symbol
 
 -- a path of these bytes from a node to another, over nodes that are numbered from `fresh` on. It ends with a
--- silent edge
+-- epsilon edge
 abbrev pub chain : ℕ → ℕ → List ℕ → ℕ → List (Edge Byte)
 chain from fresh [] to = record { from = from; letter = None; to = to } ∷ []
 chain from fresh (byte ∷ bytes) to = record { from = from; letter = Some (record { 0 = byte }); to = fresh } ∷ chain fresh (fresh + 1) bytes to

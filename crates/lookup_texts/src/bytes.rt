@@ -1,4 +1,4 @@
-ghost use Rattle.std.specs.Prelude.{◌≡◌, ◌<◌, ◌≤◌, ◌+◌, ◌++◌, ◌↔◌, [], ◌∷◌, ℕ, List, Contains, IfOk, IsUtf8, OnOk, length};
+ghost use Rattle.std.specs.Prelude.{◌≡◌, ◌<◌, ◌≤◌, ◌+◌, ◌^◌, ◌++◌, ◌↔◌, [], ◌∷◌, ℕ, List, Contains, IfOk, IsUtf8, OnOk, length};
 ghost use Rattle.fsa.specs.declared.automaton.Edge.{Edge};
 ghost use Rattle.fsm_base.specs.declared.letters.Sym.{Sym};
 ghost use Rattle.lookup_graph.specs.Graph.{IsWithin};
@@ -35,9 +35,11 @@ pub(crate) fn spelled(
     ensures same { IfOk result (λ graph. (text : List ℕ) → WritesText graph.edges.items text ↔ GraphTexts alphabet.now edges.now text) }
     ensures utf8 { IfOk result (λ _. (text : List ℕ) → GraphTexts alphabet.now edges.now text → IsUtf8 text) }
 {
+    // Where there is memory for a mark of each node, their numbers leave room for those of new nodes.
+    let marks = vec![in alloc; false; count]?;
     let mut graph = ByteGraph {
         edges: Vec::new(alloc),
-        count,
+        count: marks.len(),
     };
     for edge in edges {
         let text = text_of(alloc, edge.letter, alphabet)?;
@@ -60,14 +62,15 @@ fn text_of(alloc: Global, letter: Option<Sym>, alphabet: &Alphabet) -> Result<Te
 
 /// Adds a path of these bytes from a node to another, over new nodes.
 fn spell(graph: &mut ByteGraph, from: usize, bytes: &[u8], to: usize) -> Result<(), AllocError>
+    requires { graph.old.count < 2 ^ 63 + length graph.old.edges.items }
     ensures edges { OnOk result (graph.new.edges.items ≡ graph.old.edges.items ++ chain from graph.old.count bytes.now to) }
     ensures count { OnOk result (graph.new.count ≡ graph.old.count + length bytes.now) }
+    ensures room { OnOk result (graph.new.count < 2 ^ 63 + length graph.new.edges.items) }
 {
     let mut node = from;
     'bytes: for byte in bytes {
         let next = graph.count;
-        // Where there are no more numbers there is no memory for so many nodes.
-        graph.count = next.checked_add(1).ok_or(AllocError)?;
+        graph.count += 1;
         graph.edges.push(Edge {
             from: node,
             letter: Some(Byte(*byte)),

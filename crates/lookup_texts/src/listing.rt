@@ -1,6 +1,6 @@
 ghost use Rattle.std.specs.Prelude.{◌≡◌, ◌<◌, ◌≤◌, ◌+◌, ◌++◌, ◌⊎◌, [], ◌∷◌, ℕ, List, Contains, IfOk, IfSome, IfNone, OnOk, IsUtf8, MatchBool, length};
 ghost use Rattle.fsa.specs.declared.automaton.Edge.{Edge};
-ghost use Rattle.fsm_words.specs.Answers.{AreAll, AreMore};
+ghost use Rattle.word_relations.specs.Answers.{AreAll, AreMore};
 ghost use Rattle.lookup_graph.specs.Graph.{Leads};
 ghost use Rattle.lookup_texts.specs.declared.walk.Byte.{Byte};
 ghost use Rattle.lookup_texts.specs.Listings.{AddsText, IsListing};

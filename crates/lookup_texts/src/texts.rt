@@ -1,5 +1,5 @@
 ghost use Rattle.std.specs.Prelude.{◌<◌, IfOk, IfSome, IfNone};
-ghost use Rattle.fsm_words.specs.Answers.{AreAll, AreMore};
+ghost use Rattle.word_relations.specs.Answers.{AreAll, AreMore};
 ghost use Rattle.lookup_graph.specs.Graph.{IsWithin};
 ghost use Rattle.lookup_graph.specs.Turns.{HasNoTurn};
 ghost use Rattle.lookup_texts.specs.GraphTexts.{AreOf, GraphTexts};

@@ -1,12 +1,14 @@
-ghost use Rattle.std.specs.Prelude.{◌≡◌, ◌<◌, ◌≤◌, ◌+◌, ◌↔◌, ◌++◌, [], ◌∷◌, ℕ, List, Contains, IfOk, IfSome, OnOk, IsTrue, Some, MatchBool, length};
+ghost use Rattle.std.specs.Prelude.{◌≡◌, ◌≢◌, ◌<◌, ◌≤◌, ◌+◌, ◌↔◌, ◌++◌, [], ◌∷◌, ℕ, List, Contains, IfOk, OnOk, IsTrue, Some, MatchBool, length, slice_get, true};
 ghost use Rattle.std.proofs.Common.{rules};
 ghost use Rattle.fsa.specs.declared.automaton.Edge.{Edge};
 ghost use Rattle.lookup_texts.specs.declared.walk.Byte.{Byte};
-ghost use Rattle.fsa_walk.specs.Targets.{AreWithin};
-ghost use Rattle.lookup_texts.specs.Walks.{Carries, Follows, HasByte, IsFront, IsLeast, IsLesser, IsWalk, WritesText};
+ghost use Rattle.lookup_texts.specs.declared.walk.Leaving.{Leaving};
+ghost use Rattle.lookup_texts.specs.declared.walk.Move.{Move};
+ghost use Rattle.fsa_explore.specs.Targets.{AreWithin};
+ghost use Rattle.lookup_texts.specs.Walks.{AreInOrder, AreLearnt, AreMore, AreMoves, Carries, Follows, HasByte, HasMove, IsFront, IsKnown, IsLeast, IsLesser, IsWalk, LeadsOn, WritesText};
 
 use fsa::Edge;
-use fsa_walk::{Marked, Rows, add_targets, close};
+use fsa_explore::{EdgesByState, ListTable, NumberSet, add_targets, close};
 use fsm_base::Letter;
 use lookup_graph::{END, START};
 use std::alloc::{AllocError, Global};
@@ -19,17 +21,40 @@ impl Letter for Byte {
     ghost equal_is_same = { Prim.search rules };
 }
 
-/// A walk over the texts that the paths of a graph begin with, in the order of bytes.
+/// A byte that leaves a set of nodes.
+#[derive(Clone, Copy, Debug)]
+pub(crate) struct Move {
+    /// The byte.
+    pub(crate) byte: u8,
+    /// The number of the set that it leads to.
+    pub(crate) to: usize,
+}
+
+/// The moves from a set of nodes.
+#[derive(Debug, Drop)]
+pub(crate) struct Leaving {
+    /// Whether the moves were worked out.
+    pub(crate) is_known: bool,
+    /// The moves, in the order of their bytes.
+    pub(crate) moves: Vec<Move>,
+}
+
+/// A walk over the texts that the paths of a graph begin with, in the order of bytes. What leaves a set of nodes is
+/// worked out when a text leads to the set for the first time.
 #[derive(Drop)]
 pub(crate) struct Walk {
     /// The edges of the graph.
-    pub(crate) rows: Rows<Byte>,
+    pub(crate) rows: EdgesByState<Byte>,
     /// The nodes that are being gathered.
-    pub(crate) marked: Marked,
+    pub(crate) marked: NumberSet,
+    /// The sets of nodes that texts were seen to lead to, by their numbers.
+    pub(crate) sets: ListTable,
+    /// The moves from the sets, by their numbers: those of each set that a beginning of the text leads to are known.
+    pub(crate) leaving: Vec<Leaving>,
     /// The text that the walk stands at.
     pub(crate) text: Vec<u8>,
-    /// The nodes that each beginning of the text leads to, from the empty one on.
-    pub(crate) fronts: Vec<Vec<usize>>,
+    /// The number of the set that each beginning of the text leads to, from the empty one on.
+    pub(crate) trail: Vec<usize>,
     /// The least byte that the walk may go on with.
     pub(crate) floor: usize,
 }
@@ -45,16 +70,22 @@ impl Walk {
         ensures bound { IfOk result (λ walk. walk.marked.bound ≡ count) }
         ensures walk { IfOk result IsWalk }
     {
-        let rows = Rows::of(alloc, edges)?;
-        let mut marked = Marked::new(alloc, count)?;
+        let rows = EdgesByState::of(alloc, edges)?;
+        let mut marked = NumberSet::new(alloc, count)?;
         let front = first_front(alloc, &rows, &mut marked)?;
-        let mut fronts = Vec::new(alloc);
-        fronts.push(front)?;
+        let mut sets = ListTable::new(alloc);
+        let start = sets.number_of(alloc, &front)?;
+        let mut leaving = Vec::new(alloc);
+        learn(alloc, &rows, &mut marked, &mut sets, &mut leaving, start)?;
+        let mut trail = Vec::new(alloc);
+        trail.push(start)?;
         Ok(Walk {
             rows,
             marked,
+            sets,
+            leaving,
             text: Vec::new(alloc),
-            fronts,
+            trail,
             floor: 0,
         })
     }
@@ -64,7 +95,7 @@ impl Walk {
         requires { IsWalk self.now }
         ensures { IsTrue result ↔ WritesText self.now.rows self.now.text.items }
     {
-        has(&self.fronts[self.text.len()], END)
+        has(self.sets.get(self.trail[self.text.len()]), END)
     }
 
     /// The least byte that may follow the text, from the floor on.
@@ -72,27 +103,30 @@ impl Walk {
         requires { IsWalk self.now }
         ensures { IsLeast (λ byte. (self.now.floor ≤ byte) × Follows self.now.rows self.now.text.items byte) result }
     {
-        least_from(&self.rows, &self.fronts[self.text.len()], self.floor)
+        least_move(&self.leaving[self.trail[self.text.len()]].moves, self.floor)
     }
 
-    /// Goes on with a byte.
+    /// Goes on with a byte that may follow the text.
     pub(crate) fn enter(&mut self, alloc: Global, byte: u8) -> Result<(), AllocError>
-        requires { IsWalk self.old }
+        requires walk { IsWalk self.old }
+        requires follows { Follows self.old.rows self.old.text.items byte }
         ensures rows { OnOk result (self.new.rows ≡ self.old.rows) }
         ensures text { OnOk result (self.new.text.items ≡ self.old.text.items ++ byte ∷ []) }
         ensures floor { OnOk result (self.new.floor ≡ 0) }
         ensures bound { OnOk result (self.new.marked.bound ≡ self.old.marked.bound) }
         ensures walk { OnOk result (IsWalk self.new) }
     {
-        let front = next_front(
+        let to = set_along(&self.leaving[self.trail[self.text.len()]].moves, byte);
+        learn(
             alloc,
             &self.rows,
             &mut self.marked,
-            &self.fronts[self.text.len()],
-            byte,
+            &mut self.sets,
+            &mut self.leaving,
+            to,
         )?;
         self.text.push(byte)?;
-        self.fronts.push(front)?;
+        self.trail.push(to)?;
         self.floor = 0;
         Ok(())
     }
@@ -107,7 +141,7 @@ impl Walk {
         let Some(byte) = self.text.pop() else {
             return false;
         };
-        self.fronts.pop();
+        self.trail.pop();
         self.floor = usize::from(byte) + 1;
         true
     }
@@ -116,8 +150,8 @@ impl Walk {
 /// The nodes that the empty text leads to.
 fn first_front(
     alloc: Global,
-    rows: &Rows<Byte>,
-    marked: &mut Marked,
+    rows: &EdgesByState<Byte>,
+    marked: &mut NumberSet,
 ) -> Result<Vec<usize>, AllocError>
     requires within { AreWithin rows.now marked.old.bound }
     requires start { 1 < marked.old.bound }
@@ -134,14 +168,14 @@ fn first_front(
 /// The nodes that a text leads to, from those that it leads to without its last byte.
 fn next_front(
     alloc: Global,
-    rows: &Rows<Byte>,
-    marked: &mut Marked,
+    rows: &EdgesByState<Byte>,
+    marked: &mut NumberSet,
     front: &[usize],
     byte: u8,
 ) -> Result<Vec<usize>, AllocError>
     requires { AreWithin rows.now marked.old.bound }
     ensures bound { OnOk result (marked.new.bound ≡ marked.old.bound) }
-    ensures front { IfOk result (λ next. (text : List ℕ) → IsFront rows.now text front.now → IsFront rows.now (text ++ byte ∷ []) next.items) }
+    ensures front { IfOk result (λ next. LeadsOn rows.now front.now byte next.items) }
 {
     marked.clear();
     'nodes: for node in front {
@@ -150,6 +184,125 @@ fn next_front(
     close(rows, marked)?;
     let next = Vec::from_slice(alloc, marked.found())?;
     Ok(next)
+}
+
+/// Works out the moves from a set, where they aren't known.
+fn learn(
+    alloc: Global,
+    rows: &EdgesByState<Byte>,
+    marked: &mut NumberSet,
+    sets: &mut ListTable,
+    leaving: &mut Vec<Leaving>,
+    number: usize,
+) -> Result<(), AllocError>
+    requires within { AreWithin rows.now marked.old.bound }
+    requires number { number < length sets.old }
+    requires learnt { AreLearnt rows.now sets.old leaving.old.items }
+    ensures bound { OnOk result (marked.new.bound ≡ marked.old.bound) }
+    ensures more { OnOk result (AreMore sets.old sets.new) }
+    ensures learnt { OnOk result (AreLearnt rows.now sets.new leaving.new.items) }
+    ensures known { OnOk result (IsKnown leaving.new.items number) }
+    ensures kept { OnOk result ((n : ℕ) → IsKnown leaving.old.items n → IsKnown leaving.new.items n) }
+{
+    if is_known(leaving, number) {
+        return Ok(());
+    }
+    let front = Vec::from_slice(alloc, sets.get(number))?;
+    let moves = moves_from(alloc, rows, marked, sets, front.as_slice())?;
+    keep(alloc, leaving, number, moves)?;
+    Ok(())
+}
+
+/// Whether the moves from a set are known.
+fn is_known(leaving: &[Leaving], number: usize) -> bool
+    ensures { IsTrue result → IsKnown leaving.now number }
+{
+    let count = leaving.len();
+    if count <= number {
+        return false;
+    }
+    leaving[number].is_known
+}
+
+/// Keeps the moves from a set.
+fn keep(
+    alloc: Global,
+    leaving: &mut Vec<Leaving>,
+    number: usize,
+    moves: Vec<Move>,
+) -> Result<(), AllocError>
+    ensures own { OnOk result (slice_get leaving.new.items number ≡ Some (record { is_known = true; moves = moves })) }
+    ensures others { OnOk result ((n : ℕ) (known : Leaving) → n ≢ number → known.is_known ≡ true → (slice_get leaving.new.items n ≡ Some known) ↔ (slice_get leaving.old.items n ≡ Some known)) }
+{
+    'unknown: while leaving.len() <= number {
+        leaving.push(Leaving {
+            is_known: false,
+            moves: Vec::new(alloc),
+        })?;
+    }
+    leaving[number] = Leaving {
+        is_known: true,
+        moves,
+    };
+    Ok(())
+}
+
+/// The moves from some nodes. The sets that they lead to are numbered.
+fn moves_from(
+    alloc: Global,
+    rows: &EdgesByState<Byte>,
+    marked: &mut NumberSet,
+    sets: &mut ListTable,
+    front: &[usize],
+) -> Result<Vec<Move>, AllocError>
+    requires { AreWithin rows.now marked.old.bound }
+    ensures bound { OnOk result (marked.new.bound ≡ marked.old.bound) }
+    ensures more { OnOk result (AreMore sets.old sets.new) }
+    ensures moves { IfOk result (λ moves. AreMoves rows.now sets.new front.now moves.items) }
+{
+    let mut moves = Vec::new(alloc);
+    let mut floor = 0;
+    'bytes: while let Some(byte) = least_from(rows, front, floor) {
+        let next = next_front(alloc, rows, marked, front, byte)?;
+        let to = sets.number_of(alloc, &next)?;
+        moves.push(Move { byte, to })?;
+        floor = above(byte);
+    }
+    Ok(moves)
+}
+
+/// The floor above a byte.
+fn above(byte: u8) -> usize
+    ensures value { result ≡ byte + 1 }
+    ensures within { result ≤ 256 }
+{
+    usize::from(byte) + 1
+}
+
+/// The least byte, from a floor on, of the moves.
+fn least_move(moves: &[Move], floor: usize) -> Option<u8>
+    requires { AreInOrder moves.now }
+    ensures { IsLeast (λ byte. (floor ≤ byte) × HasMove moves.now byte) result }
+{
+    for other in moves {
+        if floor <= usize::from(other.byte) {
+            return Some(other.byte);
+        }
+    }
+    None
+}
+
+/// The number of the set that the move with a byte leads to.
+fn set_along(moves: &[Move], byte: u8) -> usize
+    requires { HasMove moves.now byte }
+    ensures { (m : Move) × Contains moves.now m × (m.byte ≡ byte) × (m.to ≡ result) }
+{
+    for other in moves {
+        if other.byte == byte {
+            return other.to;
+        }
+    }
+    unreachable!()
 }
 
 /// Whether a node is among these.
@@ -165,7 +318,7 @@ fn has(nodes: &[usize], node: usize) -> bool
 }
 
 /// The least byte, from a floor on, on the edges that leave one of the nodes.
-fn least_from(rows: &Rows<Byte>, front: &[usize], floor: usize) -> Option<u8>
+fn least_from(rows: &EdgesByState<Byte>, front: &[usize], floor: usize) -> Option<u8>
     ensures { IsLeast (λ byte. (floor ≤ byte) × Carries rows.now front.now byte) result }
 {
     let mut least = None;

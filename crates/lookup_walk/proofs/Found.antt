@@ -2,14 +2,14 @@
 use Rattle.std.proofs.Common.{◌≡◌, ℕ, ◌≤◌, ◌↔◌, ◌⊎◌, List, [], ◌++◌, Option, None, Some, length, refl, sym, subst, ap, inl, inr, ◌∙◌}
 use Rattle.std.specs.List.{Contains}
 use Rattle.std.specs.Option.{option_and_then}
-use Rattle.fsm_words.proofs.Members.{Contains-nil_cases}
-use Rattle.fsm_words.specs.Words.{joined}
+use Rattle.word_relations.proofs.Members.{Contains-nil_cases}
+use Rattle.word_relations.specs.Words.{joined}
 use Rattle.fsm_base.specs.Alphabet.{spelled, symbols_of}
 use Rattle.fsm_base.specs.declared.letters.Sym.{Sym}
 use Rattle.fsm_base.specs.declared.letters.Pair.{Pair}
 use Rattle.fsa.specs.declared.automaton.Edge.{Edge}
 use Rattle.fsa.specs.Automaton.{Automaton}
-use Rattle.fsm_words.specs.Answers.{AreAll, IsInOrder}
+use Rattle.word_relations.specs.Answers.{AreAll, IsInOrder}
 use Rattle.lookup_walk.specs.declared.moves.Move.{Move}
 use Rattle.lookup_answers.specs.declared.direction.Direction.{Direction}
 use Rattle.lookup_answers.specs.declared.direction.Direction.TheVariants.{Up, Down}

@@ -11,7 +11,7 @@ use Rattle.std.proofs.lemmas.List.Kept.{Contains-dedup, Contains-from_dedup, IsS
 use Rattle.std.proofs.lemmas.List.Sorted.{Contains-permutation, IsPermutation-sym}
 use Rattle.std.proofs.lemmas.Slice.Eq.{slice_eq-Decides}
 use Rattle.std.proofs.lemmas.Bool.Decides.{Decides-eqb}
-use Rattle.fsm_words.specs.Answers.{IsInOrder}
+use Rattle.word_relations.specs.Answers.{IsInOrder}
 
 same_texts : (x y : List ℕ) → pointwise nat_eq x y ≡ true → x ≡ y
 same_texts x y e = (slice_eq-Decides Decides-eqb x y (pointwise nat_eq x y) refl).0 e

@@ -4,7 +4,7 @@ use Rattle.std.specs.Prelude.{◌≡◌, ◌⊎◌, ℕ, List, Some, Contains}
 use Rattle.fsm_base.specs.Alphabet.{spelled, symbols_of}
 use Rattle.fsm_base.specs.declared.letters.Sym.{Sym}
 use Rattle.fsm_base.specs.declared.letters.Pair.{Pair}
-use Rattle.fsm_words.specs.Answers.{Texts}
+use Rattle.word_relations.specs.Answers.{Texts}
 use Rattle.fsa.specs.Automaton.{Automaton, UsesLetter}
 use Rattle.fst_relation.specs.Relation.{IsRelated}
 use Rattle.lookup_walk.specs.Moves.{IsRelatedBy}

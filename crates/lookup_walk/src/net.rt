@@ -42,8 +42,8 @@ impl Net {
         Ok(Net {
             edges: Vec::from_slice(alloc, a.edges())?,
             finals: Vec::from_slice(alloc, a.finals())?,
-            upward: Table::of(alloc, Direction::Up, a.edges())?,
-            downward: Table::of(alloc, Direction::Down, a.edges())?,
+            upward: Table::of(alloc, Direction::Up, a.edges(), a.states())?,
+            downward: Table::of(alloc, Direction::Down, a.edges(), a.states())?,
         })
     }
 

@@ -1,14 +1,25 @@
-ghost use Rattle.std.specs.Prelude.{◌≡◌, ◌≤◌, ◌-◌, ◌↔◌, Contains, IfOk, length, take, drop};
+ghost use Rattle.std.specs.Prelude.{◌≡◌, ◌≤◌, ◌-◌, ◌↔◌, None, Some, Contains, IfOk, length, take, drop};
 ghost use Rattle.lookup_walk.specs.declared.moves.Move.{Move};
 ghost use Rattle.lookup_walk.specs.Moves.{AreMoves};
-ghost use Rattle.lookup_walk.specs.Sorted.{AreSorted, AreStarts, HasRow, IsStart};
+ghost use Rattle.lookup_walk.specs.Sorted.{AreRows, AreSorted, IsRow};
 
 use crate::moves::{Move, Spot, take};
 use fsa::Edge;
-use fsm_base::Pair;
+use fsm_base::{Pair, Sym};
 use lookup_answers::Direction;
 use std::alloc::{AllocError, Global};
 use std::marker::Model;
+
+/// Where the moves of a state stand among sorted ones.
+#[derive(Clone, Copy, Debug)]
+pub(crate) struct Row {
+    /// The first of those that read nothing.
+    pub(crate) first: usize,
+    /// The first of those that read a symbol.
+    pub(crate) reads: usize,
+    /// The first behind them.
+    pub(crate) end: usize,
+}
 
 /// The moves of a network in one direction, found again by the state that they leave and the symbol that they read.
 /// Contracts see the list of the moves.
@@ -16,66 +27,90 @@ use std::marker::Model;
 pub struct Table {
     /// The moves, sorted.
     moves: Vec<Move>,
-    /// Where the moves of each state begin, and where those of the last one end.
-    starts: Vec<usize>,
+    /// The row of each state, by its number.
+    rows: Vec<Row>,
 }
 
 impl Model for Table {
     ghost use Rattle.std.specs.Prelude.{List};
     ghost use Rattle.lookup_walk.specs.declared.moves.Move.{Move};
-    ghost use Rattle.lookup_walk.specs.Sorted.{AreSorted, AreStarts};
+    ghost use Rattle.lookup_walk.specs.Sorted.{AreRows, AreSorted};
 
     ghost Value = { List Move };
 
     ghost view = { λ table. table.moves.items };
 
-    ghost invariant = { λ table. AreSorted table.moves.items × AreStarts table.moves.items table.starts.items };
+    ghost invariant = { λ table. AreSorted table.moves.items × AreRows table.moves.items table.rows.items };
 }
 
 impl Table {
-    /// The moves along these edges.
+    /// The moves along these edges of an automaton of so many states.
     pub(crate) fn of(
         alloc: Global,
         direction: Direction,
         edges: &[Edge<Pair>],
+        states: usize,
     ) -> Result<Table, AllocError>
         ensures { IfOk result (λ table. AreMoves direction edges.now table) }
     {
         let moves = sorted_along(alloc, direction, edges)?;
-        let starts = starts_of(alloc, &moves)?;
-        Ok(Table { moves, starts })
+        let rows = rows_of(alloc, &moves, states)?;
+        Ok(Table { moves, rows })
     }
 
-    /// The moves at a spot, found by halving among those of its state.
+    /// The moves at a spot.
     pub fn out(&self, spot: Spot) -> &[Move]
         ensures { (m : Move) → Contains result.now m ↔ (Contains self.now m × (m.at ≡ spot)) }
     {
-        at_spot(self.row(spot.state), spot)
+        match spot.read {
+            Some(symbol) => self.reading(spot.state, symbol),
+            None => self.epsilon(spot.state),
+        }
     }
 
-    /// The moves of a state. Where no start of it is kept these are all moves.
-    fn row(&self, state: usize) -> &[Move]
-        ensures row { HasRow self.now state result.now }
-        ensures sorted { AreSorted result.now }
+    /// The moves of a state that read nothing. They stand together, and are found without a search.
+    pub fn epsilon(&self, state: usize) -> &[Move]
+        ensures { (m : Move) → Contains result.now m ↔ (Contains self.now m × (m.at ≡ record { state = state; read = None })) }
     {
-        row_in(self.moves.as_slice(), self.starts.as_slice(), state)
+        epsilon_in(self.moves.as_slice(), self.rows.as_slice(), state)
+    }
+
+    /// The moves of a state that read a symbol, found by halving among those of the state that read one.
+    pub fn reading(&self, state: usize, symbol: Sym) -> &[Move]
+        ensures { (m : Move) → Contains result.now m ↔ (Contains self.now m × (m.at ≡ record { state = state; read = Some symbol })) }
+    {
+        reading_in(self.moves.as_slice(), self.rows.as_slice(), state, symbol)
     }
 }
 
-/// The moves of a state among sorted ones, by the places where those of each state begin.
-fn row_in<'a>(moves: &'a [Move], starts: &[usize], state: usize) -> &'a [Move]
+/// The moves of a state that read nothing, among sorted ones with the rows of the first states.
+fn epsilon_in<'a>(moves: &'a [Move], rows: &[Row], state: usize) -> &'a [Move]
     requires sorted { AreSorted moves.now }
-    requires starts { AreStarts moves.now starts.now }
-    ensures row { HasRow moves.now state result.now }
-    ensures sorted { AreSorted result.now }
+    requires rows { AreRows moves.now rows.now }
+    ensures { (m : Move) → Contains result.now m ↔ (Contains moves.now m × (m.at ≡ record { state = state; read = None })) }
 {
-    if state < starts.len() {
-        let next = state + 1;
-        if next < starts.len() {
-            return part(moves, starts[state], starts[next]);
-        }
+    if state < rows.len() {
+        let row = rows[state];
+        return part(moves, row.first, row.reads);
     }
-    moves
+    moves_at(moves, Spot { state, read: None })
+}
+
+/// The moves of a state that read a symbol, among sorted ones with the rows of the first states.
+fn reading_in<'a>(moves: &'a [Move], rows: &[Row], state: usize, symbol: Sym) -> &'a [Move]
+    requires sorted { AreSorted moves.now }
+    requires rows { AreRows moves.now rows.now }
+    ensures { (m : Move) → Contains result.now m ↔ (Contains moves.now m × (m.at ≡ record { state = state; read = Some symbol })) }
+{
+    let spot = Spot {
+        state,
+        read: Some(symbol),
+    };
+    if state < rows.len() {
+        let row = rows[state];
+        return moves_at(part(moves, row.reads, row.end), spot);
+    }
+    moves_at(moves, spot)
 }
 
 /// The moves from one place up to another.
@@ -88,7 +123,7 @@ fn part(moves: &[Move], from: usize, to: usize) -> &[Move]
 }
 
 /// The moves at a spot among sorted ones, found by halving.
-fn at_spot(moves: &[Move], spot: Spot) -> &[Move]
+fn moves_at(moves: &[Move], spot: Spot) -> &[Move]
     requires { AreSorted moves.now }
     ensures { (m : Move) → Contains result.now m ↔ (Contains moves.now m × (m.at ≡ spot)) }
 {
@@ -96,33 +131,29 @@ fn at_spot(moves: &[Move], spot: Spot) -> &[Move]
     &rest[..rest.partition_point(|m| m.at.cmp(&spot).is_le())]
 }
 
-/// The places where the moves of each state begin among sorted ones, and the end of the last state's.
-fn starts_of(alloc: Global, moves: &[Move]) -> Result<Vec<usize>, AllocError>
+/// The rows of the first states, so many, among sorted moves.
+fn rows_of(alloc: Global, moves: &[Move], states: usize) -> Result<Vec<Row>, AllocError>
     requires { AreSorted moves.now }
-    ensures { IfOk result (λ starts. AreStarts moves.now starts.items) }
+    ensures { IfOk result (λ rows. AreRows moves.now rows.items) }
 {
-    let count = count_of(moves);
-    let mut starts = Vec::new(alloc);
-    'states: for state in 0..count {
-        starts.push(start_of(moves, state))?;
+    let mut rows = Vec::with_capacity(alloc, states)?;
+    'states: for state in 0..states {
+        rows.push(row_of(moves, state))?;
     }
-    Ok(starts)
+    Ok(rows)
 }
 
-/// How many starts there are: one for each state up to the last that a move leaves, and one more.
-fn count_of(moves: &[Move]) -> usize {
-    match moves.last() {
-        Some(m) => m.at.state.saturating_add(2),
-        None => 0,
-    }
-}
-
-/// The place where the moves of a state begin among sorted ones.
-fn start_of(moves: &[Move], state: usize) -> usize
+/// The row of a state among sorted moves.
+fn row_of(moves: &[Move], state: usize) -> Row
     requires { AreSorted moves.now }
-    ensures { IsStart moves.now state result }
+    ensures { IsRow moves.now state result }
 {
-    moves.partition_point(|m| m.at.state < state)
+    let epsilon = Spot { state, read: None };
+    Row {
+        first: moves.partition_point(|m| m.at.cmp(&epsilon).is_lt()),
+        reads: moves.partition_point(|m| m.at.cmp(&epsilon).is_le()),
+        end: moves.partition_point(|m| m.at.state <= state),
+    }
 }
 
 /// The moves along these edges, sorted.

@@ -1,13 +1,13 @@
 ghost use Rattle.std.specs.Prelude.{◌≡◌, ◌↔◌, ℕ, List, Some, Contains, IfOk, IfSome, IsTrue};
-ghost use Rattle.fsm_words.specs.Answers.{AreAll, IsInOrder};
-ghost use Rattle.fsm_words.specs.Words.{IsOver};
+ghost use Rattle.word_relations.specs.Answers.{AreAll, IsInOrder};
+ghost use Rattle.word_relations.specs.Words.{IsOver};
 ghost use Rattle.fsm_base.specs.Alphabet.{symbols_of};
 ghost use Rattle.fsm_base.specs.declared.letters.Sym.{Sym};
 ghost use Rattle.lookup_walk.specs.Answering.{IsOverAlphabet, TextsBy};
 ghost use Rattle.lookup_walk.specs.Walks.{Adds, Along, Goes, Stops, Through, WritesOver};
 
 use crate::finals::is_final;
-use crate::moves::{Move, Spot};
+use crate::moves::Move;
 use crate::net::Net;
 use crate::table::Table;
 use fsm_base::{Alphabet, Sym, Text};
@@ -21,7 +21,7 @@ const MOST_ENTERED: usize = 4_096;
 /// How many moves a walk takes one after another before it is given up, so that the stack stays small.
 const DEEPEST: usize = 1_024;
 
-/// How many bytes of texts a walk finds before it is given up. Many runs may write one long text, which is kept for
+/// How many bytes of texts a walk finds before it is given up. Many paths may write one long text, which is kept for
 /// each of them until the walk ends.
 const MOST_BYTES: usize = 262_144;
 
@@ -53,13 +53,13 @@ struct Left {
 pub(crate) struct Trail {
     /// The symbols that were written on the way here.
     written: Vec<Sym>,
-    /// The texts of the runs that were taken so far.
+    /// The texts of the paths that were taken so far.
     found: Vec<Text>,
 }
 
 /// The texts of the words that a network relates to a word, each once and in the order of their bytes, or None where
-/// the walk was given up. It takes one run after another, depth first and with no regard to where it was before. So
-/// where it ends there are no further runs, and around a loop it is given up.
+/// the walk was given up. It takes one path after another, depth first and with no regard to where it was before. So
+/// where it ends there are no further paths, and around a loop it is given up.
 pub fn walked(
     alloc: Global,
     net: &Net,
@@ -104,7 +104,7 @@ fn in_order(texts: Vec<Text>) -> Vec<Text>
     sorted
 }
 
-/// Takes the runs from a state that read the rest of the word. Gives false where the walk was given up.
+/// Takes the paths from a state that read the rest of the word. Gives false where the walk was given up.
 #[cycle(walk)]
 fn enter(
     alloc: Global,
@@ -123,8 +123,8 @@ fn enter(
         return Ok(false);
     }
     left.states -= 1;
-    let silent = ground.table.out(Spot { state, read: None });
-    let whole = follow(alloc, ground, silent, rest, depth - 1, left, trail)?;
+    let epsilon = ground.table.epsilon(state);
+    let whole = follow(alloc, ground, epsilon, rest, depth - 1, left, trail)?;
     if !whole {
         return Ok(false);
     }
@@ -132,13 +132,12 @@ fn enter(
         let all = stop(alloc, ground, state, left, trail)?;
         return Ok(all);
     };
-    let read = Some(*symbol);
-    let reading = ground.table.out(Spot { state, read });
+    let reading = ground.table.reading(state, *symbol);
     let all = follow(alloc, ground, reading, behind, depth - 1, left, trail)?;
     Ok(all)
 }
 
-/// Takes the runs that begin with one of these moves and read the rest of the word behind it.
+/// Takes the paths that begin with one of these moves and read the rest of the word behind it.
 #[cycle(walk)]
 fn follow(
     alloc: Global,
@@ -163,7 +162,7 @@ fn follow(
     Ok(true)
 }
 
-/// Takes the runs that begin with this move and read the rest of the word behind it.
+/// Takes the paths that begin with this move and read the rest of the word behind it.
 #[cycle(walk)]
 fn pass(
     alloc: Global,

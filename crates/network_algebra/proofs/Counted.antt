@@ -5,9 +5,9 @@ use Rattle.std.proofs.lemmas.List.{take-append-drop, length-take, length-drop}
 use Rattle.std.proofs.lemmas.List.Elements.{All-nil, All-cons, All-head, All-tail, All-append, All-take, All-drop}
 use Rattle.fsm_base.specs.declared.letters.Sym.{Sym}
 use Rattle.fsm_base.specs.declared.letters.Pair.{Pair}
-use Rattle.fsm_words.specs.Words.{joined, IsConcatenation, IsRepetition}
-use Rattle.fsm_words.specs.Relations.{AreSame, IsRepetitionOfPairs}
-use Rattle.fsm_words.proofs.Laws.{joined-append}
+use Rattle.word_relations.specs.Words.{joined, IsConcatenation, IsRepetition}
+use Rattle.word_relations.specs.Relations.{AreSame, IsRepetitionOfPairs}
+use Rattle.word_relations.proofs.Laws.{joined-append}
 use Rattle.fsa.specs.Automaton.{Automaton}
 use Rattle.fsa.specs.Language.{Accepts}
 use Rattle.fst_relation.specs.Relation.{uppers, lowers}

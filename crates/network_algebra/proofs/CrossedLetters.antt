@@ -5,13 +5,13 @@ use Rattle.std.proofs.lemmas.List.Elements.{Contains-append_cases, Contains-appe
 use Rattle.std.proofs.lemmas.Option.{same_Some}
 use Rattle.fsm_base.specs.declared.letters.Sym.{Sym}
 use Rattle.fsm_base.specs.declared.letters.Pair.{Pair}
-use Rattle.fsm_words.specs.Relations.{AreSame, IsCross}
-use Rattle.fsm_words.proofs.Members.{Contains-nil_cases, Contains-cons_cases, Contains-head, Contains-tail, Contains-map, Contains-map_cases}
+use Rattle.word_relations.specs.Relations.{AreSame, IsCross}
+use Rattle.word_relations.proofs.Members.{Contains-nil_cases, Contains-cons_cases, Contains-head, Contains-tail, Contains-map, Contains-map_cases}
 use Rattle.fsa.specs.Automaton.{Automaton, UsesLetter}
 use Rattle.fsa.specs.Language.{Accepts}
 use Rattle.fst_relation.specs.Relation.{IsRelated, uppers, lowers}
 use Rattle.fst_algebra.specs.Relations.{UsesLower, UsesUpper}
-use Rattle.fsm_words.specs.Operations.{IsOneLetter}
+use Rattle.word_relations.specs.Operations.{IsOneLetter}
 use Rattle.lang_algebra.proofs.OneLetter.{ReadsOne, one_letter_language}
 use Rattle.network_algebra.specs.Crossing.{only_step, crossed, crossed_pairs}
 

@@ -7,18 +7,18 @@ use Rattle.fsm_base.specs.declared.letters.Sym.{Sym}
 use Rattle.fsm_base.specs.declared.letters.Pair.{Pair}
 use Rattle.fsm_base.specs.declared.letters.Bound.{Bound}
 use Rattle.fsm_base.specs.declared.letters.Bound.TheVariants.{Edge, Inner}
-use Rattle.fsm_words.specs.Words.{IsConcatenation}
-use Rattle.fsm_words.specs.Relations.{AreSame, IsConcatenationOfPairs, IsRepetitionOfPairs, IsIdentity, IsCross, IsInverse, IsUpper, IsLower}
-use Rattle.fsm_words.proofs.Members.{Contains-nil_cases, Contains-cons_cases, Contains-tail, Contains-map, Contains-map_cases}
-use Rattle.fsm_words.proofs.Pairs.{concatenation_same, same_trans}
+use Rattle.word_relations.specs.Words.{IsConcatenation}
+use Rattle.word_relations.specs.Relations.{AreSame, IsConcatenationOfPairs, IsRepetitionOfPairs, IsIdentity, IsCross, IsInverse, IsUpper, IsLower}
+use Rattle.word_relations.proofs.Members.{Contains-nil_cases, Contains-cons_cases, Contains-tail, Contains-map, Contains-map_cases}
+use Rattle.word_relations.proofs.Pairs.{concatenation_same, same_trans}
 use Rattle.fsa.specs.Automaton.{Automaton, UsesLetter}
 use Rattle.fsa.specs.Language.{Accepts}
 use Rattle.fst_relation.specs.Relation.{symbols_on, IsRelated}
 use Rattle.fst_relation.proofs.Languages.{symbols_on-append, RelatedIn, related_same, related_union, related_concatenation}
 use Rattle.fst_algebra.specs.Relations.{UsesUpper, UsesLower}
-use Rattle.expr_forms.specs.Kinds.{both}
-use Rattle.expr_forms.specs.declared.form.Kind.{Kind}
-use Rattle.expr_forms.specs.declared.form.Kind.TheVariants.{Language, Relation}
+use Rattle.expr_kinds.specs.Kinds.{both}
+use Rattle.expr_kinds.specs.declared.form.Kind.{Kind}
+use Rattle.expr_kinds.specs.declared.form.Kind.TheVariants.{Language, Relation}
 use Rattle.expr_meaning.specs.Operators.{inner, WithEdge, IsItself, IsRepetitionOf}
 use Rattle.expr_meaning.proofs.Itself.{Itself, as_it_is, either_itself, concatenation_itself, repetition_itself, reverse_itself, inverse_itself, with_edge_itself}
 use Rattle.network_algebra.specs.Networks.{all_letters, UsesOnly, UsesSymbols, IsNetwork, kind_of_network, WordsOf, PairsOf, IsFor, AreOperands}

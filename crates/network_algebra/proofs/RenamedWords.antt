@@ -2,7 +2,7 @@
 use Rattle.std.proofs.Common.{◌≡◌, ℕ, ◌↔◌, List, [], ◌∷◌, ◌++◌, true, Option, Some, None, map, refl, subst, sym, ap, inl, inr, ◌∙◌}
 use Rattle.std.specs.List.{Contains, slice_get}
 use Rattle.std.specs.Option.{option_to_list}
-use Rattle.fsm_words.proofs.Members.{Contains-nil_cases}
+use Rattle.word_relations.proofs.Members.{Contains-nil_cases}
 use Rattle.fsa.specs.Automaton.{Automaton, UsesLetter}
 use Rattle.fsa.specs.Language.{AcceptsFrom, Accepts, stop, read, skip}
 use Rattle.fsa.specs.declared.automaton.Edge.{Edge}
@@ -79,7 +79,7 @@ module _ {L M : Type 0} (name : L → Option M) where
     used_letter f y letter held named is = by f.letter refl named
       where
         by : (o : Option L) → f.letter ≡ o → renamed_letter name o ≡ Some letter → (x : L) × UsesLetter a x × (name x ≡ Some y)
-        by None silent e = let clash : Some None ≡ Some letter = e in let none : None ≡ letter = cc in let more : None ≡ Some y = none ∙ is in absurd (cc)
+        by None epsilon e = let clash : Some None ≡ Some letter = e in let none : None ≡ letter = cc in let more : None ≡ Some y = none ∙ is in absurd (cc)
         by (Some x) carries e = let r = letter_named (name x) letter e in (x, (f, held, carries), r.1 ∙ sym r.2 ∙ is)
 
     pub renamed_letters : (y : M) → UsesLetter m y → (x : L) × UsesLetter a x × (name x ≡ Some y)

@@ -4,8 +4,8 @@ use Rattle.std.proofs.lemmas.List.Elements.{Contains-push_cases, Contains-append
 use Rattle.std.proofs.lemmas.Bool.{cases_lt}
 use Rattle.std.proofs.lemmas.Option.{slice_get_within}
 use Rattle.std.specs.List.{Contains}
-use Rattle.fsm_words.proofs.Members.{Contains-head}
-use Rattle.fsm_words.proofs.Places.{same_at}
+use Rattle.word_relations.proofs.Members.{Contains-head}
+use Rattle.word_relations.proofs.Places.{same_at}
 use Rattle.fsa.specs.declared.automaton.Edge.{Edge}
 use Rattle.network_algebra.specs.Words.{IsStep}
 

@@ -5,14 +5,14 @@ use Rattle.fsm_base.specs.declared.letters.Sym.{Sym}
 use Rattle.fsm_base.specs.declared.letters.Pair.{Pair}
 use Rattle.fsm_base.specs.declared.letters.Bound.{Bound}
 use Rattle.fsm_base.specs.declared.letters.Bound.TheVariants.{Edge}
-use Rattle.fsm_words.specs.Relations.{AreSame}
+use Rattle.word_relations.specs.Relations.{AreSame}
 use Rattle.fsa.specs.Automaton.{Automaton, UsesLetter}
 use Rattle.fsa.specs.Language.{Accepts}
 use Rattle.fst_relation.specs.Relation.{IsRelated}
 use Rattle.fst_algebra.specs.Relations.{UsesUpper, UsesLower}
-use Rattle.expr_forms.specs.Kinds.{both}
-use Rattle.expr_forms.specs.declared.form.Kind.{Kind}
-use Rattle.expr_forms.specs.declared.form.Kind.TheVariants.{Language, Relation}
+use Rattle.expr_kinds.specs.Kinds.{both}
+use Rattle.expr_kinds.specs.declared.form.Kind.{Kind}
+use Rattle.expr_kinds.specs.declared.form.Kind.TheVariants.{Language, Relation}
 use Rattle.expr_meaning.specs.Operators.{inner, IsItself, AnyNumber, OneOrMore, Just}
 use Rattle.network_algebra.specs.declared.network.Network.{Network}
 use Rattle.network_algebra.specs.declared.network.Network.TheVariants.{Words, Pairs}

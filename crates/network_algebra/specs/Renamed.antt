@@ -8,7 +8,7 @@ use Rattle.fsa.specs.declared.automaton.Edge.{Edge as Arc}
 abbrev pub IsRenamed : {L M : Type 0} → (L → Option M) → (List L → Type 0) → List M → Type 0
 IsRenamed {L} name P w = (v : List L) × P v × (map name v ≡ map Some w)
 
--- what an edge carries in place of its letter: a silent edge stays silent, and a letter without a new name takes its
+-- what an edge carries in place of its letter: an epsilon edge stays one, and a letter without a new name takes its
 -- edge away
 abbrev pub carried : {M : Type 0} → Option M → Option (Option M)
 carried None = None

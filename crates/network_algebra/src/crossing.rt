@@ -1,9 +1,9 @@
 ghost use Rattle.std.specs.Prelude.{◌≡◌, ◌↔◌, ◌++◌, ◌∷◌, [], List, IfOk, IfSome, OnOk, IsTrue, Contains, map, false, true};
 ghost use Rattle.fsm_base.specs.declared.letters.Sym.{Sym};
-ghost use Rattle.fsm_words.specs.Relations.{AreSame, IsCross};
+ghost use Rattle.word_relations.specs.Relations.{AreSame, IsCross};
 ghost use Rattle.fsa.specs.Automaton.{UsesLetter};
 ghost use Rattle.fsa.specs.Language.{Accepts};
-ghost use Rattle.fsm_words.specs.Operations.{IsOneLetter};
+ghost use Rattle.word_relations.specs.Operations.{IsOneLetter};
 ghost use Rattle.fst_relation.specs.Relation.{IsRelated};
 ghost use Rattle.fst_algebra.specs.Relations.{UsesLower, UsesUpper};
 ghost use Rattle.network_algebra.specs.Crossing.{crossed, crossed_pairs, only_step};

@@ -1,8 +1,8 @@
 ghost use Rattle.std.specs.Prelude.{◌≡◌, ◌⊎◌, IfOk, List};
 ghost use Rattle.fsm_base.specs.declared.letters.Sym.{Sym};
-ghost use Rattle.fsm_words.specs.Words.{IsConcatenation};
-ghost use Rattle.fsm_words.specs.Relations.{IsConcatenationOfPairs};
-ghost use Rattle.expr_forms.specs.Kinds.{both};
+ghost use Rattle.word_relations.specs.Words.{IsConcatenation};
+ghost use Rattle.word_relations.specs.Relations.{IsConcatenationOfPairs};
+ghost use Rattle.expr_kinds.specs.Kinds.{both};
 ghost use Rattle.network_algebra.specs.Networks.{IsFor, IsNetwork, PairsOf, WordsOf, kind_of_network};
 
 use crate::network::Network;

@@ -3,11 +3,11 @@
 //!
 //! - [`Network`]: the automaton of a language or the transducer of a relation.
 //! - [`word`]: the automaton of leaves side by side.
-//! - [`concat`], [`union`], [`repeated`]: of languages and of relations; a language beside a relation stands for its
+//! - [`concat`], [`union`], [`repeat`]: of languages and of relations; a language beside a relation stands for its
 //!   identity.
 //! - [`reduced`]: a smaller network that is the same. Rows are joined by [`concat`] and [`union`], which leave what they
 //!   make as it is, and reduced once; every other operator reduces what it makes.
-//! - [`upper`], [`lower`], [`inverse`], [`reversed`], [`cross`]: what turns one kind into the other, or the sides.
+//! - [`upper`], [`lower`], [`inverse`], [`reverse`], [`cross`]: what turns one kind into the other, or the sides.
 #![tactic(auto)]
 
 mod crossing;
@@ -28,6 +28,6 @@ pub use letters::{every_letter, inner_letters, inside, with_edge};
 pub use network::Network;
 pub use operands::{Operands, alike};
 pub use renaming::{Renaming, renamed};
-pub use repeating::{Times, repeated};
-pub use sides::{cross, inverse, lower, reversed, upper};
+pub use repeating::{Times, repeat};
+pub use sides::{cross, inverse, lower, reverse, upper};
 pub use words::word;

@@ -11,13 +11,13 @@ use std::alloc::{AllocError, Global};
 
 /// An automaton of what this one accepts besides the empty word, where that shows at once: the start is final, and no
 /// edge enters it.
-pub fn besides_empty<L: Letter>(alloc: Global, m: &Fsa<L>) -> Result<Option<Fsa<L>>, AllocError>
+pub fn split_off_empty<L: Letter>(alloc: Global, m: &Fsa<L>) -> Result<Option<Fsa<L>>, AllocError>
     ensures letters { IfOk result (λ found. IfSome found (λ rest. (x : L) → UsesLetter rest x → UsesLetter m.now x)) }
     ensures language { IfOk result (λ found. IfSome found (λ rest. (w : List L) → Accepts m.now w ↔ ((w ≡ []) ⊎ Accepts rest w))) }
 {
     let edges = m.edges();
     if m.is_final(0) && leave_start_alone(edges) {
-        Ok(Some(with_plain_start(alloc, m)?))
+        Ok(Some(add_plain_start(alloc, m)?))
     } else {
         Ok(None)
     }
@@ -38,7 +38,7 @@ fn leave_start_alone<L: Letter>(edges: &[Edge<L>]) -> bool
 }
 
 /// The same automaton, whose start isn't final.
-fn with_plain_start<L: Letter>(alloc: Global, m: &Fsa<L>) -> Result<Fsa<L>, AllocError>
+fn add_plain_start<L: Letter>(alloc: Global, m: &Fsa<L>) -> Result<Fsa<L>, AllocError>
     ensures { IfOk result (HasPlainStart m.now) }
 {
     let mut plain = plain_states(alloc, m.finals())?;

@@ -1,5 +1,5 @@
 ghost use Rattle.std.specs.Prelude.{◌↔◌, ◌⊎◌, IfOk, List, reverse};
-ghost use Rattle.fsm_words.specs.Words.{IsConcatenation, IsRepetition};
+ghost use Rattle.word_relations.specs.Words.{IsConcatenation, IsRepetition};
 ghost use Rattle.fsa.specs.Automaton.{UsesLetter};
 ghost use Rattle.fsa.specs.Language.{Accepts};
 

@@ -1,6 +1,6 @@
 ghost use Rattle.std.specs.Prelude.{◌↔◌, IfOk, List};
 ghost use Rattle.fsm_base.specs.declared.letters.Sym.{Sym};
-ghost use Rattle.fsm_words.specs.Relations.{AreSame, IsCross, IsLower, IsUpper};
+ghost use Rattle.word_relations.specs.Relations.{AreSame, IsCross, IsLower, IsUpper};
 ghost use Rattle.fsa.specs.Automaton.{UsesLetter};
 ghost use Rattle.fsa.specs.Language.{Accepts};
 ghost use Rattle.fst_relation.specs.Relation.{IsRelated};

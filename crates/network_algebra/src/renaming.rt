@@ -39,7 +39,7 @@ pub fn renamed<L: Letter, M: Letter, R: Renaming<L, M>>(
     Ok(m)
 }
 
-/// What an edge carries in place of its letter, or None where that has no new name. A silent edge stays silent.
+/// What an edge carries in place of its letter, or None where that has no new name. An epsilon edge stays one.
 fn rename_letter<L: Letter, M: Letter, R: Renaming<L, M>>(
     letter: Option<L>,
     renaming: &R,

@@ -1,13 +1,13 @@
 ghost use Rattle.std.specs.Prelude.{◌≡◌, ◌↔◌, IfOk, List};
 ghost use Rattle.fsm_base.specs.declared.letters.Sym.{Sym};
-ghost use Rattle.fsm_words.specs.Relations.{IsRepetitionOfPairs};
+ghost use Rattle.word_relations.specs.Relations.{IsRepetitionOfPairs};
 ghost use Rattle.fsa.specs.Automaton.{UsesLetter};
 ghost use Rattle.fsa.specs.Language.{Accepts};
 ghost use Rattle.expr_meaning.specs.Operators.{IsRepetitionOf, Just};
 ghost use Rattle.network_algebra.specs.Networks.{AtMost, Counts, IsFor, IsNetwork, PairsOf, WordsOf, kind_of_network};
 
 use crate::network::Network;
-use crate::optional::besides_empty;
+use crate::optional::split_off_empty;
 use crate::rational::{concat, star, union};
 use crate::words::word;
 use fsa::Fsa;
@@ -25,19 +25,23 @@ pub enum Times {
     Exactly(u32),
 }
 
-/// What a network repeated so often is.
-pub fn repeated(alloc: Global, network: Network, times: Times) -> Result<Network, AllocError>
+/// What a network repeat so often is.
+pub fn repeat(alloc: Global, network: Network, times: Times) -> Result<Network, AllocError>
     ensures letters { IfOk result (λ n. (symbols : List Sym) → IsNetwork symbols network → IsNetwork symbols n) }
     ensures meaning { IfOk result (IsFor (kind_of_network network) (IsRepetitionOf (Counts times) (WordsOf network)) (IsRepetitionOfPairs (Counts times) (PairsOf network))) }
 {
     match network {
-        Network::Words(m) => Ok(Network::Words(repeat(alloc, &m, times)?)),
-        Network::Pairs(m) => Ok(Network::Pairs(repeat(alloc, &m, times)?)),
+        Network::Words(m) => Ok(Network::Words(repeat_automaton(alloc, &m, times)?)),
+        Network::Pairs(m) => Ok(Network::Pairs(repeat_automaton(alloc, &m, times)?)),
     }
 }
 
 /// The automaton of so many words of `m`, joined.
-fn repeat<L: Letter>(alloc: Global, m: &Fsa<L>, times: Times) -> Result<Fsa<L>, AllocError>
+fn repeat_automaton<L: Letter>(
+    alloc: Global,
+    m: &Fsa<L>,
+    times: Times,
+) -> Result<Fsa<L>, AllocError>
     ensures letters { IfOk result (λ p. (x : L) → UsesLetter p x → UsesLetter m.now x) }
     ensures language { IfOk result (λ p. (w : List L) → Accepts p w ↔ IsRepetitionOf (Counts times) (Accepts m.now) w) }
 {
@@ -54,7 +58,7 @@ fn power<L: Letter>(alloc: Global, m: &Fsa<L>, count: u32) -> Result<Fsa<L>, All
     ensures letters { IfOk result (λ p. (x : L) → UsesLetter p x → UsesLetter m.now x) }
     ensures language { IfOk result (λ p. (w : List L) → Accepts p w ↔ IsRepetitionOf (Just count) (Accepts m.now) w) }
 {
-    match besides_empty(alloc, m)? {
+    match split_off_empty(alloc, m)? {
         Some(rest) => at_most(alloc, &rest, count),
         None => exactly(alloc, m, count),
     }

@@ -1,8 +1,8 @@
 ghost use Rattle.std.specs.Prelude.{◌≡◌, IfOk, List, reverse};
 ghost use Rattle.fsm_base.specs.declared.letters.Sym.{Sym};
 ghost use Rattle.fsa.specs.Language.{Accepts};
-ghost use Rattle.fsm_words.specs.Relations.{IsUpper, IsLower, IsInverse};
-ghost use Rattle.expr_forms.specs.declared.form.Kind.{Kind};
+ghost use Rattle.word_relations.specs.Relations.{IsUpper, IsLower, IsInverse};
+ghost use Rattle.expr_kinds.specs.declared.form.Kind.{Kind};
 ghost use Rattle.expr_meaning.specs.Operators.{inner, WithEdge};
 ghost use Rattle.network_algebra.specs.Networks.{IsFor, IsNetwork, PairsOf, UsesOnly, WordsOf, all_letters, kind_of_network};
 
@@ -43,7 +43,7 @@ pub fn inverse(alloc: Global, network: Network) -> Result<Network, AllocError>
 }
 
 /// The network read backwards.
-pub fn reversed(alloc: Global, network: Network) -> Result<Network, AllocError>
+pub fn reverse(alloc: Global, network: Network) -> Result<Network, AllocError>
     ensures letters { IfOk result (λ n. (symbols : List Sym) → IsNetwork symbols network → IsNetwork symbols n) }
     ensures meaning { IfOk result (IsFor (kind_of_network network) (λ w. WordsOf network (reverse w)) (λ u w. PairsOf network (reverse u) (reverse w))) }
 {

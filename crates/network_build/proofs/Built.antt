@@ -1,16 +1,13 @@
 -- Expressions that are built, by their leaves.
 use Rattle.std.proofs.Common.{◌++◌, Bool, List, [], IsTrue, All, Contains, sym, subst}
 use Rattle.std.proofs.lemmas.List.Elements.{All-nil, All-cons, All-append, All-weaker, All-contains_itself, Contains-append_left, Contains-append_right, Contains-push}
-use Rattle.std.proofs.lemmas.List.Sums.{AllPass-from_list_all}
+use Rattle.std.proofs.lemmas.List.Sums.{AllPass-from_list_all, list_all-from_AllPass}
 use Rattle.std.specs.List.{list_all}
-use Rattle.fsm_base.specs.declared.letters.Sym.{Sym as Symbol}
-use Rattle.regex_ast.specs.declared.expr.Atom.{Atom}
 use Rattle.regex_ast.specs.Terms.{Term, Terms, Links, Contexts, Steps}
 use Rattle.regex_ast.specs.Terms.{empty, any, edge, atom, letters, group, maybe, not_one, cross, suffixed, prefixed, ignore, concat, chain, only, rules, steps, no_term, then_term, no_link, or, and, less, no_context, between, no_step, cross_with, then}
-use Rattle.expr_forms.specs.Built.{IsBuilt, AreBuilt, LinksAreBuilt, ContextsAreBuilt, StepsAreBuilt}
-use Rattle.expr_parts.specs.Leaves.{leaves_in, leaves_in_each, leaves_in_links, leaves_in_contexts, leaves_in_steps}
-use Rattle.expr_parts.proofs.Behind.{flat_map-alone}
-use Rattle.network_expr.specs.Built.{IsSymbolOf, IsBuilt as IsBuiltOver, AreBuilt as AreBuiltOver, LinksAreBuilt as LinksAreBuiltOver, ContextsAreBuilt as ContextsAreBuiltOver, StepsAreBuilt as StepsAreBuiltOver}
+use Rattle.expr_kinds.specs.Built.{IsBuilt, AreBuilt, LinksAreBuilt, ContextsAreBuilt, StepsAreBuilt}
+use Rattle.expr_leaves.specs.Leaves.{leaves_in, leaves_in_each, leaves_in_links, leaves_in_contexts, leaves_in_steps}
+use Rattle.expr_leaves.proofs.Behind.{flat_map-alone}
 
 module _ {A : Type 0} (spells : A → Bool) where
   -- the leaves that pass
@@ -62,58 +59,58 @@ module _ {A : Type 0} (spells : A → Bool) where
     steps_pass (cross_with e more) h = All-append Passes (leaves_in e) (leaves_in_steps more) (leaves_pass e h.0) (steps_pass more h.1)
     steps_pass (then e more) h = All-append Passes (leaves_in e) (leaves_in_steps more) (leaves_pass e h.0) (steps_pass more h.1)
 
-module _ (alphabet : List Symbol) where
-  -- each of these leaves is a symbol of the alphabet
-  abbrev AreSymbols : List Atom → Type 0
-  AreSymbols xs = (a : Atom) → Contains xs a → IsSymbolOf alphabet a
+module _ {A : Type 0} (passes : A → Bool) where
+  -- each of these leaves passes
+  abbrev pub EachPasses : List A → Type 0
+  EachPasses xs = (a : A) → Contains xs a → IsTrue (passes a)
 
   -- what follows from the leaves of two parts
-  both : {P Q : Type 0} (xs ys : List Atom) → (AreSymbols xs → P) → (AreSymbols ys → Q) → AreSymbols (xs ++ ys) → P × Q
+  both : {P Q : Type 0} (xs ys : List A) → (EachPasses xs → P) → (EachPasses ys → Q) → EachPasses (xs ++ ys) → P × Q
   both xs ys p q s = (p (λ a at. s a (Contains-append_left xs ys a at)), q (λ a at. s a (Contains-append_right xs ys a at)))
 
-  each : (xs : List Atom) → AreSymbols xs → All (IsSymbolOf alphabet) xs
-  each xs s = All-weaker (Contains xs) (IsSymbolOf alphabet) s xs (All-contains_itself xs)
+  each : (xs : List A) → EachPasses xs → IsTrue (list_all passes xs)
+  each xs s = list_all-from_AllPass passes xs (All-weaker (Contains xs) (λ a. IsTrue (passes a)) s xs (All-contains_itself xs))
 
-module _ (spells : Atom → Bool) (alphabet : List Symbol) where
+-- an expression that is built is so by any test that its leaves pass
+module _ {A : Type 0} (spells passes : A → Bool) where
   mutual
-    -- an expression that is built is built over an alphabet that has its leaves
-    pub built_over : (e : Term Atom) → IsBuilt spells e → AreSymbols alphabet (leaves_in e) → IsBuiltOver alphabet e
-    built_over empty h s = tt
-    built_over any h s = tt
-    built_over edge h s = tt
-    built_over (atom a) h s = s a (Contains-push [] a)
-    built_over (letters all) h s = each alphabet all (subst (AreSymbols alphabet) (flat_map-alone all) s)
-    built_over (group e) h s = built_over e h s
-    built_over (maybe e) h s = built_over e h s
-    built_over (not_one n e) h s = built_over e h s
-    built_over (cross e f) h s = both alphabet (leaves_in e) (leaves_in f) (built_over e h.0) (built_over f h.1) s
-    built_over (suffixed e suffixes) h s = built_over e h s
-    built_over (prefixed prefixes e) h s = built_over e h s
-    built_over (ignore es) h s = each_over es h s
-    built_over (concat es) h s = each_over es h s
-    built_over (chain e links) h s = both alphabet (leaves_in e) (leaves_in_links links) (built_over e h.0) (links_over links h.1) s
-    built_over (only e contexts) h s = both alphabet (leaves_in e) (leaves_in_contexts contexts) (built_over e h.0) (contexts_over contexts h.1) s
-    built_over (rules optional groups) h s = h
-    built_over (steps e more) h s = both alphabet (leaves_in e) (leaves_in_steps more) (built_over e h.0) (steps_over more h.1) s
+    pub built_by : (e : Term A) → IsBuilt spells e → EachPasses passes (leaves_in e) → IsBuilt passes e
+    built_by empty h s = tt
+    built_by any h s = tt
+    built_by edge h s = tt
+    built_by (atom a) h s = s a (Contains-push [] a)
+    built_by (letters all) h s = each passes all (subst (EachPasses passes) (flat_map-alone all) s)
+    built_by (group e) h s = built_by e h s
+    built_by (maybe e) h s = built_by e h s
+    built_by (not_one n e) h s = built_by e h s
+    built_by (cross e f) h s = both passes (leaves_in e) (leaves_in f) (built_by e h.0) (built_by f h.1) s
+    built_by (suffixed e suffixes) h s = built_by e h s
+    built_by (prefixed prefixes e) h s = built_by e h s
+    built_by (ignore es) h s = each_by es h s
+    built_by (concat es) h s = each_by es h s
+    built_by (chain e links) h s = both passes (leaves_in e) (leaves_in_links links) (built_by e h.0) (links_by links h.1) s
+    built_by (only e contexts) h s = both passes (leaves_in e) (leaves_in_contexts contexts) (built_by e h.0) (contexts_by contexts h.1) s
+    built_by (rules optional groups) h s = h
+    built_by (steps e more) h s = both passes (leaves_in e) (leaves_in_steps more) (built_by e h.0) (steps_by more h.1) s
 
-    each_over : (es : Terms Atom) → AreBuilt spells es → AreSymbols alphabet (leaves_in_each es) → AreBuiltOver alphabet es
-    each_over no_term h s = tt
-    each_over (then_term e es) h s = both alphabet (leaves_in e) (leaves_in_each es) (built_over e h.0) (each_over es h.1) s
+    each_by : (es : Terms A) → AreBuilt spells es → EachPasses passes (leaves_in_each es) → AreBuilt passes es
+    each_by no_term h s = tt
+    each_by (then_term e es) h s = both passes (leaves_in e) (leaves_in_each es) (built_by e h.0) (each_by es h.1) s
 
-    links_over : (links : Links Atom) → LinksAreBuilt spells links → AreSymbols alphabet (leaves_in_links links) → LinksAreBuiltOver alphabet links
-    links_over no_link h s = tt
-    links_over (or e links) h s = both alphabet (leaves_in e) (leaves_in_links links) (built_over e h.0) (links_over links h.1) s
-    links_over (and e links) h s = both alphabet (leaves_in e) (leaves_in_links links) (built_over e h.0) (links_over links h.1) s
-    links_over (less e links) h s = both alphabet (leaves_in e) (leaves_in_links links) (built_over e h.0) (links_over links h.1) s
+    links_by : (links : Links A) → LinksAreBuilt spells links → EachPasses passes (leaves_in_links links) → LinksAreBuilt passes links
+    links_by no_link h s = tt
+    links_by (or e links) h s = both passes (leaves_in e) (leaves_in_links links) (built_by e h.0) (links_by links h.1) s
+    links_by (and e links) h s = both passes (leaves_in e) (leaves_in_links links) (built_by e h.0) (links_by links h.1) s
+    links_by (less e links) h s = both passes (leaves_in e) (leaves_in_links links) (built_by e h.0) (links_by links h.1) s
 
-    contexts_over : (contexts : Contexts Atom) → ContextsAreBuilt spells contexts → AreSymbols alphabet (leaves_in_contexts contexts) → ContextsAreBuiltOver alphabet contexts
-    contexts_over no_context h s = tt
-    contexts_over (between l r contexts) h s =
-        let sides = both alphabet (leaves_in l) (leaves_in r) (built_over l h.0) (built_over r h.1) in
-        let all = both alphabet (leaves_in l ++ leaves_in r) (leaves_in_contexts contexts) sides (contexts_over contexts h.2) s in
+    contexts_by : (contexts : Contexts A) → ContextsAreBuilt spells contexts → EachPasses passes (leaves_in_contexts contexts) → ContextsAreBuilt passes contexts
+    contexts_by no_context h s = tt
+    contexts_by (between l r contexts) h s =
+        let sides = both passes (leaves_in l) (leaves_in r) (built_by l h.0) (built_by r h.1) in
+        let all = both passes (leaves_in l ++ leaves_in r) (leaves_in_contexts contexts) sides (contexts_by contexts h.2) s in
         (all.0.0, all.0.1, all.1)
 
-    steps_over : (more : Steps Atom) → StepsAreBuilt spells more → AreSymbols alphabet (leaves_in_steps more) → StepsAreBuiltOver alphabet more
-    steps_over no_step h s = tt
-    steps_over (cross_with e more) h s = both alphabet (leaves_in e) (leaves_in_steps more) (built_over e h.0) (steps_over more h.1) s
-    steps_over (then e more) h s = both alphabet (leaves_in e) (leaves_in_steps more) (built_over e h.0) (steps_over more h.1) s
+    steps_by : (more : Steps A) → StepsAreBuilt spells more → EachPasses passes (leaves_in_steps more) → StepsAreBuilt passes more
+    steps_by no_step h s = tt
+    steps_by (cross_with e more) h s = both passes (leaves_in e) (leaves_in_steps more) (built_by e h.0) (steps_by more h.1) s
+    steps_by (then e more) h s = both passes (leaves_in e) (leaves_in_steps more) (built_by e h.0) (steps_by more h.1) s

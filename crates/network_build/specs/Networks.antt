@@ -2,7 +2,7 @@
 use Rattle.std.specs.Prelude.{◌≡◌, ◌⊎◌, true, List, Some, Contains}
 use Rattle.fsm_base.specs.declared.letters.Sym.{Sym as Symbol}
 use Rattle.fsm_base.specs.declared.letters.Pair.{Pair}
-use Rattle.fsm_words.specs.Relations.{AreSame}
+use Rattle.word_relations.specs.Relations.{AreSame}
 use Rattle.fsa.specs.Automaton.{Automaton, UsesLetter}
 use Rattle.fst_relation.specs.Relation.{IsRelated}
 use Rattle.regex_ast.specs.declared.expr.Atom.{Atom}
@@ -10,8 +10,8 @@ use Rattle.regex_ast.specs.declared.expr.Atom.TheVariants.{Sym}
 use Rattle.regex_ast.specs.Terms.{Term}
 use Rattle.expr_meaning.specs.Leaves.{stands_for}
 use Rattle.expr_meaning.specs.Meaning.{Relates}
-use Rattle.expr_parts.specs.Alphabet.{uses_alphabet}
-use Rattle.expr_parts.specs.Leaves.{leaves_in}
+use Rattle.expr_leaves.specs.Alphabet.{uses_alphabet}
+use Rattle.expr_leaves.specs.Leaves.{leaves_in}
 
 -- a network as contracts see it: its automaton
 pub record CompiledView : Type 0 where

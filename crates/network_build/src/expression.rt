@@ -1,12 +1,12 @@
 ghost use Rattle.std.specs.Prelude.{◌≡◌, IfOk, false, true};
-ghost use Rattle.fsm_words.specs.Words.{IsDistinct};
+ghost use Rattle.word_relations.specs.Words.{IsDistinct};
 ghost use Rattle.regex_ast.specs.Terms.{term};
-ghost use Rattle.expr_parts.specs.Alphabet.{uses_alphabet};
+ghost use Rattle.expr_leaves.specs.Alphabet.{uses_alphabet};
 ghost use Rattle.project_model.specs.Sound.{IsSound};
 ghost use Rattle.network_build.specs.Networks.{IsTransducerOf};
 
 use crate::symbols::symbols_among;
-use expr_parts::{leaves, uses_alphabet};
+use expr_leaves::{leaves, uses_alphabet};
 use expr_spelling::alphabet_does_not_matter;
 use fsa::Fsa;
 use fsm_base::{Pair, Sym};
@@ -43,7 +43,7 @@ fn over_alphabet(
     requires uses { uses_alphabet (term expr.now) ≡ true }
     ensures { IfOk result (IsTransducerOf alphabet.now (term expr.now)) }
 {
-    relation_of(alloc, alphabet, expr)
+    relation_of(alloc, alphabet, &[], expr)
 }
 
 /// The transducer of an expression that doesn't use the alphabet, over the symbols that stand in it.
@@ -58,5 +58,5 @@ fn over_own_symbols(
 {
     alphabet_does_not_matter();
     let own = symbols_among(alloc, &leaves(alloc, expr)?)?;
-    relation_of(alloc, &own, expr)
+    relation_of(alloc, &own, &[], expr)
 }

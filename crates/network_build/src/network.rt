@@ -1,7 +1,7 @@
 ghost use Rattle.std.specs.Prelude.{IfOk};
 ghost use Rattle.fsm_base.specs.Alphabet.{symbols_of};
-ghost use Rattle.fsm_words.specs.Relations.{AreSame};
-ghost use Rattle.fsm_words.specs.Words.{IsDistinct};
+ghost use Rattle.word_relations.specs.Relations.{AreSame};
+ghost use Rattle.word_relations.specs.Words.{IsDistinct};
 ghost use Rattle.fst_relation.specs.Relation.{IsRelated};
 ghost use Rattle.lookup.specs.Answering.{IsOverAlphabet};
 ghost use Rattle.expr_meaning.specs.Leaves.{stands_for};

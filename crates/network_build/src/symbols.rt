@@ -1,7 +1,7 @@
 ghost use Rattle.std.specs.Prelude.{◌≡◌, ◌⊎◌, ◌↔◌, IfOk, OnOk, Contains};
 ghost use Rattle.fsm_base.specs.declared.letters.Sym.{Sym as Symbol};
-ghost use Rattle.fsm_words.specs.Words.{IsDistinct};
-ghost use Rattle.expr_parts.specs.Leaves.{seen};
+ghost use Rattle.word_relations.specs.Words.{IsDistinct};
+ghost use Rattle.expr_leaves.specs.Leaves.{seen};
 
 use fsm_base::Sym;
 use indexmap::IndexSet;

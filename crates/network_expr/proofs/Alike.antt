@@ -1,17 +1,17 @@
 -- The operators make the same of the same sets and relations.
 use Rattle.std.proofs.Common.{◌≡◌, ◌↔◌, ◌+◌, ℕ, zero, suc, arith, List, [], ◌∷◌, ◌++◌, reverse, subst}
 use Rattle.fsm_base.specs.declared.letters.Bound.{Bound}
-use Rattle.fsm_words.specs.Relations.{AreSame, IsUpper, IsLower, IsComposition}
-use Rattle.fsm_words.proofs.Pairs.{repetition_same as pairs_repeated}
-use Rattle.fsm_words.specs.Operations.{IsOneLetter, IsIgnoring}
+use Rattle.word_relations.specs.Relations.{AreSame, IsUpper, IsLower, IsComposition}
+use Rattle.word_relations.proofs.Pairs.{repetition_same as pairs_repeated}
+use Rattle.word_relations.specs.Operations.{IsOneLetter, IsIgnoring}
 use Rattle.lang_algebra.proofs.Inserting.{IsIgnoring-more}
 use Rattle.regex_ast.specs.declared.expr.Suffix.{Suffix}
 use Rattle.regex_ast.specs.declared.expr.Suffix.TheVariants.{Star, Plus, Power, Upper, Lower, Inverse, Reverse}
 use Rattle.regex_ast.specs.declared.expr.Prefix.{Prefix}
 use Rattle.regex_ast.specs.declared.expr.Prefix.TheVariants.{Not, Contains as Part}
-use Rattle.expr_forms.specs.Kinds.{kind_behind, with_suffixes}
-use Rattle.expr_forms.specs.declared.form.Kind.{Kind}
-use Rattle.expr_forms.specs.declared.form.Kind.TheVariants.{Language}
+use Rattle.expr_kinds.specs.Kinds.{kind_behind, with_suffixes}
+use Rattle.expr_kinds.specs.declared.form.Kind.{Kind}
+use Rattle.expr_kinds.specs.declared.form.Kind.TheVariants.{Language}
 use Rattle.expr_meaning.specs.Operators.{inner, WithEdge, IsRepetitionOf, AnyNumber, OneOrMore, Just, IsSuffixed, RelatesSuffixed, AreSuffixed, RelateSuffixed, IsPrefixed, ArePrefixed, IsNotOne}
 use Rattle.network_algebra.proofs.Counted.{repetition_same}
 

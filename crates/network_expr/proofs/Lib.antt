@@ -4,3 +4,5 @@ pub mod Rows
 pub mod Meant
 pub mod LeafWords
 pub mod Repeats
+pub mod Named
+pub mod Searched

@@ -3,14 +3,14 @@ use Rattle.std.proofs.Common.{◌≡◌, ◌↔◌, ◌<◌, ◌+◌, ℕ, zero,
 use Rattle.std.proofs.lemmas.List.{take_more}
 use Rattle.std.proofs.lemmas.List.Elements.{All-nil, All-head, All-tail}
 use Rattle.fsm_base.specs.declared.letters.Bound.{Bound}
-use Rattle.fsm_words.specs.Words.{joined}
-use Rattle.fsm_words.specs.Relations.{AreSame, IsRepetitionOfPairs, IsLower}
-use Rattle.fsm_words.proofs.Pairs.{repetition_one, repetition_append, same_trans, same_back}
+use Rattle.word_relations.specs.Words.{joined}
+use Rattle.word_relations.specs.Relations.{AreSame, IsRepetitionOfPairs, IsLower}
+use Rattle.word_relations.proofs.Pairs.{repetition_one, repetition_append, same_trans, same_back}
 use Rattle.regex_ast.specs.declared.expr.Suffix.{Suffix}
 use Rattle.regex_ast.specs.declared.expr.Suffix.TheVariants.{Star, Plus, Power, Upper, Lower, Inverse, Reverse}
-use Rattle.expr_forms.specs.Kinds.{kind_behind, with_suffixes}
-use Rattle.expr_forms.specs.declared.form.Kind.{Kind}
-use Rattle.expr_forms.specs.declared.form.Kind.TheVariants.{Language}
+use Rattle.expr_kinds.specs.Kinds.{kind_behind, with_suffixes}
+use Rattle.expr_kinds.specs.declared.form.Kind.{Kind}
+use Rattle.expr_kinds.specs.declared.form.Kind.TheVariants.{Language}
 use Rattle.expr_meaning.specs.Operators.{IsRepetitionOf, AnyNumber, OneOrMore, IsSuffixed, RelatesSuffixed, AreSuffixed, RelateSuffixed}
 use Rattle.network_algebra.specs.Networks.{IsFor, WordsOf, PairsOf, kind_of_network}
 use Rattle.network_algebra.specs.declared.network.Network.{Network}

@@ -2,7 +2,7 @@
 use Rattle.std.specs.Prelude.{Option, IfSome}
 use Rattle.regex_ast.specs.declared.expr.Suffix.{Suffix}
 use Rattle.regex_ast.specs.declared.expr.Suffix.TheVariants.{Star, Plus, Power, Upper, Lower, Inverse, Reverse}
-use Rattle.expr_forms.specs.Kinds.{kind_behind}
+use Rattle.expr_kinds.specs.Kinds.{kind_behind}
 use Rattle.expr_meaning.specs.Operators.{IsSuffixed, RelatesSuffixed}
 use Rattle.network_algebra.specs.Networks.{IsFor, WordsOf, PairsOf, kind_of_network}
 use Rattle.network_algebra.specs.declared.network.Network.{Network}

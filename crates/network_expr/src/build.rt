@@ -2,69 +2,86 @@ ghost use Rattle.std.specs.Prelude.{◌≡◌, ◌↔◌, IfOk, IsTrue, List, []
 ghost use Rattle.fsm_base.specs.declared.letters.Bound.{Bound};
 ghost use Rattle.fsm_base.specs.declared.letters.Bound.TheVariants.{Edge};
 ghost use Rattle.fsm_base.specs.declared.letters.Sym.{Sym};
-ghost use Rattle.fsm_words.specs.Words.{IsDistinct, IsOver};
+ghost use Rattle.word_relations.specs.Words.{IsOver};
 ghost use Rattle.fsa.specs.Language.{Accepts};
 ghost use Rattle.regex_ast.specs.Terms.{chain, concat, contexts_of, cross, ignore, links_of, maybe, not_one, only, prefixed, steps, steps_by, suffixed, term, terms_of};
-ghost use Rattle.expr_forms.specs.Atoms.{symbols as leaves};
-ghost use Rattle.expr_forms.specs.Kinds.{ChainFits, ContextsFit, EachFits, EachFitsAsLanguage, Fits, IsLanguage, StepsFit, kind_of, kind_of_chain, kind_of_steps};
-ghost use Rattle.expr_forms.specs.declared.form.Kind.{Kind};
-ghost use Rattle.expr_meaning.specs.Leaves.{stands_for};
+ghost use Rattle.expr_kinds.specs.Kinds.{ChainFits, ContextsFit, EachFits, EachFitsAsLanguage, Fits, IsLanguage, StepsFit, kind_of, kind_of_chain, kind_of_steps};
+ghost use Rattle.expr_kinds.specs.declared.form.Kind.{Kind};
 ghost use Rattle.expr_meaning.specs.Meaning.{In, InChain, InContext, InIgnoring, InSteps, RelatesChain, RelatesSteps};
 ghost use Rattle.expr_meaning.specs.Operators.{inner};
 ghost use Rattle.network_algebra.specs.Networks.{IsFor, IsNetwork, PairsOf, UsesOnly, WordsOf, all_letters, kind_of_network};
 ghost use Rattle.network_sets.specs.Split.{split, split_letters};
-ghost use Rattle.network_expr.specs.Built.{AreBuilt, ContextsAreBuilt, IsBuilt, IsChoice, IsMeant, LinksAreBuilt, StepsAreBuilt};
+ghost use Rattle.network_expr.specs.Built.{AreBuiltOver, ContextsAreBuiltOver, IsBuiltOver, IsChoice, IsMeant, LinksAreBuiltOver, StepsAreBuiltOver};
+ghost use Rattle.network_expr.specs.Parts.{IsGround, kinds, stands};
 
-use crate::leaves::leaves;
-use crate::prefixes::{not_one_times, with_prefixes};
-use crate::suffixes::with_suffixes;
-use expr_forms::{Kind, form_of};
+use crate::leaves::{leaf, symbols};
+use crate::parts::Part;
+use crate::prefixes::{apply_prefixes, not_one_times};
+use crate::suffixes::apply_suffixes;
+use expr_kinds::are_alike;
 use fsa::Fsa;
 use fsm_base::{Bound, Sym};
 use lang_algebra::one_letter;
 use network_algebra::{Network, cross, inner_letters, reduced, union, word};
-use network_sets::{Split, both, composed, ignoring, in_context, minus, restricted};
+use network_sets::{Split, both, compose, ignore, in_context, minus, restrict};
 use regex_ast::{Atom, Context, Expr, Link, Step};
 use std::alloc::{AllocError, Global};
 
 /// The network of an expression over an alphabet: of its kind, with its words where it is a language, and with the
-/// pairs that it relates. Names and replacement can't be built yet.
+/// pairs that it relates. A name relates what its part does; replacement can't be built yet.
 #[cycle(build)]
-pub fn network_of(alloc: Global, alphabet: &[Sym], expr: &Expr<Atom>) -> Result<Network, AllocError>
-    requires distinct { IsDistinct alphabet.now }
-    requires built { IsBuilt alphabet.now (term expr.now) }
-    requires fits { Fits leaves (term expr.now) }
+pub fn network_of(
+    alloc: Global,
+    alphabet: &[Sym],
+    parts: &[Part],
+    expr: &Expr<Atom>,
+) -> Result<Network, AllocError>
+    requires ground { IsGround alphabet.now parts.now }
+    requires built { IsBuiltOver parts.now alphabet.now (term expr.now) }
+    requires fits { Fits (kinds parts.now) (term expr.now) }
     ensures letters { IfOk result (IsNetwork alphabet.now) }
-    ensures meaning { IfOk result (IsMeant alphabet.now (term expr.now)) }
+    ensures meaning { IfOk result (IsMeant parts.now alphabet.now (term expr.now)) }
 {
     match expr {
         Expr::Empty => Ok(Network::Words(word(alloc, &[])?)),
         Expr::Any => Ok(Network::Words(one_letter(alloc, &inner_letters(alloc, alphabet)?)?)),
         Expr::Edge => Ok(Network::Words(word(alloc, &[Bound::Edge])?)),
-        Expr::Atom(atom) => Ok(Network::Words(leaves(alloc, alphabet, &[*atom])?)),
-        Expr::Letters(letters) => Ok(Network::Words(leaves(alloc, alphabet, letters)?)),
-        Expr::Group(inner) => network_of(alloc, alphabet, inner),
-        Expr::Maybe(inner) => perhaps(alloc, alphabet, inner),
-        Expr::NotOne(count, inner) => no_such_letter(alloc, alphabet, *count, inner),
-        Expr::Cross(upper, lower) => {
-            let kind = form_of(expr).kind;
-            crossed(alloc, alphabet, kind, upper, lower)
-        }
+        Expr::Atom(atom) => leaf(alloc, alphabet, parts, *atom),
+        Expr::Letters(letters) => Ok(Network::Words(symbols(alloc, alphabet, letters)?)),
+        Expr::Group(inner) => network_of(alloc, alphabet, parts, inner),
+        Expr::Maybe(inner) => perhaps(alloc, alphabet, parts, inner),
+        Expr::NotOne(count, inner) => no_such_letter(alloc, alphabet, parts, *count, inner),
+        Expr::Cross(upper, lower) => crossed(alloc, alphabet, parts, upper, lower),
         Expr::Suffixed(inner, suffixes) => {
-            with_suffixes(alloc, network_of(alloc, alphabet, inner)?, suffixes)
+            apply_suffixes(alloc, network_of(alloc, alphabet, parts, inner)?, suffixes)
         }
         Expr::Prefixed(prefixes, inner) => {
-            let words = words_of(alloc, alphabet, inner)?;
-            Ok(Network::Words(with_prefixes(alloc, alphabet, prefixes, words)?))
+            let words = words_of(alloc, alphabet, parts, inner)?;
+            Ok(Network::Words(apply_prefixes(alloc, alphabet, prefixes, words)?))
         }
-        Expr::Ignore(operands) => Ok(Network::Words(ignored(alloc, alphabet, operands)?)),
-        Expr::Concat(operands) => reduced(alloc, &in_turn(alloc, alphabet, operands)?),
+        Expr::Ignore(operands) => Ok(Network::Words(ignored(alloc, alphabet, parts, operands)?)),
+        Expr::Concat(operands) => reduced(
+            alloc,
+            &concat_operands(alloc, alphabet, parts, operands)?,
+        ),
         Expr::Chain(first, links) => {
-            in_chain(alloc, alphabet, network_of(alloc, alphabet, first)?, links)
+            in_chain(
+                alloc,
+                alphabet,
+                parts,
+                network_of(alloc, alphabet, parts, first)?,
+                links,
+            )
         }
-        Expr::Only(centre, contexts) => only_in(alloc, alphabet, centre, contexts),
+        Expr::Only(centre, contexts) => only_in(alloc, alphabet, parts, centre, contexts),
         Expr::Steps(first, steps) => {
-            in_steps(alloc, alphabet, network_of(alloc, alphabet, first)?, steps)
+            in_steps(
+                alloc,
+                alphabet,
+                parts,
+                network_of(alloc, alphabet, parts, first)?,
+                steps,
+            )
         }
         Expr::Rules(_) => unreachable!(),
     }
@@ -75,29 +92,35 @@ pub fn network_of(alloc: Global, alphabet: &[Sym], expr: &Expr<Atom>) -> Result<
 pub fn words_of(
     alloc: Global,
     alphabet: &[Sym],
+    parts: &[Part],
     expr: &Expr<Atom>,
 ) -> Result<Fsa<Bound<Sym>>, AllocError>
-    requires distinct { IsDistinct alphabet.now }
-    requires built { IsBuilt alphabet.now (term expr.now) }
-    requires fits { Fits leaves (term expr.now) }
-    requires language { IsLanguage leaves (term expr.now) }
+    requires ground { IsGround alphabet.now parts.now }
+    requires built { IsBuiltOver parts.now alphabet.now (term expr.now) }
+    requires fits { Fits (kinds parts.now) (term expr.now) }
+    requires language { IsLanguage (kinds parts.now) (term expr.now) }
     ensures letters { IfOk result (UsesOnly (all_letters alphabet.now)) }
-    ensures words { IfOk result (λ m. (w : List (Bound Sym)) → Accepts m w ↔ In stands_for alphabet.now (term expr.now) w) }
+    ensures words { IfOk result (λ m. (w : List (Bound Sym)) → Accepts m w ↔ In (stands parts.now) alphabet.now (term expr.now) w) }
 {
-    Ok(network_of(alloc, alphabet, expr)?.into_words())
+    Ok(network_of(alloc, alphabet, parts, expr)?.into_words())
 }
 
 /// The network of an expression or the empty string.
 #[cycle(build)]
-fn perhaps(alloc: Global, alphabet: &[Sym], inner: &Expr<Atom>) -> Result<Network, AllocError>
-    requires distinct { IsDistinct alphabet.now }
-    requires built { IsBuilt alphabet.now (term inner.now) }
-    requires fits { Fits leaves (term inner.now) }
+fn perhaps(
+    alloc: Global,
+    alphabet: &[Sym],
+    parts: &[Part],
+    inner: &Expr<Atom>,
+) -> Result<Network, AllocError>
+    requires ground { IsGround alphabet.now parts.now }
+    requires built { IsBuiltOver parts.now alphabet.now (term inner.now) }
+    requires fits { Fits (kinds parts.now) (term inner.now) }
     ensures letters { IfOk result (IsNetwork alphabet.now) }
-    ensures meaning { IfOk result (IsMeant alphabet.now (maybe (term inner.now))) }
+    ensures meaning { IfOk result (IsMeant parts.now alphabet.now (maybe (term inner.now))) }
 {
     let empty = Network::Words(word(alloc, &[])?);
-    let either = union(alloc, empty, network_of(alloc, alphabet, inner)?)?;
+    let either = union(alloc, empty, network_of(alloc, alphabet, parts, inner)?)?;
     reduced(alloc, &either)
 }
 
@@ -106,40 +129,41 @@ fn perhaps(alloc: Global, alphabet: &[Sym], inner: &Expr<Atom>) -> Result<Networ
 fn no_such_letter(
     alloc: Global,
     alphabet: &[Sym],
+    parts: &[Part],
     count: u32,
     inner: &Expr<Atom>,
 ) -> Result<Network, AllocError>
-    requires distinct { IsDistinct alphabet.now }
-    requires built { IsBuilt alphabet.now (term inner.now) }
-    requires fits { Fits leaves (not_one count (term inner.now)) }
+    requires ground { IsGround alphabet.now parts.now }
+    requires built { IsBuiltOver parts.now alphabet.now (term inner.now) }
+    requires fits { Fits (kinds parts.now) (not_one count (term inner.now)) }
     ensures letters { IfOk result (IsNetwork alphabet.now) }
-    ensures meaning { IfOk result (IsMeant alphabet.now (not_one count (term inner.now))) }
+    ensures meaning { IfOk result (IsMeant parts.now alphabet.now (not_one count (term inner.now))) }
 {
-    let words = words_of(alloc, alphabet, inner)?;
+    let words = words_of(alloc, alphabet, parts, inner)?;
     Ok(Network::Words(not_one_times(alloc, alphabet, count, words)?))
 }
 
-/// The network of two sides of a colon, by whether that is a language.
+/// The network of two sides of a colon, which is a language only where both are the same symbol or empty.
 #[cycle(build)]
 fn crossed(
     alloc: Global,
     alphabet: &[Sym],
-    kind: Kind,
+    parts: &[Part],
     upper: &Expr<Atom>,
     lower: &Expr<Atom>,
 ) -> Result<Network, AllocError>
-    requires distinct { IsDistinct alphabet.now }
-    requires built { IsBuilt alphabet.now (cross (term upper.now) (term lower.now)) }
-    requires fits { Fits leaves (cross (term upper.now) (term lower.now)) }
-    requires kind { kind ≡ kind_of leaves (cross (term upper.now) (term lower.now)) }
+    requires ground { IsGround alphabet.now parts.now }
+    requires built { IsBuiltOver parts.now alphabet.now (cross (term upper.now) (term lower.now)) }
+    requires fits { Fits (kinds parts.now) (cross (term upper.now) (term lower.now)) }
     ensures letters { IfOk result (IsNetwork alphabet.now) }
-    ensures meaning { IfOk result (IsMeant alphabet.now (cross (term upper.now) (term lower.now))) }
+    ensures meaning { IfOk result (IsMeant parts.now alphabet.now (cross (term upper.now) (term lower.now))) }
 {
-    let above = words_of(alloc, alphabet, upper)?;
-    let below = words_of(alloc, alphabet, lower)?;
-    match kind {
-        Kind::Language => Ok(Network::Words(both(alloc, alphabet, &above, &below)?)),
-        Kind::Relation => cross(alloc, &above, &below),
+    let above = words_of(alloc, alphabet, parts, upper)?;
+    let below = words_of(alloc, alphabet, parts, lower)?;
+    if are_alike(upper, lower) {
+        Ok(Network::Words(both(alloc, alphabet, &above, &below)?))
+    } else {
+        cross(alloc, &above, &below)
     }
 }
 
@@ -148,21 +172,22 @@ fn crossed(
 fn ignored(
     alloc: Global,
     alphabet: &[Sym],
+    parts: &[Part],
     operands: &[Expr<Atom>],
 ) -> Result<Fsa<Bound<Sym>>, AllocError>
-    requires distinct { IsDistinct alphabet.now }
-    requires built { AreBuilt alphabet.now (terms_of (map term operands.now)) }
-    requires fits { EachFitsAsLanguage leaves (terms_of (map term operands.now)) }
+    requires ground { IsGround alphabet.now parts.now }
+    requires built { AreBuiltOver parts.now alphabet.now (terms_of (map term operands.now)) }
+    requires fits { EachFitsAsLanguage (kinds parts.now) (terms_of (map term operands.now)) }
     ensures letters { IfOk result (UsesOnly (all_letters alphabet.now)) }
-    ensures words { IfOk result (λ m. (w : List (Bound Sym)) → Accepts m w ↔ In stands_for alphabet.now (ignore (terms_of (map term operands.now))) w) }
+    ensures words { IfOk result (λ m. (w : List (Bound Sym)) → Accepts m w ↔ In (stands parts.now) alphabet.now (ignore (terms_of (map term operands.now))) w) }
 {
     match operands {
         [] => word(alloc, &[]),
-        [operand] => words_of(alloc, alphabet, operand),
+        [operand] => words_of(alloc, alphabet, parts, operand),
         _ => {
             let (front, back) = operands.split_at(operands.len() / 2);
-            let first = ignored(alloc, alphabet, front)?;
-            in_ignoring(alloc, alphabet, first, back)
+            let first = ignored(alloc, alphabet, parts, front)?;
+            in_ignoring(alloc, alphabet, parts, first, back)
         }
     }
 }
@@ -172,26 +197,27 @@ fn ignored(
 fn in_ignoring(
     alloc: Global,
     alphabet: &[Sym],
+    parts: &[Part],
     before: Fsa<Bound<Sym>>,
     operands: &[Expr<Atom>],
 ) -> Result<Fsa<Bound<Sym>>, AllocError>
-    requires distinct { IsDistinct alphabet.now }
+    requires ground { IsGround alphabet.now parts.now }
     requires before { UsesOnly (all_letters alphabet.now) before }
-    requires built { AreBuilt alphabet.now (terms_of (map term operands.now)) }
-    requires fits { EachFitsAsLanguage leaves (terms_of (map term operands.now)) }
+    requires built { AreBuiltOver parts.now alphabet.now (terms_of (map term operands.now)) }
+    requires fits { EachFitsAsLanguage (kinds parts.now) (terms_of (map term operands.now)) }
     ensures letters { IfOk result (UsesOnly (all_letters alphabet.now)) }
-    ensures words { IfOk result (λ m. (w : List (Bound Sym)) → Accepts m w ↔ InIgnoring stands_for alphabet.now (Accepts before) (terms_of (map term operands.now)) w) }
+    ensures words { IfOk result (λ m. (w : List (Bound Sym)) → Accepts m w ↔ InIgnoring (stands parts.now) alphabet.now (Accepts before) (terms_of (map term operands.now)) w) }
 {
     match operands {
         [] => Ok(before),
         [operand] => {
-            let words = words_of(alloc, alphabet, operand)?;
-            ignoring(alloc, alphabet, &before, &words)
+            let words = words_of(alloc, alphabet, parts, operand)?;
+            ignore(alloc, alphabet, &before, &words)
         }
         _ => {
             let (front, back) = operands.split_at(operands.len() / 2);
-            let first = in_ignoring(alloc, alphabet, before, front)?;
-            in_ignoring(alloc, alphabet, first, back)
+            let first = in_ignoring(alloc, alphabet, parts, before, front)?;
+            in_ignoring(alloc, alphabet, parts, first, back)
         }
     }
 }
@@ -199,20 +225,25 @@ fn in_ignoring(
 /// The network of expressions side by side, not reduced. They are joined by halves, so that each is copied a few times
 /// only.
 #[cycle(build)]
-fn in_turn(alloc: Global, alphabet: &[Sym], operands: &[Expr<Atom>]) -> Result<Network, AllocError>
-    requires distinct { IsDistinct alphabet.now }
-    requires built { AreBuilt alphabet.now (terms_of (map term operands.now)) }
-    requires fits { EachFits leaves (terms_of (map term operands.now)) }
+fn concat_operands(
+    alloc: Global,
+    alphabet: &[Sym],
+    parts: &[Part],
+    operands: &[Expr<Atom>],
+) -> Result<Network, AllocError>
+    requires ground { IsGround alphabet.now parts.now }
+    requires built { AreBuiltOver parts.now alphabet.now (terms_of (map term operands.now)) }
+    requires fits { EachFits (kinds parts.now) (terms_of (map term operands.now)) }
     ensures letters { IfOk result (IsNetwork alphabet.now) }
-    ensures meaning { IfOk result (IsMeant alphabet.now (concat (terms_of (map term operands.now)))) }
+    ensures meaning { IfOk result (IsMeant parts.now alphabet.now (concat (terms_of (map term operands.now)))) }
 {
     match operands {
         [] => Ok(Network::Words(word(alloc, &[])?)),
-        [operand] => network_of(alloc, alphabet, operand),
+        [operand] => network_of(alloc, alphabet, parts, operand),
         _ => {
             let (front, back) = operands.split_at(operands.len() / 2);
-            let first = in_turn(alloc, alphabet, front)?;
-            let second = in_turn(alloc, alphabet, back)?;
+            let first = concat_operands(alloc, alphabet, parts, front)?;
+            let second = concat_operands(alloc, alphabet, parts, back)?;
             network_algebra::concat(alloc, first, second)
         }
     }
@@ -224,27 +255,32 @@ fn in_turn(alloc: Global, alphabet: &[Sym], operands: &[Expr<Atom>]) -> Result<N
 fn in_chain(
     alloc: Global,
     alphabet: &[Sym],
+    parts: &[Part],
     before: Network,
     links: &[Link<Atom>],
 ) -> Result<Network, AllocError>
-    requires distinct { IsDistinct alphabet.now }
+    requires ground { IsGround alphabet.now parts.now }
     requires before { IsNetwork alphabet.now before }
-    requires built { LinksAreBuilt alphabet.now (links_of links.now) }
-    requires fits { ChainFits leaves (kind_of_network before) (links_of links.now) }
+    requires built { LinksAreBuiltOver parts.now alphabet.now (links_of links.now) }
+    requires fits { ChainFits (kinds parts.now) (kind_of_network before) (links_of links.now) }
     ensures letters { IfOk result (IsNetwork alphabet.now) }
-    ensures meaning { IfOk result (IsFor (kind_of_chain leaves (kind_of_network before) (links_of links.now)) (InChain stands_for alphabet.now (WordsOf before) (links_of links.now)) (RelatesChain stands_for alphabet.now (WordsOf before) (PairsOf before) (links_of links.now))) }
+    ensures meaning { IfOk result (IsFor (kind_of_chain (kinds parts.now) (kind_of_network before) (links_of links.now)) (InChain (stands parts.now) alphabet.now (WordsOf before) (links_of links.now)) (RelatesChain (stands parts.now) alphabet.now (WordsOf before) (PairsOf before) (links_of links.now))) }
 {
     match links {
         [] => Ok(before),
-        [link] => in_link(alloc, alphabet, before, link),
+        [link] => in_link(alloc, alphabet, parts, before, link),
         _ if are_choices(links) => {
-            let either = union(alloc, before, by_any(alloc, alphabet, links)?)?;
+            let either = union(
+                alloc,
+                before,
+                union_operands(alloc, alphabet, parts, links)?,
+            )?;
             reduced(alloc, &either)
         }
         _ => {
             let (front, back) = links.split_at(links.len() / 2);
-            let first = in_chain(alloc, alphabet, before, front)?;
-            in_chain(alloc, alphabet, first, back)
+            let first = in_chain(alloc, alphabet, parts, before, front)?;
+            in_chain(alloc, alphabet, parts, first, back)
         }
     }
 }
@@ -265,21 +301,26 @@ fn are_choices(links: &[Link<Atom>]) -> bool
 
 /// The network of any of the operands of a row of `|`, joined by halves and not reduced.
 #[cycle(build)]
-fn by_any(alloc: Global, alphabet: &[Sym], links: &[Link<Atom>]) -> Result<Network, AllocError>
-    requires distinct { IsDistinct alphabet.now }
+fn union_operands(
+    alloc: Global,
+    alphabet: &[Sym],
+    parts: &[Part],
+    links: &[Link<Atom>],
+) -> Result<Network, AllocError>
+    requires ground { IsGround alphabet.now parts.now }
     requires choices { All IsChoice links.now }
-    requires built { LinksAreBuilt alphabet.now (links_of links.now) }
-    requires fits { ChainFits leaves Kind.Language (links_of links.now) }
+    requires built { LinksAreBuiltOver parts.now alphabet.now (links_of links.now) }
+    requires fits { ChainFits (kinds parts.now) Kind.Language (links_of links.now) }
     ensures letters { IfOk result (IsNetwork alphabet.now) }
-    ensures meaning { IfOk result (IsFor (kind_of_chain leaves Kind.Language (links_of links.now)) (InChain stands_for alphabet.now (λ w. ⊥) (links_of links.now)) (RelatesChain stands_for alphabet.now (λ w. ⊥) (λ u w. ⊥) (links_of links.now))) }
+    ensures meaning { IfOk result (IsFor (kind_of_chain (kinds parts.now) Kind.Language (links_of links.now)) (InChain (stands parts.now) alphabet.now (λ w. ⊥) (links_of links.now)) (RelatesChain (stands parts.now) alphabet.now (λ w. ⊥) (λ u w. ⊥) (links_of links.now))) }
 {
     match links {
         [] => Ok(Network::Words(Fsa::new(alloc)?)),
-        [link] => chosen(alloc, alphabet, link),
+        [link] => chosen(alloc, alphabet, parts, link),
         _ => {
             let (front, back) = links.split_at(links.len() / 2);
-            let first = by_any(alloc, alphabet, front)?;
-            let second = by_any(alloc, alphabet, back)?;
+            let first = union_operands(alloc, alphabet, parts, front)?;
+            let second = union_operands(alloc, alphabet, parts, back)?;
             union(alloc, first, second)
         }
     }
@@ -287,16 +328,21 @@ fn by_any(alloc: Global, alphabet: &[Sym], links: &[Link<Atom>]) -> Result<Netwo
 
 /// The network of the operand of a `|`.
 #[cycle(build)]
-fn chosen(alloc: Global, alphabet: &[Sym], link: &Link<Atom>) -> Result<Network, AllocError>
-    requires distinct { IsDistinct alphabet.now }
+fn chosen(
+    alloc: Global,
+    alphabet: &[Sym],
+    parts: &[Part],
+    link: &Link<Atom>,
+) -> Result<Network, AllocError>
+    requires ground { IsGround alphabet.now parts.now }
     requires choice { IsChoice link.now }
-    requires built { LinksAreBuilt alphabet.now (links_of (link.now ∷ [])) }
-    requires fits { ChainFits leaves Kind.Language (links_of (link.now ∷ [])) }
+    requires built { LinksAreBuiltOver parts.now alphabet.now (links_of (link.now ∷ [])) }
+    requires fits { ChainFits (kinds parts.now) Kind.Language (links_of (link.now ∷ [])) }
     ensures letters { IfOk result (IsNetwork alphabet.now) }
-    ensures meaning { IfOk result (IsFor (kind_of_chain leaves Kind.Language (links_of (link.now ∷ []))) (InChain stands_for alphabet.now (λ w. ⊥) (links_of (link.now ∷ []))) (RelatesChain stands_for alphabet.now (λ w. ⊥) (λ u w. ⊥) (links_of (link.now ∷ [])))) }
+    ensures meaning { IfOk result (IsFor (kind_of_chain (kinds parts.now) Kind.Language (links_of (link.now ∷ []))) (InChain (stands parts.now) alphabet.now (λ w. ⊥) (links_of (link.now ∷ []))) (RelatesChain (stands parts.now) alphabet.now (λ w. ⊥) (λ u w. ⊥) (links_of (link.now ∷ [])))) }
 {
     match link {
-        Link::Or(operand) => network_of(alloc, alphabet, operand),
+        Link::Or(operand) => network_of(alloc, alphabet, parts, operand),
         Link::And(_) | Link::Less(_) => unreachable!(),
     }
 }
@@ -306,27 +352,28 @@ fn chosen(alloc: Global, alphabet: &[Sym], link: &Link<Atom>) -> Result<Network,
 fn in_link(
     alloc: Global,
     alphabet: &[Sym],
+    parts: &[Part],
     before: Network,
     link: &Link<Atom>,
 ) -> Result<Network, AllocError>
-    requires distinct { IsDistinct alphabet.now }
+    requires ground { IsGround alphabet.now parts.now }
     requires before { IsNetwork alphabet.now before }
-    requires built { LinksAreBuilt alphabet.now (links_of (link.now ∷ [])) }
-    requires fits { ChainFits leaves (kind_of_network before) (links_of (link.now ∷ [])) }
+    requires built { LinksAreBuiltOver parts.now alphabet.now (links_of (link.now ∷ [])) }
+    requires fits { ChainFits (kinds parts.now) (kind_of_network before) (links_of (link.now ∷ [])) }
     ensures letters { IfOk result (IsNetwork alphabet.now) }
-    ensures meaning { IfOk result (IsFor (kind_of_chain leaves (kind_of_network before) (links_of (link.now ∷ []))) (InChain stands_for alphabet.now (WordsOf before) (links_of (link.now ∷ []))) (RelatesChain stands_for alphabet.now (WordsOf before) (PairsOf before) (links_of (link.now ∷ [])))) }
+    ensures meaning { IfOk result (IsFor (kind_of_chain (kinds parts.now) (kind_of_network before) (links_of (link.now ∷ []))) (InChain (stands parts.now) alphabet.now (WordsOf before) (links_of (link.now ∷ []))) (RelatesChain (stands parts.now) alphabet.now (WordsOf before) (PairsOf before) (links_of (link.now ∷ [])))) }
 {
     match link {
         Link::Or(operand) => {
-            let either = union(alloc, before, network_of(alloc, alphabet, operand)?)?;
+            let either = union(alloc, before, network_of(alloc, alphabet, parts, operand)?)?;
             reduced(alloc, &either)
         }
         Link::And(operand) => {
-            let words = words_of(alloc, alphabet, operand)?;
+            let words = words_of(alloc, alphabet, parts, operand)?;
             Ok(Network::Words(both(alloc, alphabet, &before.into_words(), &words)?))
         }
         Link::Less(operand) => {
-            let words = words_of(alloc, alphabet, operand)?;
+            let words = words_of(alloc, alphabet, parts, operand)?;
             Ok(Network::Words(minus(alloc, alphabet, &before.into_words(), &words)?))
         }
     }
@@ -337,23 +384,24 @@ fn in_link(
 fn in_steps(
     alloc: Global,
     alphabet: &[Sym],
+    parts: &[Part],
     before: Network,
     steps: &[Step<Atom>],
 ) -> Result<Network, AllocError>
-    requires distinct { IsDistinct alphabet.now }
+    requires ground { IsGround alphabet.now parts.now }
     requires before { IsNetwork alphabet.now before }
-    requires built { StepsAreBuilt alphabet.now (steps_by steps.now) }
-    requires fits { StepsFit leaves (kind_of_network before) (steps_by steps.now) }
+    requires built { StepsAreBuiltOver parts.now alphabet.now (steps_by steps.now) }
+    requires fits { StepsFit (kinds parts.now) (kind_of_network before) (steps_by steps.now) }
     ensures letters { IfOk result (IsNetwork alphabet.now) }
-    ensures meaning { IfOk result (IsFor (kind_of_steps leaves (kind_of_network before) (steps_by steps.now)) (InSteps stands_for alphabet.now (WordsOf before) (steps_by steps.now)) (RelatesSteps stands_for alphabet.now (WordsOf before) (PairsOf before) (steps_by steps.now))) }
+    ensures meaning { IfOk result (IsFor (kind_of_steps (kinds parts.now) (kind_of_network before) (steps_by steps.now)) (InSteps (stands parts.now) alphabet.now (WordsOf before) (steps_by steps.now)) (RelatesSteps (stands parts.now) alphabet.now (WordsOf before) (PairsOf before) (steps_by steps.now))) }
 {
     match steps {
         [] => Ok(before),
-        [step] => in_step(alloc, alphabet, before, step),
+        [step] => in_step(alloc, alphabet, parts, before, step),
         _ => {
             let (front, back) = steps.split_at(steps.len() / 2);
-            let first = in_steps(alloc, alphabet, before, front)?;
-            in_steps(alloc, alphabet, first, back)
+            let first = in_steps(alloc, alphabet, parts, before, front)?;
+            in_steps(alloc, alphabet, parts, first, back)
         }
     }
 }
@@ -363,24 +411,25 @@ fn in_steps(
 fn in_step(
     alloc: Global,
     alphabet: &[Sym],
+    parts: &[Part],
     before: Network,
     step: &Step<Atom>,
 ) -> Result<Network, AllocError>
-    requires distinct { IsDistinct alphabet.now }
+    requires ground { IsGround alphabet.now parts.now }
     requires before { IsNetwork alphabet.now before }
-    requires built { StepsAreBuilt alphabet.now (steps_by (step.now ∷ [])) }
-    requires fits { StepsFit leaves (kind_of_network before) (steps_by (step.now ∷ [])) }
+    requires built { StepsAreBuiltOver parts.now alphabet.now (steps_by (step.now ∷ [])) }
+    requires fits { StepsFit (kinds parts.now) (kind_of_network before) (steps_by (step.now ∷ [])) }
     ensures letters { IfOk result (IsNetwork alphabet.now) }
-    ensures meaning { IfOk result (IsFor (kind_of_steps leaves (kind_of_network before) (steps_by (step.now ∷ []))) (InSteps stands_for alphabet.now (WordsOf before) (steps_by (step.now ∷ []))) (RelatesSteps stands_for alphabet.now (WordsOf before) (PairsOf before) (steps_by (step.now ∷ [])))) }
+    ensures meaning { IfOk result (IsFor (kind_of_steps (kinds parts.now) (kind_of_network before) (steps_by (step.now ∷ []))) (InSteps (stands parts.now) alphabet.now (WordsOf before) (steps_by (step.now ∷ []))) (RelatesSteps (stands parts.now) alphabet.now (WordsOf before) (PairsOf before) (steps_by (step.now ∷ [])))) }
 {
     match step {
         Step::CrossWith(operand) => {
-            let words = words_of(alloc, alphabet, operand)?;
+            let words = words_of(alloc, alphabet, parts, operand)?;
             cross(alloc, &before.into_words(), &words)
         }
         Step::Then(operand) => {
-            let network = network_of(alloc, alphabet, operand)?;
-            composed(alloc, alphabet, before, network)
+            let network = network_of(alloc, alphabet, parts, operand)?;
+            compose(alloc, alphabet, before, network)
         }
     }
 }
@@ -390,18 +439,19 @@ fn in_step(
 fn only_in(
     alloc: Global,
     alphabet: &[Sym],
+    parts: &[Part],
     centre: &Expr<Atom>,
     contexts: &[Context<Atom>],
 ) -> Result<Network, AllocError>
-    requires distinct { IsDistinct alphabet.now }
-    requires built { IsBuilt alphabet.now (only (term centre.now) (contexts_of contexts.now)) }
-    requires fits { Fits leaves (only (term centre.now) (contexts_of contexts.now)) }
+    requires ground { IsGround alphabet.now parts.now }
+    requires built { IsBuiltOver parts.now alphabet.now (only (term centre.now) (contexts_of contexts.now)) }
+    requires fits { Fits (kinds parts.now) (only (term centre.now) (contexts_of contexts.now)) }
     ensures letters { IfOk result (IsNetwork alphabet.now) }
-    ensures meaning { IfOk result (IsMeant alphabet.now (only (term centre.now) (contexts_of contexts.now))) }
+    ensures meaning { IfOk result (IsMeant parts.now alphabet.now (only (term centre.now) (contexts_of contexts.now))) }
 {
-    let words = words_of(alloc, alphabet, centre)?;
-    let allowed = in_contexts(alloc, alphabet, contexts)?;
-    Ok(Network::Words(restricted(alloc, alphabet, &words, &allowed)?))
+    let words = words_of(alloc, alphabet, parts, centre)?;
+    let allowed = in_contexts(alloc, alphabet, parts, contexts)?;
+    Ok(Network::Words(restrict(alloc, alphabet, &words, &allowed)?))
 }
 
 /// The split words in one of the contexts, joined by halves.
@@ -409,26 +459,27 @@ fn only_in(
 fn in_contexts(
     alloc: Global,
     alphabet: &[Sym],
+    parts: &[Part],
     contexts: &[Context<Atom>],
 ) -> Result<Fsa<Split>, AllocError>
-    requires distinct { IsDistinct alphabet.now }
-    requires built { ContextsAreBuilt alphabet.now (contexts_of contexts.now) }
-    requires fits { ContextsFit leaves (contexts_of contexts.now) }
+    requires ground { IsGround alphabet.now parts.now }
+    requires built { ContextsAreBuiltOver parts.now alphabet.now (contexts_of contexts.now) }
+    requires fits { ContextsFit (kinds parts.now) (contexts_of contexts.now) }
     ensures letters { IfOk result (UsesOnly (split_letters alphabet.now)) }
     ensures words { IfOk result (λ m. (x y z : List (Bound Sym)) → IsOver (inner alphabet.now) x → IsOver (inner alphabet.now) y → IsOver (inner alphabet.now) z
-        → Accepts m (split (Edge ∷ x) y (z ++ Edge ∷ [])) ↔ InContext stands_for alphabet.now (contexts_of contexts.now) x z) }
+        → Accepts m (split (Edge ∷ x) y (z ++ Edge ∷ [])) ↔ InContext (stands parts.now) alphabet.now (contexts_of contexts.now) x z) }
 {
     match contexts {
         [] => Fsa::new(alloc),
         [context] => {
-            let left = words_of(alloc, alphabet, &context.left)?;
-            let right = words_of(alloc, alphabet, &context.right)?;
+            let left = words_of(alloc, alphabet, parts, &context.left)?;
+            let right = words_of(alloc, alphabet, parts, &context.right)?;
             in_context(alloc, alphabet, &left, &right)
         }
         _ => {
             let (front, back) = contexts.split_at(contexts.len() / 2);
-            let first = in_contexts(alloc, alphabet, front)?;
-            let second = in_contexts(alloc, alphabet, back)?;
+            let first = in_contexts(alloc, alphabet, parts, front)?;
+            let second = in_contexts(alloc, alphabet, parts, back)?;
             fsa_rational::union(alloc, &first, &second)
         }
     }

@@ -4,13 +4,16 @@
 //! - [`relation_of`]: the transducer of what an expression relates.
 //! - [`language_of`]: the language of an expression that is one.
 //! - [`network_of`]: the network of an expression, of its kind.
+//! - [`Part`]: the network of what a name stands for, which an expression with that name is built of.
 #![tactic(auto)]
 
 mod build;
 mod leaves;
 mod meaning;
+mod parts;
 mod prefixes;
 mod suffixes;
 
 pub use build::network_of;
 pub use meaning::{language_of, relation_of};
+pub use parts::Part;

@@ -1,20 +1,20 @@
 ghost use Rattle.std.specs.Prelude.{◌↔◌, IfOk, List};
 ghost use Rattle.fsm_base.specs.declared.letters.Bound.{Bound};
 ghost use Rattle.fsm_base.specs.declared.letters.Sym.{Sym};
-ghost use Rattle.fsm_words.specs.Words.{IsDistinct};
+ghost use Rattle.word_relations.specs.Words.{IsDistinct};
 ghost use Rattle.fsa.specs.Language.{Accepts};
 ghost use Rattle.expr_meaning.specs.Operators.{ArePrefixed, IsNotOne};
 ghost use Rattle.network_algebra.specs.Networks.{UsesOnly, all_letters};
 
 use fsa::Fsa;
 use fsm_base::{Bound, Sym};
-use network_sets::{not_one, prefixed};
+use network_sets::{apply_prefix, not_one};
 use regex_ast::Prefix;
 use std::alloc::{AllocError, Global};
 
 /// A language with prefixes, of which the last stands at it. They are taken by halves, so that a long row is no deep
 /// recursion.
-pub fn with_prefixes(
+pub fn apply_prefixes(
     alloc: Global,
     alphabet: &[Sym],
     prefixes: &[Prefix],
@@ -27,11 +27,11 @@ pub fn with_prefixes(
 {
     match prefixes {
         [] => Ok(words),
-        [prefix] => prefixed(alloc, alphabet, *prefix, &words),
+        [prefix] => apply_prefix(alloc, alphabet, *prefix, &words),
         _ => {
             let (front, back) = prefixes.split_at(prefixes.len() / 2);
-            let inner = with_prefixes(alloc, alphabet, back, words)?;
-            with_prefixes(alloc, alphabet, front, inner)
+            let inner = apply_prefixes(alloc, alphabet, back, words)?;
+            apply_prefixes(alloc, alphabet, front, inner)
         }
     }
 }

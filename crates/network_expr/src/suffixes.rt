@@ -1,27 +1,27 @@
 ghost use Rattle.std.specs.Prelude.{◌≡◌, IfOk, IsTrue, List, Some};
 ghost use Rattle.fsm_base.specs.declared.letters.Sym.{Sym};
-ghost use Rattle.expr_forms.specs.Kinds.{kind_behind, with_suffixes};
+ghost use Rattle.expr_kinds.specs.Kinds.{kind_behind, with_suffixes};
 ghost use Rattle.expr_meaning.specs.Operators.{AreSuffixed, IsSuffixed, RelateSuffixed, RelatesSuffixed};
 ghost use Rattle.network_expr.specs.Suffixes.{IsBehind, IsSettled, Repeats};
 ghost use Rattle.network_algebra.specs.Networks.{IsFor, IsNetwork, PairsOf, WordsOf, kind_of_network};
 
-use network_algebra::{Network, Times, inverse, lower, repeated, reversed, upper};
+use network_algebra::{Network, Times, inverse, lower, repeat, reverse, upper};
 use regex_ast::Suffix;
 use std::alloc::{AllocError, Global};
 
 /// A network with a suffix.
-fn with_suffix(alloc: Global, network: Network, suffix: Suffix) -> Result<Network, AllocError>
+fn apply_suffix(alloc: Global, network: Network, suffix: Suffix) -> Result<Network, AllocError>
     ensures letters { IfOk result (λ n. (symbols : List Sym) → IsNetwork symbols network → IsNetwork symbols n) }
     ensures meaning { IfOk result (IsFor (kind_behind (kind_of_network network) suffix) (IsSuffixed suffix (WordsOf network) (PairsOf network)) (RelatesSuffixed suffix (PairsOf network))) }
 {
     match suffix {
-        Suffix::Star => repeated(alloc, network, Times::Any),
-        Suffix::Plus => repeated(alloc, network, Times::OneOrMore),
-        Suffix::Power(count) => repeated(alloc, network, Times::Exactly(count)),
+        Suffix::Star => repeat(alloc, network, Times::Any),
+        Suffix::Plus => repeat(alloc, network, Times::OneOrMore),
+        Suffix::Power(count) => repeat(alloc, network, Times::Exactly(count)),
         Suffix::Upper => upper(alloc, network),
         Suffix::Lower => lower(alloc, network),
         Suffix::Inverse => inverse(alloc, network),
-        Suffix::Reverse => reversed(alloc, network),
+        Suffix::Reverse => reverse(alloc, network),
     }
 }
 
@@ -53,12 +53,12 @@ fn behind_last(
     if is_repeat(last, suffix) {
         Ok(network)
     } else {
-        with_suffix(alloc, network, suffix)
+        apply_suffix(alloc, network, suffix)
     }
 }
 
 /// A network with suffixes, from left to right.
-pub fn with_suffixes(
+pub fn apply_suffixes(
     alloc: Global,
     mut network: Network,
     suffixes: &[Suffix],

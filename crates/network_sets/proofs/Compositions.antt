@@ -3,13 +3,13 @@ use Rattle.std.proofs.Common.{◌≡◌, ◌↔◌, List, sym, subst}
 use Rattle.fsm_base.specs.declared.letters.Sym.{Sym}
 use Rattle.fsm_base.specs.declared.letters.Pair.{Pair}
 use Rattle.fsm_base.specs.declared.letters.Bound.{Bound}
-use Rattle.fsm_words.specs.Relations.{AreSame, IsComposition}
-use Rattle.fsm_words.proofs.Pairs.{same_trans}
+use Rattle.word_relations.specs.Relations.{AreSame, IsComposition}
+use Rattle.word_relations.proofs.Pairs.{same_trans}
 use Rattle.fsa.specs.Automaton.{Automaton}
 use Rattle.fsa.specs.Language.{Accepts}
 use Rattle.fst_relation.specs.Relation.{IsRelated}
 use Rattle.fst_algebra.specs.Relations.{UsesUpper, UsesLower}
-use Rattle.expr_forms.specs.Kinds.{both}
+use Rattle.expr_kinds.specs.Kinds.{both}
 use Rattle.expr_meaning.specs.Operators.{IsItself}
 use Rattle.expr_meaning.proofs.Itself.{as_it_is, composition_itself}
 use Rattle.network_algebra.specs.Networks.{all_letters, UsesOnly, UsesSymbols, IsNetwork, kind_of_network, WordsOf, PairsOf, IsFor, AreOperands}

@@ -7,15 +7,14 @@ use Rattle.std.proofs.lemmas.List.Elements.{All-nil, All-cons, All-head, All-tai
 use Rattle.fsm_base.specs.declared.letters.Sym.{Sym}
 use Rattle.fsm_base.specs.declared.letters.Bound.{Bound}
 use Rattle.fsm_base.specs.declared.letters.Bound.TheVariants.{Edge, Inner}
-use Rattle.fsm_words.specs.Words.{IsOver, IsDistinct}
-use Rattle.fsm_words.proofs.Members.{Contains-tail, Contains-map_cases}
-use Rattle.fsm_words.proofs.Places.{Contains-from_slice_get}
+use Rattle.word_relations.specs.Words.{IsOver, IsDistinct}
+use Rattle.word_relations.proofs.Members.{Contains-tail, Contains-map_cases}
+use Rattle.word_relations.proofs.Places.{Contains-from_slice_get}
 use Rattle.fsa.specs.Automaton.{Automaton, UsesLetter}
 use Rattle.fsa.specs.Language as language
 use Rattle.fsa.specs.Complete.{Complete, Accepts}
 use Rattle.lang_algebra.specs.Languages.{IsLang}
-use Rattle.fsm_words.specs.Operations.{IsOneLetter, HasPart, IsIgnoring}
-use Rattle.lang_algebra.proofs.Inserting.{IsIgnoring-more}
+use Rattle.word_relations.specs.Operations.{IsOneLetter, HasPart, IsIgnoring}
 use Rattle.expr_meaning.specs.Operators.{inner, WithEdge}
 use Rattle.network_algebra.specs.Networks.{all_letters, UsesOnly}
 
@@ -169,8 +168,8 @@ module _ {L : Type 0} (letters : List L) (P Q : List L → Type 0) (p q made : C
     λ h. (accepts w).1 ((is.words w).1 ((of_p.words w).1 h.0, λ b. h.1 ((of_q.words w).0 b))),
   )
 
-  pub ignoring_words : IsLang p.letters (IsIgnoring (Accepts p) (Accepts q)) made → ((w : List L) → language.Accepts m w ↔ Accepts made w) → (w : List L) → language.Accepts m w ↔ IsIgnoring P Q w
-  ignoring_words is accepts w = (
-    λ h. IsIgnoring-more (Accepts p) P (Accepts q) Q (λ v. (of_p.words v).0) (λ v. (of_q.words v).0) w ((is.words w).0 ((accepts w).0 h)),
-    λ h. (accepts w).1 ((is.words w).1 (IsIgnoring-more P (Accepts p) Q (Accepts q) (λ v. (of_p.words v).1) (λ v. (of_q.words v).1) w h)),
-  )
+-- what was made of words with words of another language put in
+pub ignoring_words : {L : Type 0} (letters : List L) (P Q : List L → Type 0) (mixed : Automaton L) (lang : Complete L) (m : Automaton L) → IsLang letters (language.Accepts mixed) lang → ((w : List L) → language.Accepts mixed w ↔ IsIgnoring P Q w) → ((w : List L) → language.Accepts m w ↔ Accepts lang w) → (w : List L) → language.Accepts m w ↔ IsIgnoring P Q w
+ignoring_words letters P Q mixed lang m is mixed_is accepts w =
+    let made = through letters (language.Accepts mixed) lang m is accepts w in
+    (λ h. (mixed_is w).0 (made.0 h), λ h. made.1 ((mixed_is w).1 h))

@@ -4,15 +4,15 @@ use Rattle.std.specs.List.{Contains}
 use Rattle.fsm_base.specs.declared.letters.Sym.{Sym}
 use Rattle.fsm_base.specs.declared.letters.Bound.{Bound}
 use Rattle.fsm_base.specs.declared.letters.Bound.TheVariants.{Edge, Inner}
-use Rattle.fsm_words.specs.Words.{IsOver, IsRepetition, Translates}
-use Rattle.fsm_words.proofs.Laws.{IsOver-repetition, IsRepetition-more}
-use Rattle.fsm_words.proofs.Members.{Contains-cons_cases, Contains-nil_cases, Contains-head}
+use Rattle.word_relations.specs.Words.{IsOver, IsRepetition, Translates}
+use Rattle.word_relations.proofs.Laws.{IsOver-repetition, IsRepetition-more}
+use Rattle.word_relations.proofs.Members.{Contains-cons_cases, Contains-nil_cases, Contains-head}
 use Rattle.fsa.specs.Automaton.{Automaton, UsesLetter}
 use Rattle.fsa.specs.Language as language
 use Rattle.fsa.specs.Complete.{Complete, Accepts}
 use Rattle.fsa_product.proofs.Turned.{accepts_or_not, accepted_over}
 use Rattle.lang_algebra.specs.Languages.{IsLang}
-use Rattle.fsm_words.specs.Operations.{IsOneLetter}
+use Rattle.word_relations.specs.Operations.{IsOneLetter}
 use Rattle.expr_meaning.specs.Operators.{inner, WithEdge}
 use Rattle.network_algebra.specs.Networks.{all_letters, UsesOnly}
 use Rattle.network_algebra.proofs.Meanings.{inner_among, among_inner}

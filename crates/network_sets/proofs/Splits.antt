@@ -8,8 +8,8 @@ use Rattle.fsm_base.specs.declared.letters.Sym.{Sym}
 use Rattle.fsm_base.specs.declared.letters.Bound.{Bound}
 use Rattle.fsm_base.specs.declared.letters.Bound.TheVariants.{Edge, Inner}
 use Rattle.std.proofs.lemmas.Option.{same_Some}
-use Rattle.fsm_words.specs.Words.{IsDistinct, IsOver, IsConcatenation, Translates, finish, keep, omit}
-use Rattle.fsm_words.proofs.Members.{Contains-nil_cases, Contains-head, Contains-tail, Contains-cons_cases, Contains-map, Contains-map_cases}
+use Rattle.word_relations.specs.Words.{IsDistinct, IsOver, IsConcatenation, Translates, finish, keep, omit}
+use Rattle.word_relations.proofs.Members.{Contains-nil_cases, Contains-head, Contains-tail, Contains-cons_cases, Contains-map, Contains-map_cases}
 use Rattle.fsa.specs.Automaton.{Automaton, UsesLetter}
 use Rattle.fsa.specs.Language.{Accepts}
 use Rattle.expr_meaning.specs.Operators.{inner, WithEdge, HasSuffix, HasPrefix}

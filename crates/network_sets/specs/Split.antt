@@ -4,7 +4,7 @@ use Rattle.std.specs.Prelude.{◌≡◌, List, [], ◌∷◌, ◌++◌, Option, 
 use Rattle.fsm_base.specs.declared.letters.Sym.{Sym}
 use Rattle.fsm_base.specs.declared.letters.Bound.{Bound}
 use Rattle.fsm_base.specs.declared.letters.Bound.TheVariants.{Edge, Inner}
-use Rattle.fsm_words.specs.Words.{IsOver}
+use Rattle.word_relations.specs.Words.{IsOver}
 use Rattle.expr_meaning.specs.Operators.{inner}
 use Rattle.network_algebra.specs.Networks.{all_letters}
 use Rattle.network_sets.specs.declared.parts.Split.{Split}

@@ -1,17 +1,17 @@
 ghost use Rattle.std.specs.Prelude.{IfOk};
-ghost use Rattle.fsm_words.specs.Words.{IsDistinct};
-ghost use Rattle.fsm_words.specs.Relations.{IsComposition};
-ghost use Rattle.expr_forms.specs.Kinds.{both};
+ghost use Rattle.word_relations.specs.Words.{IsDistinct};
+ghost use Rattle.word_relations.specs.Relations.{IsComposition};
+ghost use Rattle.expr_kinds.specs.Kinds.{both};
 ghost use Rattle.network_algebra.specs.Networks.{IsFor, IsNetwork, PairsOf, WordsOf, kind_of_network};
 
-use crate::relations::compose;
+use crate::relations::compose_reduced;
 use crate::sets::both;
 use fsm_base::Sym;
 use network_algebra::{Network, Operands, alike};
 use std::alloc::{AllocError, Global};
 
 /// The composition of two networks: of two languages the words of both.
-pub fn composed(
+pub fn compose(
     alloc: Global,
     symbols: &[Sym],
     a: Network,
@@ -25,6 +25,6 @@ pub fn composed(
 {
     match alike(alloc, a, b)? {
         Operands::Words(x, y) => Ok(Network::Words(both(alloc, symbols, &x, &y)?)),
-        Operands::Pairs(x, y) => Ok(Network::Pairs(compose(alloc, &x, &y)?)),
+        Operands::Pairs(x, y) => Ok(Network::Pairs(compose_reduced(alloc, &x, &y)?)),
     }
 }

@@ -2,9 +2,9 @@
 //! (Beesley and Karttunen, Finite State Morphology, 2003, sections 2.3 and 2.4), and composition.
 //!
 //! - [`language`]: a language over these letters.
-//! - [`both`], [`minus`], [`ignoring`], [`prefixed`], [`not_one`]: sets of words.
-//! - [`composed`]: composition, which of languages is [`both`].
-//! - [`restricted`]: the words in which each part that is in a language stands at an allowed place. Places are split
+//! - [`both`], [`minus`], [`ignore`], [`apply_prefix`], [`not_one`]: sets of words.
+//! - [`compose`]: composition, which of languages is [`both`].
+//! - [`restrict`]: the words in which each part that is in a language stands at an allowed place. Places are split
 //!   words ([`Split`], of letters that [`every_split_letter`] lists), and [`in_context`] gives those in a context.
 #![tactic(auto)]
 
@@ -14,7 +14,7 @@ mod relations;
 mod restricting;
 mod sets;
 
-pub use composing::composed;
+pub use composing::compose;
 pub use parts::{Split, every_split_letter};
-pub use restricting::{in_context, restricted};
-pub use sets::{both, ignoring, language, minus, not_one, prefixed};
+pub use restricting::{in_context, restrict};
+pub use sets::{apply_prefix, both, ignore, language, minus, not_one};

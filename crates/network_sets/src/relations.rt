@@ -1,6 +1,6 @@
 ghost use Rattle.std.specs.Prelude.{IfOk};
 ghost use Rattle.fsm_base.specs.declared.letters.Sym.{Sym};
-ghost use Rattle.fsm_words.specs.Relations.{AreSame, IsComposition};
+ghost use Rattle.word_relations.specs.Relations.{AreSame, IsComposition};
 ghost use Rattle.fst_relation.specs.Relation.{IsRelated};
 ghost use Rattle.fst_algebra.specs.Relations.{UsesLower, UsesUpper};
 
@@ -10,7 +10,7 @@ use fsm_base::Pair;
 use std::alloc::{AllocError, Global};
 
 /// The reduced transducer that relates the words between which a word of both relations stands.
-pub fn compose(alloc: Global, r: &Fsa<Pair>, s: &Fsa<Pair>) -> Result<Fsa<Pair>, AllocError>
+pub fn compose_reduced(alloc: Global, r: &Fsa<Pair>, s: &Fsa<Pair>) -> Result<Fsa<Pair>, AllocError>
     ensures upper { IfOk result (λ m. (x : Sym) → UsesUpper m x → UsesUpper r.now x) }
     ensures lower { IfOk result (λ m. (x : Sym) → UsesLower m x → UsesLower s.now x) }
     ensures relation { IfOk result (λ m. AreSame (IsRelated m) (IsComposition (IsRelated r.now) (IsRelated s.now))) }

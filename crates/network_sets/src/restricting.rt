@@ -2,7 +2,7 @@ ghost use Rattle.std.specs.Prelude.{◌≡◌, ◌↔◌, ◌⊎◌, IfOk, List,
 ghost use Rattle.fsm_base.specs.declared.letters.Sym.{Sym};
 ghost use Rattle.fsm_base.specs.declared.letters.Bound.{Bound};
 ghost use Rattle.fsm_base.specs.declared.letters.Bound.TheVariants.{Edge};
-ghost use Rattle.fsm_words.specs.Words.{IsDistinct, IsOver};
+ghost use Rattle.word_relations.specs.Words.{IsDistinct, IsOver};
 ghost use Rattle.fsa.specs.Language.{Accepts};
 ghost use Rattle.expr_meaning.specs.Operators.{HasPrefix, HasSuffix, inner};
 ghost use Rattle.network_algebra.specs.Networks.{UsesOnly, all_letters};
@@ -86,7 +86,7 @@ fn wrong_places(
 }
 
 /// The words over an alphabet each of whose parts in the language of the centre stands at an allowed place.
-pub fn restricted(
+pub fn restrict(
     alloc: Global,
     symbols: &[Sym],
     centre: &Fsa<Bound<Sym>>,

@@ -1,10 +1,10 @@
 ghost use Rattle.std.specs.Prelude.{◌↔◌, IfOk, List};
 ghost use Rattle.fsm_base.specs.declared.letters.Sym.{Sym};
 ghost use Rattle.fsm_base.specs.declared.letters.Bound.{Bound};
-ghost use Rattle.fsm_words.specs.Words.{IsDistinct};
+ghost use Rattle.word_relations.specs.Words.{IsDistinct};
 ghost use Rattle.fsa.specs.Language.{Accepts};
 ghost use Rattle.lang_algebra.specs.Languages.{IsLang};
-ghost use Rattle.fsm_words.specs.Operations.{IsIgnoring, IsOneLetter};
+ghost use Rattle.word_relations.specs.Operations.{IsIgnoring, IsOneLetter};
 ghost use Rattle.regex_ast.specs.declared.expr.Prefix.{Prefix};
 ghost use Rattle.expr_meaning.specs.Operators.{inner, IsPrefixed, WithEdge};
 ghost use Rattle.network_algebra.specs.Networks.{UsesOnly, all_letters};
@@ -82,7 +82,7 @@ pub fn minus(
 }
 
 /// The words of one language with words of another put in.
-pub fn ignoring(
+pub fn ignore(
     alloc: Global,
     symbols: &[Sym],
     a: &Fsa<Bound<Sym>>,
@@ -94,13 +94,12 @@ pub fn ignoring(
     ensures letters { IfOk result (UsesOnly (all_letters symbols.now)) }
     ensures words { IfOk result (λ m. (w : List (Bound Sym)) → Accepts m w ↔ IsIgnoring (Accepts a.now) (Accepts b.now) w) }
 {
-    let first = language(alloc, symbols, a)?;
-    let second = language(alloc, symbols, b)?;
-    first.ignore(alloc, &second)?.to_fsa(alloc)
+    let mixed = fsa_rational::ignore(alloc, a, b)?;
+    language(alloc, symbols, &mixed)?.to_fsa(alloc)
 }
 
 /// The words over an alphabet that aren't in a language, or that have a part in it.
-pub fn prefixed(
+pub fn apply_prefix(
     alloc: Global,
     symbols: &[Sym],
     prefix: Prefix,

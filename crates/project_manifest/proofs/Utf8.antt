@@ -6,7 +6,7 @@ use Rattle.std.proofs.Math.Seq.{take-append_seam, drop-append-add, get_or-append
 use Rattle.std.proofs.lemmas.Bool.Decides.{nat_tests}
 use Rattle.std.proofs.lemmas.List.Elements.{All-nil, All-cons, All-head, All-tail, All-append}
 use Rattle.std.proofs.lemmas.Str.{IsUtf8-append, IsUtf8-take, IsUtf8-drop, IsCharBoundary-before_ascii, IsCharBoundary-after_ascii}
-use Rattle.project_manifest.specs.Manifests.{IsXfstLine, Saying, some_of, lines_from, lines_of, is_blank, words_from, words_of, is_silent, saying, sayings, statements_in, taken_from, text_of}
+use Rattle.project_manifest.specs.Manifests.{IsXfstLine, Saying, some_of, lines_from, lines_of, is_blank, words_from, words_of, is_epsilon, saying, sayings, statements_in, taken_from, text_of}
 use Rattle.project_manifest.specs.Sayings.{as_written, AreTexts, HaveTexts}
 
 -- what stands before and behind a byte of ASCII
@@ -59,9 +59,9 @@ words_texts word taking (b ∷ bs) utf8 = by (not taking && is_blank b) refl (wo
 
 sayings_texts : (n : ℕ) (lines : List (List ℕ)) → AreTexts lines → HaveTexts (sayings n lines)
 sayings_texts n [] utf8 = All-nil (λ (s : Saying). AreTexts s.words)
-sayings_texts n (line ∷ lines) utf8 = by (is_silent (words_of line)) (sayings_texts (n + 1) lines (All-tail IsUtf8 line lines utf8))
+sayings_texts n (line ∷ lines) utf8 = by (is_epsilon (words_of line)) (sayings_texts (n + 1) lines (All-tail IsUtf8 line lines utf8))
   where
-    by : (silent : Bool) → HaveTexts (sayings (n + 1) lines) → HaveTexts (cond silent (sayings (n + 1) lines) (saying n (words_of line) ∷ sayings (n + 1) lines))
+    by : (epsilon : Bool) → HaveTexts (sayings (n + 1) lines) → HaveTexts (cond epsilon (sayings (n + 1) lines) (saying n (words_of line) ∷ sayings (n + 1) lines))
     by true more = more
     by false more = All-cons (λ (s : Saying). AreTexts s.words) (saying n (words_of line)) (sayings (n + 1) lines) (words_texts [] false line (All-head IsUtf8 line lines utf8)) more
 

@@ -3,7 +3,7 @@ use Rattle.std.proofs.Common.{◌≡◌, ◌==◌, ◌+◌, ◌<◌, ℕ, Bool, 
 use Rattle.std.proofs.lemmas.List.{map-append, take_more}
 use Rattle.std.specs.List.{list_all}
 use Rattle.std.proofs.lemmas.Bool.Decides.{Decides-eqb}
-use Rattle.project_manifest.specs.Manifests.{some_of, lines_from, words_from, is_blank, taken_from, text_of, takes_nothing, is_symbol_word, may_be_symbol, sayings, is_silent, words_of, saying, Saying}
+use Rattle.project_manifest.specs.Manifests.{some_of, lines_from, words_from, is_blank, taken_from, text_of, takes_nothing, is_symbol_word, may_be_symbol, sayings, is_epsilon, words_of, saying, Saying}
 use Rattle.project_manifest.specs.Sayings.{as_written}
 use lib.Seq.{drop-cons}
 use Rattle.project_manifest.proofs.Behind.{left_behind}
@@ -87,10 +87,10 @@ pub symbol_if : (word : List ℕ) (b : Bool) → takes_nothing false word ≡ fa
 symbol_if word b takes may = ap (λ t. not t && may_be_symbol (text_of word)) takes ∙ may
 
 -- a line that says nothing, and one that says something
-pub says_nothing : (n : ℕ) (old : List Saying) (line : List ℕ) (rest : List (List ℕ)) → is_silent (words_of line) ≡ true → old ++ sayings (n + 1) rest ≡ old ++ sayings n (line ∷ rest)
-says_nothing n old line rest silent = ap (λ c. old ++ cond c (sayings (n + 1) rest) (saying n (words_of line) ∷ sayings (n + 1) rest)) (sym silent)
+pub says_nothing : (n : ℕ) (old : List Saying) (line : List ℕ) (rest : List (List ℕ)) → is_epsilon (words_of line) ≡ true → old ++ sayings (n + 1) rest ≡ old ++ sayings n (line ∷ rest)
+says_nothing n old line rest epsilon = ap (λ c. old ++ cond c (sayings (n + 1) rest) (saying n (words_of line) ∷ sayings (n + 1) rest)) (sym epsilon)
 
-pub says_something : (n : ℕ) (old new : List Saying) (line : List ℕ) (rest : List (List ℕ)) → is_silent (words_of line) ≡ false → new ≡ old ++ saying n (words_of line) ∷ [] → new ++ sayings (n + 1) rest ≡ old ++ sayings n (line ∷ rest)
+pub says_something : (n : ℕ) (old new : List Saying) (line : List ℕ) (rest : List (List ℕ)) → is_epsilon (words_of line) ≡ false → new ≡ old ++ saying n (words_of line) ∷ [] → new ++ sayings (n + 1) rest ≡ old ++ sayings n (line ∷ rest)
 says_something n old new line rest says new_is =
     ap (λ (f : List Saying). f ++ sayings (n + 1) rest) new_is ∙ append_assoc old (saying n (words_of line) ∷ []) (sayings (n + 1) rest)
     ∙ ap (λ c. old ++ cond c (sayings (n + 1) rest) (saying n (words_of line) ∷ sayings (n + 1) rest)) (sym says)

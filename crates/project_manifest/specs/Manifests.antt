@@ -42,9 +42,9 @@ begins_with_mark [] = false
 begins_with_mark (b ∷ bs) = b == 33
 
 -- the words of a line that says nothing
-abbrev pub is_silent : List (List ℕ) → Bool
-is_silent [] = true
-is_silent (word ∷ words) = begins_with_mark word
+abbrev pub is_epsilon : List (List ℕ) → Bool
+is_epsilon [] = true
+is_epsilon (word ∷ words) = begins_with_mark word
 
 -- the statements of lines, each by its words, with its line, counted from this one
 pub record Saying : Type 0 where
@@ -56,7 +56,7 @@ saying line words = record { line = line; words = words }
 
 abbrev pub sayings : ℕ → List (List ℕ) → List Saying
 sayings n [] = []
-sayings n (line ∷ lines) = cond (is_silent (words_of line)) (sayings (n + 1) lines) (saying n (words_of line) ∷ sayings (n + 1) lines)
+sayings n (line ∷ lines) = cond (is_epsilon (words_of line)) (sayings (n + 1) lines) (saying n (words_of line) ∷ sayings (n + 1) lines)
 
 abbrev pub statements_in : List ℕ → List Saying
 statements_in text = sayings 1 (lines_of text)

@@ -1,21 +1,22 @@
-ghost use Rattle.std.specs.Prelude.{◌≡◌, ◌↔◌, ◌<◌, ◌+◌, ◌++◌, ◌∷◌, List, ℕ, [], Some, All, IfOk, IsTrue, MatchOption, OnOk, length, map, slice_get};
-ghost use Rattle.project_manifest.specs.Manifests.{Declare, IsAlphabetLine, IsBehind, IsFileByte, IsFileName, IsManifestRead, IsSomeManifest, IsXfstLine, ManifestView, lines_of, project_name, sayings, statements_in};
+ghost use Rattle.std.specs.Prelude.{◌≡◌, ◌↔◌, ◌<◌, ◌+◌, ◌++◌, ◌∷◌, List, ℕ, [], IfOk, IsTrue, MatchOption, OnOk, length, map};
+ghost use Rattle.project_manifest.specs.Manifests.{Declare, IsAlphabetLine, IsBehind, IsManifestRead, IsSomeManifest, IsXfstLine, ManifestView, lines_of, sayings, statements_in};
 ghost use Rattle.project_manifest.specs.Sayings.{AreTexts, HaveTexts, as_written, saying_of};
 
-use crate::words::{is_silent, lines, symbols_of, text_of_bytes, words};
+use crate::file_names::is_file_name;
+use crate::words::{is_epsilon, lines, symbols_of, text_of_bytes, words};
 use fsm_base::Text;
 use regex_ast::{ReadError, Why};
 use std::alloc::{AllocError, Global};
 use std::marker::Model;
 
-/// The most bytes of a file's name.
-const MOST_NAME_BYTES: usize = 64;
-
 /// What the manifest of a project says: the file that it names, and the further symbols of its alphabet.
 #[derive(Drop)]
 pub struct Manifest {
+    /// The files that it names, in the order of its lines: one.
     files: Vec<Text>,
+    /// The line that names the first of them, counted from 1.
     line: u32,
+    /// The symbols of its `alphabet` line, or none.
     symbols: Vec<Text>,
 }
 
@@ -61,7 +62,9 @@ impl Manifest {
 /// A line that says something: its number, counted from 1, and its words as they are written.
 #[derive(Debug, Drop)]
 pub struct Said {
+    /// The number of the line, counted from 1.
     line: u32,
+    /// Its words as they are written, at least one.
     words: Vec<Vec<u8>>,
 }
 
@@ -76,7 +79,7 @@ fn add_said(
     ensures { OnOk result ((rest : List (List ℕ)) → map saying_of found.new.items ++ sayings (index + 1 + 1) rest ≡ map saying_of found.old.items ++ sayings (index + 1) (line.now ∷ rest)) }
 {
     let words = words(alloc, line)?;
-    if is_silent(&words) {
+    if is_epsilon(&words) {
         return Ok(());
     }
     found.push(Said {
@@ -97,50 +100,6 @@ fn all_said(alloc: Global, text: &[u8]) -> Result<Vec<Said>, AllocError>
         add_said(alloc, index, line, &mut found)?;
     }
     Ok(found)
-}
-
-/// Whether a byte may stand in a file's name.
-fn is_file_byte(byte: u8) -> bool
-    ensures { IsTrue result ↔ IsFileByte byte }
-{
-    byte.is_ascii_alphanumeric() || byte == b'_' || byte == b'-' || byte == b'.'
-}
-
-/// Whether all these bytes may stand in a file's name.
-fn has_file_bytes(name: &[u8]) -> bool
-    ensures { IsTrue result ↔ All IsFileByte name.now }
-{
-    name.iter().all(|byte| is_file_byte(*byte))
-}
-
-/// Whether the first byte is a dot.
-fn begins_with_dot(name: &[u8]) -> bool
-    ensures { IsTrue result ↔ (slice_get name.now 0 ≡ Some 46) }
-{
-    match name.first() {
-        Some(first) => *first == b'.',
-        None => false,
-    }
-}
-
-/// Whether the name is the manifest's own.
-fn is_manifest_name(name: &[u8]) -> bool
-    ensures { IsTrue result ↔ (name.now ≡ project_name) }
-{
-    name == b"project".as_slice()
-}
-
-/// Whether these bytes are a file's name.
-fn is_file_name(name: &[u8]) -> bool
-    ensures { IsTrue result ↔ IsFileName name.now }
-{
-    if name.is_empty() || name.len() > MOST_NAME_BYTES {
-        return false;
-    }
-    if begins_with_dot(name) || is_manifest_name(name) {
-        return false;
-    }
-    has_file_bytes(name)
 }
 
 /// Whether a word is written so.

@@ -2,7 +2,7 @@ ghost use Rattle.std.specs.Prelude.{◌≡◌, ◌==◌, ◌&&◌, ◌++◌, ◌
 ghost use Rattle.std.specs.List.{list_all};
 ghost use Rattle.std.specs.Str.{IsUtf8};
 ghost use Rattle.project_manifest.specs.Sayings.{AreTexts, as_written};
-ghost use Rattle.project_manifest.specs.Manifests.{begins_with_mark, is_blank, is_known_flag, is_silent, is_symbol_word, may_be_symbol, lines_from, lines_of, some_of, takes_nothing, taken_from, text_of, words_from, words_of};
+ghost use Rattle.project_manifest.specs.Manifests.{begins_with_mark, is_blank, is_known_flag, is_epsilon, is_symbol_word, may_be_symbol, lines_from, lines_of, some_of, takes_nothing, taken_from, text_of, words_from, words_of};
 
 use fsm_base::Text;
 use regex_tokens::is_flag;
@@ -111,8 +111,8 @@ fn add_to_word(
 }
 
 /// Whether words are those of a line that says nothing.
-pub fn is_silent(words: &[Vec<u8>]) -> bool
-    ensures { result ≡ is_silent (as_written words.now) }
+pub fn is_epsilon(words: &[Vec<u8>]) -> bool
+    ensures { result ≡ is_epsilon (as_written words.now) }
 {
     match words {
         [] => true,

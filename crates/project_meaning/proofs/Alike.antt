@@ -2,13 +2,13 @@
 use Rattle.std.proofs.Common.{◌≡◌, ◌⊎◌, ℕ, List, [], ◌∷◌, ◌++◌, map, codes, IsTrue, Option, Some, None, refl}
 use Rattle.std.specs.List.{flat_map, Contains}
 use Rattle.fsm_base.specs.declared.letters.Bound.{Bound}
-use Rattle.fsm_words.specs.Words.{IsConcatenation}
-use Rattle.fsm_words.specs.Relations.{IsConcatenationOfPairs}
-use Rattle.fsm_words.proofs.Members.{Contains-head, Contains-map}
-use Rattle.fsm_words.specs.Operations.{IsIgnoring}
-use Rattle.fsm_words.specs.Relations.{IsComposition}
+use Rattle.word_relations.specs.Words.{IsConcatenation}
+use Rattle.word_relations.specs.Relations.{IsConcatenationOfPairs}
+use Rattle.word_relations.proofs.Members.{Contains-head, Contains-map}
+use Rattle.word_relations.specs.Operations.{IsIgnoring}
+use Rattle.word_relations.specs.Relations.{IsComposition}
 use Rattle.regex_ast.specs.Terms.{Term, Terms, Links, Contexts, Steps, Mappings, Groups, empty, any, edge, atom, letters, group, maybe, not_one, cross, suffixed, prefixed, ignore, concat, chain, only, rules, steps, no_term, then_term, no_link, or, and, less, no_context, between, no_step, cross_with, then, no_mapping, plain, markup, insert, no_group, then_group}
-use Rattle.expr_parts.specs.Leaves.{listed, listed_each, listed_links, listed_contexts, listed_steps, listed_mappings, listed_groups}
+use Rattle.expr_leaves.specs.Leaves.{listed, listed_each, listed_links, listed_contexts, listed_steps, listed_mappings, listed_groups}
 use Rattle.expr_meaning.specs.Operators.{inner, IsEmpty, IsItself, WithEdge, AreSuffixed, RelateSuffixed, ArePrefixed, IsNotOne, IsRestricted, HoldsLeft, HoldsRight}
 use Rattle.expr_meaning.specs.Replacement.{IsAround, IsAllowed, IsRewritten}
 use Rattle.expr_meaning.specs.Meaning.{InLeaves, In, InEach, InIgnoring, InChain, InContext, InSteps, IsCentre, IsMapped, Replaces, Applies, Relates, RelatesEach, RelatesChain, RelatesSteps}

@@ -4,12 +4,12 @@ use Rattle.std.specs.List.{Contains, flat_map, list_any}
 use Rattle.std.specs.Str.{bytes_eq}
 use Rattle.std.proofs.lemmas.Map.Views.{Contains-from_any}
 use Rattle.std.proofs.lemmas.Slice.Eq.{bytes_eq-Decides}
-use Rattle.fsm_words.proofs.Members.{Contains-nil_cases, Contains-head, Contains-tail, Contains-cons_cases, Contains-map, Contains-map_cases}
+use Rattle.word_relations.proofs.Members.{Contains-nil_cases, Contains-head, Contains-tail, Contains-cons_cases, Contains-map, Contains-map_cases}
 use Rattle.regex_ast.specs.declared.expr.Raw.{Raw}
 use Rattle.regex_ast.specs.declared.expr.Raw.TheVariants.{Run, Quoted}
 use Rattle.regex_ast.specs.Terms.{Term, Terms, Links, Contexts, Steps, Mappings, Groups, empty, any, edge, atom, letters, group, maybe, not_one, cross, suffixed, prefixed, ignore, concat, chain, only, rules, steps, no_term, then_term, no_link, or, and, less, no_context, between, no_step, cross_with, then, no_mapping, plain, markup, insert, no_group, then_group}
-use Rattle.expr_parts.specs.Leaves.{listed, listed_each, listed_links, listed_contexts, listed_steps, listed_mappings, listed_groups}
-use Rattle.expr_parts.specs.Mapped.{mapped, mapped_each, mapped_links, mapped_contexts, mapped_steps, mapped_mappings, mapped_groups}
+use Rattle.expr_leaves.specs.Leaves.{listed, listed_each, listed_links, listed_contexts, listed_steps, listed_mappings, listed_groups}
+use Rattle.expr_leaves.specs.Mapped.{mapped, mapped_each, mapped_links, mapped_contexts, mapped_steps, mapped_mappings, mapped_groups}
 use Rattle.project_meaning.specs.Trees.{Form, sides, pairs, Entry, Lexicon, Body, xfst, lexc, twolc}
 use Rattle.project_meaning.specs.Leaves.{Leaf, symbol, named, leaf_of, name_in, names_in, resolved, resolved_form, resolved_entry, resolved_lexicon, expressions_in, expressions_of, forms_in}
 use Rattle.project_meaning.specs.Projects.{Written, Definition, IsClosed, names_of, definition_in, project_of}

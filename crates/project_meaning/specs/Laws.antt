@@ -1,6 +1,6 @@
 -- Laws of these definitions.
 use Rattle.std.specs.Prelude.{◌≡◌, ◌≤◌, ℕ, List, [], ◌∷◌, length, codes}
-use Rattle.fsm_words.specs.Relations.{AreSame}
+use Rattle.word_relations.specs.Relations.{AreSame}
 use Rattle.regex_ast.specs.Terms.{Term, atom, concat, no_term, then_term}
 use Rattle.regex_ast.specs.declared.expr.Raw.{Raw}
 use Rattle.regex_ast.specs.declared.expr.Raw.TheVariants.{Run}

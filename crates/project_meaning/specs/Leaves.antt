@@ -6,9 +6,9 @@ use Rattle.std.specs.Str.{bytes_eq}
 use Rattle.regex_ast.specs.declared.expr.Raw.{Raw}
 use Rattle.regex_ast.specs.declared.expr.Raw.TheVariants.{Run, Quoted}
 use Rattle.regex_ast.specs.Terms.{Term}
-use Rattle.expr_parts.specs.Alphabet.{uses_alphabet}
-use Rattle.expr_parts.specs.Leaves.{listed, listed_contexts}
-use Rattle.expr_parts.specs.Mapped.{mapped, mapped_contexts}
+use Rattle.expr_leaves.specs.Alphabet.{uses_alphabet}
+use Rattle.expr_leaves.specs.Leaves.{listed, listed_contexts}
+use Rattle.expr_leaves.specs.Mapped.{mapped, mapped_contexts}
 use Rattle.project_meaning.specs.Trees.{Piece, letter, flag, Form, sides, pairs, Entry, Lexicon, Side, nothing, anything, one, member, Pair, Part, pair, called, Set, PairDefinition, Rule, Grammar, Body, xfst, lexc, twolc}
 
 -- a leaf by its text: a symbol, or the name of a definition

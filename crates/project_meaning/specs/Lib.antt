@@ -2,6 +2,7 @@ pub mod Trees
 pub mod Leaves
 pub mod Projects
 pub mod Lexicons
+pub mod TwoLevel
 pub mod Grammars
 pub mod Meaning
 pub mod Forms

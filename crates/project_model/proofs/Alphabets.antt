@@ -7,9 +7,9 @@ use Rattle.std.proofs.lemmas.Slice.Eq.{bytes_eq-Decides}
 use Rattle.std.specs.List.{list_any, slice_index_or}
 use Rattle.std.specs.Option.{option_map}
 use Rattle.std.specs.Str.{bytes_eq}
-use Rattle.fsm_words.specs.Words.{IsDistinct}
-use Rattle.fsm_words.proofs.Members.{Contains-nil_cases, Contains-cons_cases}
-use Rattle.fsm_words.proofs.Places.{Contains-from_slice_get}
+use Rattle.word_relations.specs.Words.{IsDistinct}
+use Rattle.word_relations.proofs.Members.{Contains-nil_cases, Contains-cons_cases}
+use Rattle.word_relations.proofs.Places.{Contains-from_slice_get}
 use Rattle.fsm_base.specs.declared.letters.Sym.{Sym}
 use Rattle.fsm_base.specs.Alphabet.{listed, symbols_of, texts_of, text_of}
 use Rattle.fsm_base.specs.Symbols.{number_of, with_text}

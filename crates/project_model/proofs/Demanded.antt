@@ -2,18 +2,18 @@
 use Rattle.std.proofs.Common.{◌≡◌, ◌↔◌, ◌<◌, ◌≤◌, ℕ, List, [], ◌∷◌, map, All, Contains, Some, None, refl, sym, ap, subst, ◌∙◌, inl, inr, arith}
 use Rattle.std.specs.List.{flat_map}
 use Rattle.std.specs.Option.{option_map}
-use Rattle.fsm_words.proofs.Members.{Contains-nil_cases, Contains-cons_cases, Contains-head, Contains-map}
+use Rattle.word_relations.proofs.Members.{Contains-nil_cases, Contains-cons_cases, Contains-head, Contains-map}
 use Rattle.regex_ast.specs.declared.expr.Atom.{Atom}
 use Rattle.regex_ast.specs.declared.expr.Raw.{Raw}
 use Rattle.regex_ast.specs.declared.fault.Fault.{Fault}
 use Rattle.regex_ast.specs.Terms.{Term}
-use Rattle.expr_forms.specs.Atoms.{is_symbol, one, symbols}
-use Rattle.expr_forms.specs.Built.{IsBuilt}
-use Rattle.expr_forms.specs.Kinds.{Fits, Leaves}
-use Rattle.expr_forms.specs.Weights.{most_weight, weight_of}
-use Rattle.expr_forms.specs.declared.form.Kind.TheVariants.{Language}
-use Rattle.expr_parts.specs.Leaves.{listed}
-use Rattle.expr_parts.specs.Mapped.{mapped}
+use Rattle.expr_kinds.specs.Atoms.{is_symbol, one, symbols}
+use Rattle.expr_kinds.specs.Built.{IsBuilt}
+use Rattle.expr_kinds.specs.Kinds.{Fits, Leaves}
+use Rattle.expr_kinds.specs.Weights.{most_weight, weight_of}
+use Rattle.expr_kinds.specs.declared.form.Kind.TheVariants.{Language}
+use Rattle.expr_leaves.specs.Leaves.{listed}
+use Rattle.expr_leaves.specs.Mapped.{mapped}
 use Rattle.project_meaning.specs.Trees.{Body, xfst, lexc, twolc}
 use Rattle.project_meaning.specs.Forms.{BodyFits, body_weight, leaf_weight}
 use Rattle.project_meaning.specs.Leaves.{Leaf, symbol, named, leaf_of, resolved, symbol_in, symbols_in}

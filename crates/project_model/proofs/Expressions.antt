@@ -5,7 +5,7 @@ use Rattle.std.specs.Option.{option_map}
 use Rattle.regex_ast.specs.declared.expr.Atom.{Atom}
 use Rattle.regex_ast.specs.declared.expr.Raw.{Raw}
 use Rattle.regex_ast.specs.Terms.{Term}
-use Rattle.expr_parts.specs.Mapped.{mapped}
+use Rattle.expr_leaves.specs.Mapped.{mapped}
 use Rattle.project_meaning.specs.Trees.{Body, xfst, lexc, twolc}
 use Rattle.project_meaning.specs.Leaves.{leaf_of, resolved}
 use Rattle.project_meaning.specs.Projects.{Written}

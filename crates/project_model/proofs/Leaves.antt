@@ -9,7 +9,7 @@ use Rattle.fsm_base.specs.Symbols.{number_of}
 use Rattle.regex_ast.specs.declared.expr.Atom.TheVariants.{Sym, Name}
 use Rattle.regex_ast.specs.declared.expr.Raw.{Raw}
 use Rattle.regex_ast.specs.declared.expr.Raw.TheVariants.{Run, Quoted}
-use Rattle.expr_forms.specs.Atoms.{are_same}
+use Rattle.expr_kinds.specs.Atoms.{are_same}
 use Rattle.project_meaning.specs.Leaves.{Leaf, symbol, named, leaf_of, symbol_in, written}
 use Rattle.project_sources.specs.Faults.{are_one, is_built_leaf}
 use Rattle.project_model.specs.Gathered.{symbol_beside}

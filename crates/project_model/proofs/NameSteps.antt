@@ -17,7 +17,7 @@ use Rattle.project_sources.proofs.Firsts.{first_past, none_append, none_more, pl
 use Rattle.project_model.specs.Answers.{IsRefusal, IsRefusedBy, definitions_in}
 use Rattle.project_model.specs.declared.plan_error.PlanError.{PlanError}
 use Rattle.project_model.specs.declared.plan_error.PlanError.TheVariants.{Refused, Memory}
-use Rattle.expr_parts.proofs.Behind.{left_behind}
+use Rattle.expr_leaves.proofs.Behind.{left_behind}
 use Rattle.project_model.proofs.Texts.{has_from_any, not_had}
 
 pub not_false : (b : Bool) → false ≡ not b → b ≡ true

@@ -8,8 +8,8 @@ use Rattle.std.specs.List.{flat_map}
 use Rattle.std.specs.Option.{option_map}
 use Rattle.fsm_base.specs.Symbols.{IsSymbol, IsTable, number_of, with_text}
 use Rattle.fsm_base.specs.declared.letters.Sym.{Sym}
-use Rattle.fsm_words.specs.Words.{IsDistinct}
-use Rattle.expr_parts.specs.Mapped.{mapped}
+use Rattle.word_relations.specs.Words.{IsDistinct}
+use Rattle.expr_leaves.specs.Mapped.{mapped}
 use Rattle.regex_ast.specs.Terms.{Term}
 use Rattle.regex_ast.specs.declared.expr.Atom.{Atom}
 use Rattle.regex_ast.specs.declared.expr.Define.{Define}
@@ -37,7 +37,7 @@ use Rattle.project_model.specs.declared.demands.Demand.{Demand}
 use Rattle.project_model.specs.declared.demands.Demand.TheVariants as demand
 use Rattle.project_model.specs.declared.plan_error.PlanError.{PlanError}
 use Rattle.project_model.specs.declared.plan_error.PlanError.TheVariants.{Refused, Memory}
-use Rattle.expr_parts.proofs.Behind.{left_behind}
+use Rattle.expr_leaves.proofs.Behind.{left_behind}
 use Rattle.project_model.proofs.Alphabets.{numbers_distinct, put}
 use Rattle.project_model.proofs.Built.{All-front}
 use Rattle.project_model.proofs.Demanded.{demand_fault}

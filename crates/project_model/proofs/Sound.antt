@@ -6,17 +6,17 @@ use Rattle.std.specs.Option.{option_map}
 use Rattle.regex_ast.specs.declared.expr.Atom.{Atom}
 use Rattle.regex_ast.specs.declared.expr.Raw.{Raw}
 use Rattle.regex_ast.specs.Terms.{Term}
-use Rattle.expr_forms.specs.Atoms.{symbols, is_symbol}
-use Rattle.expr_forms.specs.Built.{IsBuilt}
-use Rattle.expr_forms.specs.Kinds.{Fits}
-use Rattle.expr_parts.specs.Mapped.{mapped}
+use Rattle.expr_kinds.specs.Atoms.{symbols, is_symbol, is_symbol_of}
+use Rattle.expr_kinds.specs.Built.{IsBuilt}
+use Rattle.expr_kinds.specs.Kinds.{Fits}
+use Rattle.expr_leaves.specs.Mapped.{mapped}
 use Rattle.project_meaning.specs.Trees.{Body, xfst, lexc, twolc}
 use Rattle.project_meaning.specs.Leaves.{Leaf, symbol, named, leaf_of, resolved, symbol_in, symbols_in}
 use Rattle.project_meaning.specs.Projects.{Definition as Meant, Written, definition_in}
 use Rattle.project_model.specs.Answers.{DoesMeet}
 use Rattle.project_model.specs.Numbered.{numbered, numbers_in, is_leaf_over, IsBodyOver}
 use Rattle.project_model.specs.Plans.{IsSoundOver, body_term}
-use Rattle.project_model.specs.Sound.{IsSound, is_symbol_of}
+use Rattle.project_model.specs.Sound.{IsSound}
 use Rattle.project_model.specs.Stands.{Entry, entry_of, entry_in, expression_in}
 use Rattle.project_model.specs.declared.definition.Definition.{Definition}
 use Rattle.project_model.specs.declared.demands.Demand.TheVariants as demand

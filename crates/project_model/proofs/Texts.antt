@@ -9,7 +9,7 @@ use Rattle.std.specs.Str.{bytes_eq}
 use Rattle.std.specs.String.{string_bytes}
 use Rattle.fsm_base.specs.Symbols.{number_of, with_text}
 use Rattle.fsm_base.proofs.TableLemmas.{list_any-strings, number_of-new, position_or_len-strings}
-use Rattle.fsm_words.proofs.Members.{Contains-nil_cases, Contains-head, Contains-tail, Contains-cons_cases}
+use Rattle.word_relations.proofs.Members.{Contains-nil_cases, Contains-head, Contains-tail, Contains-cons_cases}
 
 or_true : (b : Bool) → (b || true) ≡ true
 or_true true = refl

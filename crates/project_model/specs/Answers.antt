@@ -7,10 +7,10 @@ use Rattle.regex_ast.specs.declared.fault.Why.TheVariants as why
 use Rattle.regex_ast.specs.declared.expr.Atom.{Atom}
 use Rattle.regex_ast.specs.Terms.{Term}
 use Rattle.regex_reader.specs.Files.{Statement, FaultAt, ReadsAs}
-use Rattle.expr_forms.specs.Atoms.{is_symbol, one, symbols}
-use Rattle.expr_forms.specs.Built.{IsBuilt}
-use Rattle.expr_forms.specs.Kinds.{Fits}
-use Rattle.expr_forms.specs.Weights.{most_weight, weight_of}
+use Rattle.expr_kinds.specs.Atoms.{is_symbol, one, symbols}
+use Rattle.expr_kinds.specs.Built.{IsBuilt}
+use Rattle.expr_kinds.specs.Kinds.{Fits}
+use Rattle.expr_kinds.specs.Weights.{most_weight, weight_of}
 use Rattle.project_manifest.specs.Manifests.{ManifestView, IsManifest, project_name}
 use Rattle.project_meaning.specs.Projects.{Written}
 use Rattle.project_sources.specs.Rows.{First, HaveNone, Where}

@@ -1,6 +1,6 @@
 -- Names in the order in which they came.
 use Rattle.std.specs.Prelude.{◌≤◌, ◌+◌, ℕ, Bool, true, false, List, length}
-use Rattle.fsm_words.specs.Words.{IsDistinct}
+use Rattle.word_relations.specs.Words.{IsDistinct}
 use Rattle.project_meaning.specs.Leaves.{Leaf, symbol, named}
 use Rattle.project_sources.specs.Limits.{most_names}
 

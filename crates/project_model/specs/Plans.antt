@@ -1,7 +1,7 @@
 -- A plan as contracts see it: its definitions, and the symbols of its alphabet.
 use Rattle.std.specs.Prelude.{List, map, All}
 use Rattle.fsm_base.specs.declared.letters.Sym.{Sym}
-use Rattle.fsm_words.specs.Words.{IsDistinct}
+use Rattle.word_relations.specs.Words.{IsDistinct}
 use Rattle.regex_ast.specs.declared.expr.Atom.{Atom}
 use Rattle.regex_ast.specs.Terms.{Term, term}
 use Rattle.project_model.specs.Sound.{IsSound}

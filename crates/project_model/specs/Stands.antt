@@ -1,10 +1,10 @@
 -- A plan that stands for what sources say: the same definitions over the numbers of a table.
 use Rattle.std.specs.Prelude.{◌≡◌, ℕ, List, map, All, Option, None, Some}
 use Rattle.std.specs.Option.{option_map}
-use Rattle.fsm_words.specs.Words.{IsDistinct}
+use Rattle.word_relations.specs.Words.{IsDistinct}
 use Rattle.regex_ast.specs.declared.expr.Atom.{Atom}
 use Rattle.regex_ast.specs.Terms.{Term}
-use Rattle.expr_parts.specs.Mapped.{mapped}
+use Rattle.expr_leaves.specs.Mapped.{mapped}
 use Rattle.project_meaning.specs.Trees.{Body, xfst}
 use Rattle.project_meaning.specs.Leaves.{resolved}
 use Rattle.project_meaning.specs.Projects.{Written, names_of, with_texts}

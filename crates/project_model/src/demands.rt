@@ -4,7 +4,7 @@ ghost use Rattle.project_model.specs.Answers.{DemandFault, DoesMeet, Meets, why_
 ghost use Rattle.project_model.specs.Plans.{body_term};
 
 use crate::definition::{Body, Definition};
-use expr_forms::{MOST_WEIGHT, form_of};
+use expr_kinds::{MOST_WEIGHT, form_of};
 
 /// What is asked of each definition.
 #[derive(Clone, Copy, Debug, PartialEq, Eq)]
@@ -18,7 +18,7 @@ pub enum Demand {
 }
 
 /// Whether a definition meets it.
-#[tactic(auto, unfolding(expr_forms::specs::Weights::most_weight))]
+#[tactic(auto, unfolding(expr_kinds::specs::Weights::most_weight))]
 fn meets(body: &Body, demand: Demand) -> bool
     ensures { IsTrue result ↔ Meets demand (body_term body.now) }
 {

@@ -2,7 +2,7 @@ ghost use Rattle.std.specs.Prelude.{◌≡◌, ◌≤◌, not, [], length, map, 
 ghost use Rattle.std.specs.List.{list_any};
 ghost use Rattle.std.specs.Str.{bytes_eq};
 ghost use Rattle.fsm_base.specs.Symbols.{number_of, with_text};
-ghost use Rattle.fsm_words.specs.Words.{IsDistinct};
+ghost use Rattle.word_relations.specs.Words.{IsDistinct};
 ghost use Rattle.regex_ast.specs.declared.fault.Fault.{Fault};
 ghost use Rattle.regex_reader.specs.Files.{statement_of};
 ghost use Rattle.project_meaning.specs.Leaves.{leaf_of};

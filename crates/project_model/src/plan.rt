@@ -1,6 +1,6 @@
 ghost use Rattle.std.specs.Prelude.{◌≡◌, ◌≤◌, ◌+◌, ◌++◌, ◌∷◌, [], List, All, Contains, IfOk, IfErr, OnOk, length, map, take};
 ghost use Rattle.fsm_base.specs.Symbols.{IsSymbol};
-ghost use Rattle.fsm_words.specs.Words.{IsDistinct};
+ghost use Rattle.word_relations.specs.Words.{IsDistinct};
 ghost use Rattle.regex_reader.specs.Files.{statement_of};
 ghost use Rattle.project_meaning.specs.Projects.{names_of, with_texts};
 ghost use Rattle.project_sources.specs.Faults.{definitions_so_far, fault, said_so_far};

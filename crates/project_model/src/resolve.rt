@@ -1,6 +1,6 @@
 ghost use Rattle.std.specs.Prelude.{◌≡◌, map, IfOk};
 ghost use Rattle.regex_ast.specs.Terms.{rules, term, terms_of, links_of, contexts_of, steps_by, mappings_of, groups_of};
-ghost use Rattle.expr_parts.specs.Mapped.{mapped, mapped_contexts, mapped_each, mapped_groups, mapped_links, mapped_mappings, mapped_steps};
+ghost use Rattle.expr_leaves.specs.Mapped.{mapped, mapped_contexts, mapped_each, mapped_groups, mapped_links, mapped_mappings, mapped_steps};
 ghost use Rattle.project_model.specs.Resolved.{IsContextOf, IsGroupOf, IsLinkOf, IsMappingOf, IsStepOf, atom_of};
 
 use crate::names::Names;

@@ -1,13 +1,13 @@
 ghost use Rattle.std.specs.Prelude.{◌≡◌, ◌≤◌, ◌+◌, [], length, map, IfOk, OnOk};
 ghost use Rattle.std.specs.List.{flat_map};
 ghost use Rattle.regex_reader.specs.Files.{statement_of};
-ghost use Rattle.expr_parts.specs.Leaves.{seen};
+ghost use Rattle.expr_leaves.specs.Leaves.{seen};
 ghost use Rattle.project_meaning.specs.Leaves.{written};
 ghost use Rattle.project_sources.specs.Limits.{most_symbols};
 ghost use Rattle.project_model.specs.Gathered.{gathered, symbol_beside, symbols_of_all};
 
 use crate::names::Names;
-use expr_parts::leaves;
+use expr_leaves::leaves;
 use fsm_base::SymbolTable;
 use project_sources::MOST_SYMBOLS;
 use regex_ast::{Define, Raw};

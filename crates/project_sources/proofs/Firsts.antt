@@ -1,7 +1,7 @@
 -- The first of items that has something: where none in front has anything, and carried to items of another list.
 use Rattle.std.proofs.Common.{◌≡◌, ◌↔◌, List, [], ◌∷◌, ◌++◌, map, sym, ap, ◌∙◌, inl, inr, append_assoc, append-nil}
 use Rattle.std.specs.List.{Contains}
-use Rattle.fsm_words.proofs.Members.{Contains-head, Contains-tail}
+use Rattle.word_relations.proofs.Members.{Contains-head, Contains-tail}
 use Rattle.project_sources.specs.Rows.{First, HaveNone, At, places_from}
 
 module _ {A F : Type 0} (Has : A → F → Type 0) where

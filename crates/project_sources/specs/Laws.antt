@@ -4,7 +4,7 @@ use Rattle.fsm_io.specs.Folders.{Files}
 use Rattle.regex_ast.specs.declared.fault.Fault.{Fault}
 use Rattle.regex_ast.specs.declared.fault.Why.TheVariants as why
 use Rattle.regex_reader.specs.Files.{FaultAt}
-use Rattle.expr_forms.specs.Weights.{most_weight}
+use Rattle.expr_kinds.specs.Weights.{most_weight}
 use Rattle.project_manifest.specs.Manifests.{project_name}
 use Rattle.project_meaning.specs.Forms.{body_weight, weight_in}
 use Rattle.project_meaning.specs.Projects.{Definition, Project, HasNoCycle, IsClosed}

@@ -1,5 +1,5 @@
 -- The test of a flag and what a flag is.
-use Rattle.std.proofs.Common.{◌≡◌, ◌≢◌, ℕ, ◌<◌, ◌==◌, Bool, true, false, not, ◌&&◌, ◌||◌, ◌⊎◌, inl, inr, List, [], ◌∷◌, ◌++◌, length, All, refl, sym, ap, subst, ◌∙◌, arith, append_assoc}
+use Rattle.std.proofs.Common.{◌≡◌, ◌↔◌, ◌≢◌, ℕ, ◌<◌, ◌==◌, Bool, true, false, not, ◌&&◌, ◌||◌, ◌⊎◌, inl, inr, List, [], ◌∷◌, ◌++◌, length, All, refl, sym, ap, subst, ◌∙◌, arith, append_assoc}
 use Rattle.std.specs.Bool.{Decides}
 use Rattle.std.specs.List.{list_all}
 use Rattle.std.proofs.lemmas.Bool.Decides.{Decides-eqb, Decides-by_and, nat_tests}
@@ -138,6 +138,10 @@ flag_again text (plain k feature hk hf e) = ap is_flag e ∙ plain_again k featu
 
 negative_again : (text : List ℕ) → IsNegativeFlag text → is_flag text ≡ true
 negative_again text n = ap is_flag n.spelled ∙ valued_again 78 n.feature n.value refl n.feature_is n.value_is
+
+-- just the flags and the negative flags pass the test
+pub flags_pass : (text : List ℕ) → is_flag text ≡ true ↔ (IsFlag text ⊎ IsNegativeFlag text)
+flags_pass text = (flag_takes text, λ either. elim either [ inl f ↦ flag_again text f | inr n ↦ negative_again text n ])
 
 -- a text that passes is no flag, and a text that is no flag passes
 pub no_flag : (text : List ℕ) → Decides (not (is_flag text)) ((IsFlag text → ⊥) × (IsNegativeFlag text → ⊥))

@@ -1,4 +1,5 @@
-ghost use Rattle.std.specs.Prelude.{◌≡◌};
+ghost use Rattle.std.specs.Prelude.{◌≡◌, ◌⊎◌, ◌↔◌, IsTrue};
+ghost use Rattle.regex_ast.specs.Flags.{IsFlag, IsNegativeFlag};
 ghost use Rattle.regex_tokens.specs.Reading.{is_flag, is_behind_kind, is_behind_feature, is_value, has_value, has_no_value};
 
 use crate::bytes::{ByteClass, split};
@@ -6,6 +7,14 @@ use crate::bytes::{ByteClass, split};
 /// Whether the text is a flag diacritic, `@X.F.V@` or `@X.F@`, or a negative flag `@N.F.V@` (Beesley and
 /// Karttunen, Finite State Morphology, 2003, chapter 7).
 pub fn is_flag(text: &[u8]) -> bool
+    ensures flag { IsTrue result ↔ (IsFlag text.now ⊎ IsNegativeFlag text.now) }
+    ensures test { result ≡ is_flag text.now }
+{
+    passes(text)
+}
+
+/// Whether the text passes the test, byte by byte.
+fn passes(text: &[u8]) -> bool
     ensures { result ≡ is_flag text.now }
 {
     match text {

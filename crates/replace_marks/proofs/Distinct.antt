@@ -3,8 +3,8 @@ use Rattle.std.proofs.Common.{◌≡◌, ◌<◌, List, [], ◌∷◌, ◌++◌,
 use Rattle.std.specs.List.{Contains}
 use Rattle.std.specs.Option.{option_map}
 use Rattle.std.proofs.lemmas.Option.{slice_get-map, slice_get_within}
-use Rattle.fsm_words.specs.Words.{IsDistinct}
-use Rattle.fsm_words.proofs.Places.{Contains-from_slice_get, slice_get-append_cases}
+use Rattle.word_relations.specs.Words.{IsDistinct}
+use Rattle.word_relations.proofs.Places.{Contains-from_slice_get, slice_get-append_cases}
 
 pub IsDistinct-one : {X : Type 0} (x : X) → IsDistinct (x ∷ [])
 IsDistinct-one x i j y at other =

@@ -5,8 +5,8 @@ use Rattle.std.proofs.Math.Nat.{le-suc_iff}
 use Rattle.std.proofs.lemmas.List.{length-append, length-map}
 use Rattle.std.proofs.lemmas.List.Elements.{All-nil, All-cons, All-append, All-map, All-weaker, All-contains, Contains-append_left, Contains-append_right, Contains-append_cases}
 use Rattle.fsm_base.specs.declared.letters.Sym.{Sym}
-use Rattle.fsm_words.specs.Words.{IsDistinct}
-use Rattle.fsm_words.proofs.Members.{Contains-head, Contains-tail, Contains-cons_cases, Contains-map, Contains-map_cases}
+use Rattle.word_relations.specs.Words.{IsDistinct}
+use Rattle.word_relations.proofs.Members.{Contains-head, Contains-tail, Contains-cons_cases, Contains-map, Contains-map_cases}
 use Rattle.replace_marks.specs.declared.marks.Mark.{Mark}
 use Rattle.replace_marks.specs.declared.marks.Mark.TheVariants.{Copy, Up, Low, Open, Close}
 use Rattle.replace_marks.specs.Marks.{IsMarkOf, count_of}

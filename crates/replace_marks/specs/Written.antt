@@ -2,7 +2,7 @@
 use Rattle.std.specs.Prelude.{◌≡◌, ℕ, ◌<◌, List, [], ◌∷◌, ◌++◌, map, All}
 use Rattle.std.specs.List.{flat_map}
 use Rattle.fsm_base.specs.declared.letters.Sym.{Sym}
-use Rattle.fsm_words.specs.Words.{IsOver}
+use Rattle.word_relations.specs.Words.{IsOver}
 use Rattle.expr_meaning.specs.Replacement as pieces
 use Rattle.expr_meaning.specs.Replacement.{Piece, copied, replaced}
 use Rattle.replace_marks.specs.declared.marks.Mark.{Mark}

@@ -1,5 +1,5 @@
 ghost use Rattle.std.specs.Prelude.{◌≡◌, ◌↔◌, ◌++◌, IfOk, OnOk, Contains, length};
-ghost use Rattle.fsm_words.specs.Words.{IsDistinct};
+ghost use Rattle.word_relations.specs.Words.{IsDistinct};
 ghost use Rattle.replace_marks.specs.Marks.{IsMarkOf, count_of, upper_of, lower_of};
 ghost use Rattle.replace_marks.specs.Listed.{marks_by};
 

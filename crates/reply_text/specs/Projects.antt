@@ -4,7 +4,7 @@ use Rattle.std.specs.List.{flat_map}
 use Rattle.regex_ast.specs.declared.fault.Fault.{Fault}
 use Rattle.regex_ast.specs.declared.fault.Why.{Why}
 use Rattle.regex_ast.specs.declared.fault.Why.TheVariants as why
-use Rattle.fsm_meaning.specs.Replies.{line_of}
+use Rattle.reply_meaning.specs.Replies.{line_of}
 
 -- `ok V rebuilt NAME NAME ..`
 abbrev pub accepted_line : ℕ → List (List ℕ) → List ℕ

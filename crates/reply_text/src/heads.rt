@@ -1,5 +1,5 @@
 ghost use Rattle.std.specs.Prelude.{◌≡◌, ◌≤◌, ◌∷◌, take, drop};
-ghost use Rattle.fsm_meaning.specs.Replies.{headed, line_of};
+ghost use Rattle.reply_meaning.specs.Replies.{headed, line_of};
 ghost use Rattle.reply_text.specs.Heads.{head_word};
 
 use itoa::Buffer;

@@ -1,6 +1,6 @@
 //! The bytes of replies: to a word that is looked up, and to a project that is loaded or edited.
 //!
-//! - [`answer`], [`symbol`], [`no_net`]: the replies to a word. `specs/Replies.antt` of fsm_meaning has their
+//! - [`answer`], [`symbol`], [`no_net`]: the replies to a word. `specs/Replies.antt` of reply_meaning has their
 //!   bytes, and says which of them is lawful.
 //! - [`accepted`], [`refused`]: the replies to a project and to an edit (`specs/Projects.antt`).
 //! - [`short`]: the replies of one word, each a [`Head`], which take no memory (`specs/Heads.antt`).

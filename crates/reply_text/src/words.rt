@@ -1,19 +1,52 @@
 ghost use Rattle.std.specs.Prelude.{◌≡◌, ◌++◌, ◌∷◌, codes, decimal, IfOk};
 ghost use Rattle.std.specs.String.{string_bytes};
-ghost use Rattle.fsm_words.specs.Answers.{strings};
-ghost use Rattle.fsm_meaning.specs.Replies.{answer_bytes, headed};
+ghost use Rattle.word_relations.specs.Answers.{strings};
+ghost use Rattle.reply_meaning.specs.Replies.{answer_bytes, headed};
 ghost use Rattle.lookup_answers.specs.Answers.{found_of};
 
 use fsm_base::Text;
+use itoa::Buffer;
 use lookup_answers::Answer;
 use std::alloc::{AllocError, Global};
+
+/// Room for the two numbers of a reply's first line, its spaces and its newline.
+const HEAD_ROOM: usize = 64;
+
+/// The room that a reply with these texts needs, or more.
+fn room_for(word: &str, texts: &[Text]) -> usize {
+    let mut room = word.len().saturating_add(HEAD_ROOM);
+    for text in texts {
+        room = room.saturating_add(text.as_str().len()).saturating_add(1);
+    }
+    room
+}
+
+/// The first line of a reply that lists so many texts, in a string with room for so many bytes.
+fn first_line(
+    alloc: Global,
+    room: usize,
+    number: u64,
+    count: usize,
+    word: &str,
+) -> Result<String, AllocError>
+    ensures { IfOk result (λ reply. string_bytes reply ≡ headed number (decimal count ++ 32 ∷ word.now)) }
+{
+    let mut reply = String::with_capacity(alloc, room)?;
+    let mut digits = Buffer::new();
+    reply.push_str(digits.format(number))?;
+    reply.push(' ')?;
+    reply.push_str(digits.format(count))?;
+    reply.push(' ')?;
+    reply.push_str(word)?;
+    reply.push('\n')?;
+    Ok(reply)
+}
 
 /// How many texts there are, and each on a line.
 fn listed(alloc: Global, number: u64, word: &str, texts: &[Text]) -> Result<String, AllocError>
     ensures { IfOk result (λ reply. string_bytes reply ≡ answer_bytes number word.now (strings texts.now)) }
 {
-    let count = texts.len();
-    let mut reply = format!(in alloc; "{number} {count} {word}\n")?;
+    let mut reply = first_line(alloc, room_for(word, texts), number, texts.len(), word)?;
     'texts: for text in texts {
         reply.push_str(text.as_str())?;
         reply.push('\n')?;

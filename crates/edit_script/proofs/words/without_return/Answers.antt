@@ -1,5 +1,5 @@
 use Rattle.std.proofs.Common.{ℕ, ◌++◌, ◌∷◌, [], sym, ap, ◌∙◌}
-use Rattle.fsm_meaning.specs.Replies.{without_last}
+use Rattle.reply_meaning.specs.Replies.{without_last}
 use Rattle.edit_script.proofs.Returns.{last_dropped, last_kept, not_same}
 use Rattle.edit_script.proofs.words.without_return.Goals as goal
 

@@ -1,7 +1,7 @@
 use Rattle.std.proofs.Common.{length, refl, ap, subst, ◌∙◌}
-use Rattle.fsa_walk.specs.Alike.{AreBothAlike, ByClass}
-use Rattle.fsa_walk.specs.Explored.{IsExplored}
-use Rattle.fsa_walk.proofs.Grouping.{classes_within}
+use Rattle.fsa_explore.specs.Alike.{AreBothAlike, ByClass}
+use Rattle.fsa_explore.specs.Explored.{IsExplored}
+use Rattle.fsa_explore.proofs.Grouping.{classes_within}
 use Rattle.fsa_product.specs.Pairs.{IsPair, LeadsAt, IsFinalPair}
 use Rattle.fsa_product.proofs.Combining.{pairs_by_class, product_language}
 use Rattle.fsa_product.proofs.products.product.Goals as goal

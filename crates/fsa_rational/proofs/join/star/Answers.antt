@@ -19,8 +19,8 @@ returns g c =
     let made = ap (λ m. m.finals) c.in_ok-m.ensures in
     let finals = ap (λ m. m.finals) c.set_final.ensures ∙ ap (λ fs. set fs 0 true) made in
     let none = ap (λ m. m.edges) c.set_final.ensures ∙ ap (λ m. m.edges) c.in_ok-m.ensures in
-    let shape = star_shape a c.set_final.new.self c.add_shifted.new.m c.add_silent.new.m c.leave_finals.new.m none finals
-    (rw c.edges.ensures.edges at c.in_ok-add_shifted.ensures) c.in_ok-add_silent.ensures (rw c.finals.ensures.finals at c.in_ok-leave_finals.ensures) in
+    let shape = star_shape a c.set_final.new.self c.add_shifted.new.m c.add_epsilon.new.m c.leave_finals.new.m none finals
+    (rw c.edges.ensures.edges at c.in_ok-add_shifted.ensures) c.in_ok-add_epsilon.ensures (rw c.finals.ensures.finals at c.in_ok-leave_finals.ensures) in
     record {
       letters = star_letters a c.edges.ensures.formed c.leave_finals.new.m shape;
       language = star_language a c.edges.ensures.formed c.leave_finals.new.m shape;

@@ -21,11 +21,11 @@ returns g c =
     let n = c.states.result - c.states-2.result in
     let states = union_states a b c.in_ok-m.m (ap (λ m. m.finals) c.in_ok-m.ensures) in
     let raised : n ≡ length a.finals + 1 = omega arith in
-    let shape = union_shape a b n raised c.in_ok-m.m c.add_shifted.new.m c.add_shifted-2.new.m c.add_silent.new.m c.add_silent-2.new.m
+    let shape = union_shape a b n raised c.in_ok-m.m c.add_shifted.new.m c.add_shifted-2.new.m c.add_epsilon.new.m c.add_epsilon-2.new.m
     (ap (λ m. m.edges) c.in_ok-m.ensures) (ap (λ m. m.finals) c.in_ok-m.ensures)
     (rw c.edges.ensures.edges at c.in_ok-add_shifted.ensures) (rw c.edges-2.ensures.edges at c.in_ok-add_shifted-2.ensures)
-    c.in_ok-add_silent.ensures c.in_ok-add_silent-2.ensures in
+    c.in_ok-add_epsilon.ensures c.in_ok-add_epsilon-2.ensures in
     record {
-      letters = union_letters a b c.edges.ensures.formed c.edges-2.ensures.formed n c.add_silent-2.new.m shape;
-      language = union_language a b c.edges.ensures.formed c.edges-2.ensures.formed n c.add_silent-2.new.m shape;
+      letters = union_letters a b c.edges.ensures.formed c.edges-2.ensures.formed n c.add_epsilon-2.new.m shape;
+      language = union_language a b c.edges.ensures.formed c.edges-2.ensures.formed n c.add_epsilon-2.new.m shape;
     }

@@ -1,7 +1,7 @@
 use Rattle.std.proofs.Common.{◌≡◌, sym, subst, ◌∙◌}
 use Rattle.std.specs.List.{Contains}
 use Rattle.std.proofs.lemmas.List.{take_all}
-use Rattle.fsa_walk.proofs.Added.{Grows-keeps}
+use Rattle.fsa_explore.proofs.Added.{Grows-keeps}
 use Rattle.fsa_rational.proofs.Bypassing.{entered_more, entered_past}
 use Rattle.fsa_rational.proofs.lettered.entered_states.Goals as goal
 use Rattle.fsa_rational.proofs.lettered.entered_states.Goals.{then-is_some+in_ok-add-2, else-is_some}

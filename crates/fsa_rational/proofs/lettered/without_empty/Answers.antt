@@ -1,5 +1,5 @@
 use Rattle.fsa_rational.proofs.Walks.{same_elements}
-use Rattle.fsa_rational.proofs.EmptyLanguage.{bypassed_not_silent, bypassed_letters, bypassed_language}
+use Rattle.fsa_rational.proofs.EmptyLanguage.{bypassed_not_epsilon, bypassed_letters, bypassed_language}
 use Rattle.fsa_rational.proofs.lettered.without_empty.Goals as goal
 
 pub bypass-requires-clause-within : goal.bypass-requires-clause-within
@@ -22,7 +22,7 @@ returns g c =
     let m = c.bypass.new.m in
     let shape = c.in_ok-bypass.ensures in
     record {
-      silent = bypassed_not_silent a rows same states m shape;
+      epsilon = bypassed_not_epsilon a rows same states m shape;
       letters = bypassed_letters a rows same states m shape;
       language = bypassed_language a rows same states m shape (rw c.found.ensures.found c.in_ok-entered.ensures.start) (rw c.found.ensures.found c.in_ok-entered.ensures.targets);
     }

@@ -11,8 +11,8 @@ set_final-requires g c =
     let long = ap length (ap (λ m. m.finals) c.in_ok-m.ensures) ∙ one_more_states (length a.finals) in
     omega arith
 
-pub add_turned-requires : goal.add_turned-requires
-add_turned-requires g c =
+pub add_reversed-requires : goal.add_reversed-requires
+add_reversed-requires g c =
     let a = c.args.a.now in
     let made = ap (λ m. m.finals) c.in_ok-m.ensures in
     let finals = ap (λ m. m.finals) c.set_final.ensures ∙ ap (λ fs. set fs 1 true) made in
@@ -26,8 +26,8 @@ returns g c =
     let made = ap (λ m. m.finals) c.in_ok-m.ensures in
     let finals = ap (λ m. m.finals) c.set_final.ensures ∙ ap (λ fs. set fs 1 true) made in
     let none = ap (λ m. m.edges) c.set_final.ensures ∙ ap (λ m. m.edges) c.in_ok-m.ensures in
-    let shape = reverse_shape a c.set_final.new.self c.add_turned.new.m c.enter_finals.new.m none finals
-    (rw c.edges-edges.ensures.edges at c.in_ok-add_turned.ensures) (rw c.finals.ensures.finals at c.in_ok-enter_finals.ensures) in
+    let shape = reverse_shape a c.set_final.new.self c.add_reversed.new.m c.enter_finals.new.m none finals
+    (rw c.edges-edges.ensures.edges at c.in_ok-add_reversed.ensures) (rw c.finals.ensures.finals at c.in_ok-enter_finals.ensures) in
     record {
       letters = reverse_letters a c.edges-edges.ensures.formed c.enter_finals.new.m shape;
       language = reverse_language a c.edges-edges.ensures.formed c.enter_finals.new.m shape;

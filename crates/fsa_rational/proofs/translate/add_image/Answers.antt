@@ -1,12 +1,12 @@
 use Rattle.std.proofs.Common.{◌≡◌}
 use Rattle.std.proofs.lemmas.Result.{on_ok_weaker}
 use Rattle.fsa_rational.proofs.Extended.{comes_more, each_all}
-use Rattle.fsa_rational.proofs.ImageLanguage.{image_silent, image_rows}
+use Rattle.fsa_rational.proofs.ImageLanguage.{image_epsilon, image_rows}
 use Rattle.fsa_rational.proofs.translate.add_image.Goals as goal
 
 pub returns-in_default : goal.returns-in_default
 returns-in_default g c =
-    on_ok_weaker c.add_silent.result (image_silent c.args.rows.now c.args.edge.now c.args.m.now c.add_silent.new.m c.in_default.is) c.add_silent.ensures
+    on_ok_weaker c.add_epsilon.result (image_epsilon c.args.rows.now c.args.edge.now c.args.m.now c.add_epsilon.new.m c.in_default.is) c.add_epsilon.ensures
 
 pub loop-row-preserved : goal.loop-row-preserved
 loop-row-preserved g c =

@@ -3,7 +3,7 @@ use Rattle.std.specs.BTreeMap.{get, is_at}
 use Rattle.std.specs.Ordering.{is_eq}
 use Rattle.std.proofs.lemmas.Cmp.{tied_itself}
 use Rattle.std.proofs.lemmas.Option.{same_Some}
-use Rattle.fsm_words.proofs.Places.{Contains-from_slice_get}
+use Rattle.word_relations.proofs.Places.{Contains-from_slice_get}
 use Rattle.fsa_subset.proofs.Lettered.{found_push, found_some, found_none, is_equal}
 use Rattle.fsa_subset.proofs.letters.add_letter.Goals as goal
 

@@ -1,6 +1,6 @@
 use Rattle.std.proofs.Common.{◌<◌, subst, sym, ◌∙◌}
-use Rattle.fsa_walk.specs.Explored.{AddsTarget}
-use Rattle.fsa_walk.proofs.Exploring.{AddsRow-push}
+use Rattle.fsa_explore.specs.Explored.{AddsTarget}
+use Rattle.fsa_explore.proofs.Exploring.{AddsRow-push}
 use Rattle.fsa_subset.specs.Sets.{IsSettled, IsTargetSet}
 use Rattle.fsa_subset.proofs.Settling.{target_of}
 use Rattle.fsa_subset.proofs.subsets.add_sets.Goals as goal

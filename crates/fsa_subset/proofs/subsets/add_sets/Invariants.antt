@@ -1,5 +1,5 @@
 use Rattle.std.proofs.Common.{◌≡◌}
-use Rattle.fsa_walk.specs.Explored.{AddsRow}
+use Rattle.fsa_explore.specs.Explored.{AddsRow}
 use Rattle.fsa_subset.specs.Sets.{IsSettled, IsTargetSet}
 use Rattle.fsa_subset.proofs.subsets.add_sets.Given as goal
 

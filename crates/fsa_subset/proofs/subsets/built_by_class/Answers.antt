@@ -1,7 +1,7 @@
 use Rattle.std.proofs.Common.{◌<◌, length, ap, sym, subst, ◌∙◌}
 use Rattle.std.proofs.lemmas.Result.{IfOk-weaker}
-use Rattle.fsa_walk.specs.Alike.{ByClass}
-use Rattle.fsa_walk.specs.Explored.{IsExplored}
+use Rattle.fsa_explore.specs.Alike.{ByClass}
+use Rattle.fsa_explore.specs.Explored.{IsExplored}
 use Rattle.fsa_subset.specs.Sets.{Placed, IsStateSet, LeadsTo, IsFinalSet, IsBuiltByClass}
 use Rattle.fsa_subset.proofs.Settling.{start_is}
 use Rattle.fsa_subset.proofs.subsets.built_by_class.Goals as goal

@@ -1,7 +1,7 @@
 use Rattle.std.proofs.Common.{length, subst}
 use Rattle.std.proofs.lemmas.Result.{IfOk-weaker}
-use Rattle.fsa_walk.specs.Alike.{GoAlike}
-use Rattle.fsa_walk.proofs.Grouping.{classes_within}
+use Rattle.fsa_explore.specs.Alike.{GoAlike}
+use Rattle.fsa_explore.proofs.Grouping.{classes_within}
 use Rattle.fsa_subset.specs.Classes.{IsByClass}
 use Rattle.fsa_subset.specs.Sets.{Placed, IsBuiltByClass, IsSubsetBuilt}
 use Rattle.fsa_subset.proofs.Classing.{built_same, classed_within}

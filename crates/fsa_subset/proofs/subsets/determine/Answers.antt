@@ -1,6 +1,6 @@
 use Rattle.std.proofs.Common.{◌<◌, length, sym, subst}
 use Rattle.std.specs.List.{Contains}
-use Rattle.fsm_words.specs.Words.{IsDistinct}
+use Rattle.word_relations.specs.Words.{IsDistinct}
 use Rattle.fsa_subset.specs.Placed.{IsPlaced}
 use Rattle.fsa_subset.proofs.Placing.{placed_within}
 use Rattle.fsa_subset.proofs.Language.{determined}

@@ -1,8 +1,8 @@
 use Rattle.std.proofs.Common.{◌<◌, ℕ, None, subst, sym, ap, ◌∙◌, ◌↔◌}
 use Rattle.std.specs.List.{Contains}
 use Rattle.std.proofs.lemmas.Result.{IfOk-weaker}
-use Rattle.fsa_walk.specs.Reaches.{Reaches, IsReached}
-use Rattle.fsa_walk.specs.Targets.{IsTarget}
+use Rattle.fsa_explore.specs.Reaches.{Reaches, IsReached}
+use Rattle.fsa_explore.specs.Targets.{IsTarget}
 use Rattle.fsa_subset.proofs.Settling.{target_set_is}
 use Rattle.fsa_subset.proofs.subsets.target_set.Goals as goal
 

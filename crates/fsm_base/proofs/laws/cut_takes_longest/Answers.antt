@@ -1,5 +1,5 @@
 use Rattle.std.proofs.Common.{[], MatchResult, sym, subst, ◌∙◌, append-nil}
-use Rattle.fsm_words.specs.Words.{joined}
+use Rattle.word_relations.specs.Words.{joined}
 use Rattle.fsm_base.specs.Longest.{TakesLongest, StopsAt}
 use Rattle.fsm_base.proofs.CutLemmas.{cut_takes, cut-from_whole, cut-from_stop, joined-takes}
 use Rattle.fsm_base.proofs.laws.cut_takes_longest.Goals as goal

@@ -1,6 +1,11 @@
-use Rattle.std.proofs.Common.{length, ap, ◌∙◌, arith}
-use Rattle.fsm_base.proofs.NormalLemmas.{length-nfc_of}
+use Rattle.std.proofs.Common.{length, ap, sym, ◌∙◌, arith}
+use Rattle.std.proofs.lemmas.Result.{IfOk-weaker}
+use Rattle.fsm_base.proofs.NormalLemmas.{length-nfc_of, nfc_of-ascii}
 use Rattle.fsm_base.proofs.normalize.nfc.Goals as goal
+
+pub returns-then-is_ascii-clause-text : goal.returns-then-is_ascii-clause-text
+returns-then-is_ascii-clause-text c =
+    IfOk-weaker c.of.result _ _ (λ text same. same ∙ sym (nfc_of-ascii c.args.text.now c.if-is_ascii.ensures.cases)) c.of.ensures
 
 pub returns-clause-short : goal.returns-clause-short
 returns-clause-short c =

@@ -1,5 +1,5 @@
 use Rattle.std.proofs.Common.{ℕ, ◌++◌, ◌∷◌, [], sym, ap, ◌∙◌}
-use Rattle.fsm_meaning.specs.Replies.{without_last}
+use Rattle.reply_meaning.specs.Replies.{without_last}
 use Rattle.fsm_program.proofs.LastByte.{last_dropped, last_kept, not_same}
 use Rattle.fsm_program.proofs.bytes.without_last.Goals as goal
 

@@ -1,5 +1,5 @@
 use Rattle.std.proofs.Common.{◌≡◌, ap}
-use Rattle.fst_compose.specs.declared.operand.Place.{Place}
+use Rattle.fst_compose.specs.declared.operand.EdgeKey.{EdgeKey}
 use Rattle.fst_compose.specs.declared.operand.Onward.{Onward}
 use Rattle.fst_compose.proofs.Gaining.{one_more, some_all}
 use Rattle.fst_compose.proofs.Moving.{matches_some}
@@ -7,7 +7,7 @@ use Rattle.fst_compose.proofs.moves.add_matches.Goals as goal
 
 pub loop-row-preserved : goal.loop-row-preserved
 loop-row-preserved c =
-    one_more (λ (row : Place × Onward). (c.row_of.result.1, row.1)) c.at-row-items.result.now c.loop-row.row-index _ c.loop-row-test.true c.args.found.now.items c.loop-row.found.items c.push.new.self.items c.loop-row.invariant c.in_ok-push.ensures.items
+    one_more (λ (row : EdgeKey × Onward). (c.row_of.result.1, row.1)) c.at-row-items.result.now c.loop-row.row-index _ c.loop-row-test.true c.args.found.now.items c.loop-row.found.items c.push.new.self.items c.loop-row.invariant c.in_ok-push.ensures.items
 
 pub returns : goal.returns
 returns c =

@@ -1,6 +1,6 @@
 use Rattle.std.proofs.Common.{◌≡◌, ◌<◌, Some, true}
 use Rattle.std.specs.List.{slice_get}
-use Rattle.fsa_walk.specs.Marks.{Adds}
+use Rattle.fsa_explore.specs.Marks.{Adds}
 use Rattle.fst_compose.proofs.trim.add_finals.Given as goal
 
 abbrev pub invariant-loop-state : goal.invariant-loop-state

@@ -2,7 +2,7 @@ use Rattle.std.proofs.Common.{◌≡◌, ◌<◌, ◌≤◌, Some, length, get_o
 use Rattle.std.specs.List.{slice_get}
 use Rattle.std.proofs.lemmas.List.{length-set}
 use Rattle.std.proofs.lemmas.Option.{slice_get-get_or, slice_get_within}
-use Rattle.fsm_words.proofs.Places.{slice_get-set_same}
+use Rattle.word_relations.proofs.Places.{slice_get-set_same}
 use Rattle.fst_compose.proofs.Trimming.{only_more, all_more, numbering_all}
 use Rattle.fst_compose.proofs.trim.numbers_of.Goals as goal
 

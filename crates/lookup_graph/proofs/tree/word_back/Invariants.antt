@@ -2,13 +2,13 @@ use Rattle.std.proofs.Common.{◌≡◌, ℕ, ◌<◌, List, Some, length}
 use Rattle.std.specs.List.{slice_get}
 use Rattle.fsa.specs.declared.automaton.Edge.{Edge}
 use Rattle.lookup_graph.specs.Graph.{Connects}
-use Rattle.lookup_graph.specs.Tree.{AreSteps, AreTurned}
+use Rattle.lookup_graph.specs.Tree.{AreSteps, AreReversed}
 use Rattle.lookup_graph.proofs.tree.word_back.Given as goal
 
 abbrev pub invariant-steps : goal.invariant-steps
 invariant-steps g l = record {
   inside : l.at < length l.steps;
-  back : (edges rows : List (Edge g.row.L.Denot)) (root node : ℕ) (found : List ℕ) → AreTurned edges rows → AreSteps rows root found l.steps → slice_get found l.number ≡ Some node
+  back : (edges rows : List (Edge g.row.L.Denot)) (root node : ℕ) (found : List ℕ) → AreReversed edges rows → AreSteps rows root found l.steps → slice_get found l.number ≡ Some node
       → (q : ℕ) × (slice_get found l.at ≡ Some q) × Connects edges node l.word.items q;
 }
 

@@ -1,4 +1,4 @@
-use Rattle.std.proofs.Common.{◌≡◌, ◌+◌, ◌++◌, drop}
+use Rattle.std.proofs.Common.{◌≡◌, ◌<◌, ◌+◌, ◌^◌, ◌++◌, drop, length}
 use Rattle.lookup_texts.specs.Spelling.{chain}
 use Rattle.lookup_texts.proofs.bytes.spell.Given as goal
 
@@ -6,4 +6,5 @@ abbrev pub invariant-bytes : goal.invariant-bytes
 invariant-bytes l = record {
   edges : l.fn.graph.edges.items ++ chain l.from l.fn.graph.count l.bytes l.to ≡ l.graph.edges.items ++ chain l.node l.graph.count (drop l.byte-index l.bytes) l.to;
   count : l.graph.count ≡ l.fn.graph.count + l.byte-index;
+  room : l.graph.count < 2 ^ 63 + length l.graph.edges.items;
 }

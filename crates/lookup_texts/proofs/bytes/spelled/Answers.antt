@@ -2,7 +2,7 @@ use Rattle.std.proofs.Common.{◌≡◌, ◌+◌, ◌++◌, [], ◌∷◌, None,
 use Rattle.std.specs.List.{Contains}
 use Rattle.std.proofs.lemmas.List.{take_all, take_more}
 use Rattle.std.proofs.lemmas.List.Elements.{Contains-get_or, Contains-push_cases}
-use Rattle.fsm_words.proofs.Members.{Contains-nil_cases}
+use Rattle.word_relations.proofs.Members.{Contains-nil_cases}
 use Rattle.fsa.specs.declared.automaton.Edge.{Edge}
 use Rattle.fsm_base.specs.declared.letters.Sym.{Sym}
 use Rattle.lookup_texts.specs.Spelling.{chain, text_on}
@@ -18,7 +18,8 @@ text_of-requires c =
 pub loop-edge-init : goal.loop-edge-init
 loop-edge-init c = record {
   rests = [];
-  count = omega arith;
+  count = omega (arith, c.len.ensures, c.in_ok-marks.marks.ok.0, c.in_ok-marks.ensures.len);
+  room = omega (arith, c.len.ensures, c.in_ok-marks.marks.ok.1, c.in_ok-marks.marks.small);
   spelled = rw c.new.ensures.items (spelled_first c.args.alphabet.now c.args.count);
   utf8 = λ e h. absurd (Contains-nil_cases e h);
 }
@@ -47,6 +48,7 @@ loop-edge-preserved c =
           let l = length-append inv.rests r.0 in
           let k = r.1 in
           let t = ap length text in omega arith;
+      room = c.in_ok-spell.ensures.room;
       spelled = rw (front, made) r.2;
       utf8 = λ f h. elim (Contains-push_cases (take i edges) e f (subst (λ es. Contains es f) front h)) [
         | inl old ↦ inv.utf8 f old

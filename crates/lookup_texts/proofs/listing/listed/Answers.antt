@@ -124,3 +124,6 @@ returns-then-not-leave-clause-all c =
     let done = c.if-not-leave.ensures.left in
     let next = subst (λ rs. IsLeast (λ b. (walk.floor ≤ b) × Follows rs walk.text.items b) c.next.result) inv.rows c.next.ensures in
     all_listed rows walk.text.items walk.floor c.moves.found.items inv.listing (λ other low goes. next.none c.in-None.is other (low, goes)) done inv.few
+
+pub enter-requires-clause-follows : goal.enter-requires-clause-follows
+enter-requires-clause-follows c = (c.next.ensures.passes c.in-Some.byte c.in-Some.is).1

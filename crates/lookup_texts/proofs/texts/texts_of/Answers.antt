@@ -1,7 +1,7 @@
 use Rattle.std.proofs.Common.{sym, subst}
 use Rattle.std.specs.List.{Contains}
 use Rattle.lookup_graph.specs.Graph.{AreUseful}
-use Rattle.fsm_words.specs.Answers.{AreAll, AreMore}
+use Rattle.word_relations.specs.Answers.{AreAll, AreMore}
 use Rattle.lookup_texts.specs.GraphTexts.{GraphTexts}
 use Rattle.lookup_texts.specs.Walks.{WritesText}
 use Rattle.lookup_texts.proofs.Whole.{all_same, bytes_short, if_none, if_some, more_same, moved_useful, whole_same}

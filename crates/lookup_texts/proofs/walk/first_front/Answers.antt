@@ -1,7 +1,7 @@
 use Rattle.std.proofs.Common.{◌≡◌, [], ◌∷◌, ◌++◌, ap, subst, sym, ◌∙◌}
 use Rattle.std.specs.List.{Contains}
-use Rattle.fsm_words.proofs.Members.{Contains-nil_cases}
-use Rattle.fsa_walk.specs.Targets.{AreWithin}
+use Rattle.word_relations.proofs.Members.{Contains-nil_cases}
+use Rattle.fsa_explore.specs.Targets.{AreWithin}
 use Rattle.lookup_texts.specs.Walks.{IsFront}
 use Rattle.lookup_texts.proofs.Fronts.{front_first}
 use Rattle.lookup_texts.proofs.walk.first_front.Goals as goal

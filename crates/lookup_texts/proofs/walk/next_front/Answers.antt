@@ -1,6 +1,6 @@
 use Rattle.std.proofs.Common.{[], ◌∷◌, ◌++◌, get_or, ap, subst, sym, ◌∙◌}
 use Rattle.std.proofs.lemmas.List.{get_or_default}
-use Rattle.fsa_walk.specs.Targets.{AreWithin}
+use Rattle.fsa_explore.specs.Targets.{AreWithin}
 use Rattle.lookup_texts.specs.Walks.{IsFront}
 use Rattle.lookup_texts.proofs.Fronts.{front_next, enters_none, enters_more, enters_all}
 use Rattle.lookup_texts.proofs.walk.next_front.Goals as goal

@@ -1,5 +1,5 @@
 use Rattle.std.proofs.Common.{take}
-use Rattle.fsa_walk.specs.Marks.{Adds}
+use Rattle.fsa_explore.specs.Marks.{Adds}
 use Rattle.lookup_texts.specs.Walks.{Enters}
 use Rattle.lookup_texts.proofs.walk.next_front.Given as goal
 

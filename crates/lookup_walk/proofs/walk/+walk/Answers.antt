@@ -2,11 +2,11 @@ use Rattle.std.proofs.Common.{◌≡◌, None, IsTrue, get_or, rules, refl, subs
 use Rattle.std.specs.List.{Contains}
 use Rattle.std.proofs.lemmas.List.Elements.{All-push, Contains-get_or}
 use Rattle.fsm_base.specs.Alphabet.{symbols_of}
-use Rattle.fsm_words.specs.Words.{IsOver}
+use Rattle.word_relations.specs.Words.{IsOver}
 use Rattle.lookup_walk.specs.declared.moves.Move.{Move}
 use Rattle.lookup_walk.specs.Walks.{Through, WritesOver}
 use Rattle.lookup_walk.proofs.Adds.{Adds-more}
-use Rattle.lookup_walk.proofs.Entering.{entered_past, entered_inside, passed_writing, passed_silently}
+use Rattle.lookup_walk.proofs.Entering.{entered_past, entered_inside, passed_writing, passed_by_epsilon}
 use Rattle.lookup_walk.proofs.walk.+walk.Goals as goal
 
 abbrev no_move : Move
@@ -14,7 +14,7 @@ no_move = record { at = record { state = 0; read = None }; write = None; to = 0 
 
 pub enter-follow-requires : goal.enter-follow-requires
 enter-follow-requires t c =
-    let front : WritesOver c.args.ground.now.alphabet.now c.out-silent.result.now = λ m s has is. c.requires.moves m s ((c.out-silent.ensures m).0 has).0 is in
+    let front : WritesOver c.args.ground.now.alphabet.now c.epsilon-epsilon.result.now = λ m s has is. c.requires.moves m s ((c.epsilon-epsilon.ensures m).0 has).0 is in
     (omega (arith, c.decreases), (c.requires.moves, (front, c.requires.written)))
 
 pub enter-stop-requires : goal.enter-stop-requires
@@ -26,20 +26,20 @@ enter-stop-requires t c =
 pub enter-returns-in_default : goal.enter-returns-in_default
 enter-returns-in_default t c = λ h.
     let whole : IsTrue c.in_ok-whole.whole = search rules in
-    entered_past c.args.ground.now.alphabet.now c.args.ground.now.table.now c.args.ground.now.finals.now c.args.state c.args.rest.now c.out-silent.result.now c.args.trail.now c.follow.new.trail c.stop.new.trail c.out-silent.ensures c.in_default.ensures.cases (c.in_ok-whole.ensures whole) (c.in_ok-all.ensures h)
+    entered_past c.args.ground.now.alphabet.now c.args.ground.now.table.now c.args.ground.now.finals.now c.args.state c.args.rest.now c.epsilon-epsilon.result.now c.args.trail.now c.follow.new.trail c.stop.new.trail c.epsilon-epsilon.ensures c.in_default.ensures.cases (c.in_ok-whole.ensures whole) (c.in_ok-all.ensures h)
 
 pub enter-follow-requires-2 : goal.enter-follow-requires-2
 enter-follow-requires-2 t c =
     let whole : IsTrue c.in_ok-whole.whole = search rules in
     let adds = c.in_ok-whole.ensures whole in
-    let front : WritesOver c.args.ground.now.alphabet.now c.out-reading.result.now = λ m s has is. c.requires.moves m s ((c.out-reading.ensures m).0 has).0 is in
+    let front : WritesOver c.args.ground.now.alphabet.now c.reading-reading.result.now = λ m s has is. c.requires.moves m s ((c.reading-reading.ensures m).0 has).0 is in
     let over = subst (λ w. IsOver (symbols_of c.args.ground.now.alphabet.now) w) (sym adds.written) c.requires.written in
     (omega (arith, c.decreases), (c.requires.moves, (front, over)))
 
 pub enter-returns : goal.enter-returns
 enter-returns t c = λ h.
     let whole : IsTrue c.in_ok-whole.whole = search rules in
-    entered_inside c.args.ground.now.alphabet.now c.args.ground.now.table.now c.args.ground.now.finals.now c.args.state c.args.rest.now c.in-Some.symbol.now c.in-Some.behind.now c.out-silent.result.now c.out-reading.result.now c.args.trail.now c.follow.new.trail c.follow-2.new.trail c.out-silent.ensures c.out-reading.ensures c.in-Some.ensures.cases.0 (c.in_ok-whole.ensures whole) (c.in_ok-all-2.ensures h)
+    entered_inside c.args.ground.now.alphabet.now c.args.ground.now.table.now c.args.ground.now.finals.now c.args.state c.args.rest.now c.in-Some.symbol.now c.in-Some.behind.now c.epsilon-epsilon.result.now c.reading-reading.result.now c.args.trail.now c.follow.new.trail c.follow-2.new.trail c.epsilon-epsilon.ensures c.reading-reading.ensures c.in-Some.ensures.cases.0 (c.in_ok-whole.ensures whole) (c.in_ok-all-2.ensures h)
 
 pub follow-pass-requires : goal.follow-pass-requires
 follow-pass-requires t c =
@@ -56,7 +56,7 @@ follow-moves-preserved t c =
 pub pass-returns-in_default : goal.pass-returns-in_default
 pass-returns-in_default t c = λ h.
     let none : c.args.m.write ≡ None = search rules in
-    passed_silently c.args.ground.now.alphabet.now c.args.ground.now.table.now c.args.ground.now.finals.now c.args.m c.args.rest.now c.args.trail.now c.enter.new.trail none (c.in_ok-all.ensures h)
+    passed_by_epsilon c.args.ground.now.alphabet.now c.args.ground.now.table.now c.args.ground.now.finals.now c.args.m c.args.rest.now c.args.trail.now c.enter.new.trail none (c.in_ok-all.ensures h)
 
 pub pass-enter-requires-2 : goal.pass-enter-requires-2
 pass-enter-requires-2 t c =

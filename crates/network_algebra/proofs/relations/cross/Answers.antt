@@ -5,7 +5,7 @@ use Rattle.std.proofs.lemmas.Result.{IfOk-weaker}
 use Rattle.fsm_base.specs.declared.letters.Sym.{Sym}
 use Rattle.fsa.specs.Automaton.{UsesLetter}
 use Rattle.fsa.specs.Language.{Accepts}
-use Rattle.fsm_words.specs.Operations.{IsOneLetter}
+use Rattle.word_relations.specs.Operations.{IsOneLetter}
 use Rattle.network_algebra.proofs.CrossedLetters.{crossed_languages, crossed_lower_used, crossed_upper_used}
 use Rattle.network_algebra.proofs.relations.cross.Goals as goal
 

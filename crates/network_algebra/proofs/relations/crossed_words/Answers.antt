@@ -1,7 +1,7 @@
 use Rattle.std.proofs.lemmas.Result.{IfOk-weaker}
 use Rattle.fsa.specs.Automaton.{UsesLetter}
 use Rattle.fsa.specs.Language.{Accepts}
-use Rattle.fsm_words.specs.Relations.{IsCross}
+use Rattle.word_relations.specs.Relations.{IsCross}
 use Rattle.network_algebra.proofs.Smaller.{lower_used, same_relation, upper_used}
 use Rattle.network_algebra.proofs.relations.crossed_words.Goals as goal
 

@@ -1,27 +1,26 @@
-use Rattle.std.proofs.Common.{◌↔◌, List, IfOk, sym, subst}
-use Rattle.std.proofs.lemmas.Result.{IfOk-weaker}
-use Rattle.fsa.specs.Language.{Accepts}
+use Rattle.std.proofs.Common.{refl, sym, subst}
+use Rattle.word_relations.specs.Relations.{IsRepetitionOfPairs}
+use Rattle.fst_relation.specs.Relation.{IsRelated}
+use Rattle.expr_kinds.specs.declared.form.Kind.TheVariants.{Relation}
 use Rattle.expr_meaning.specs.Operators.{IsRepetitionOf}
-use Rattle.network_algebra.specs.Networks.{Counts}
-use Rattle.network_algebra.proofs.Counted.{power_any, power_some}
-use Rattle.network_algebra.proofs.Meanings.{joined_used}
+use Rattle.network_algebra.specs.Networks.{Counts, IsFor, IsNetwork, WordsOf, PairsOf, kind_of_network}
+use Rattle.network_algebra.specs.declared.network.Network.TheVariants.{Words, Pairs}
+use Rattle.network_algebra.proofs.Meanings.{pairs_for, repeated_words, repeated_pairs, symbols_of_one}
 use Rattle.network_algebra.proofs.repeating.repeat.Goals as goal
 
-pub returns-in-Any-clause-language : goal.returns-in-Any-clause-language
-returns-in-Any-clause-language g c =
-    subst (λ t. IfOk c.star.result (λ p. (w : List g.row.L.Denot) → Accepts p w ↔ IsRepetitionOf (Counts t) (Accepts c.args.m.now) w)) (sym c.in-Any.is)
-    (IfOk-weaker _ _ _ (λ p language. power_any p (Accepts c.args.m.now) language) c.star.ensures.language)
+pub returns-in_ok-repeat_automaton-in-Words-clause-meaning : goal.returns-in_ok-repeat_automaton-in-Words-clause-meaning
+returns-in_ok-repeat_automaton-in-Words-clause-meaning c =
+    let new = c.in_ok-repeat_automaton-in-Words.field-0 in
+    subst (λ n. IsFor (kind_of_network n) (IsRepetitionOf (Counts c.args.times) (WordsOf n)) (IsRepetitionOfPairs (Counts c.args.times) (PairsOf n)) (Words new)) (sym c.in-Words.is)
+    (repeated_words (Counts c.args.times) c.in-Words.m new c.in_ok-repeat_automaton-in-Words.ensures.language)
 
-pub returns-in_ok-star-in-OneOrMore-clause-letters : goal.returns-in_ok-star-in-OneOrMore-clause-letters
-returns-in_ok-star-in-OneOrMore-clause-letters g c =
-    let m = c.args.m.now in
-    IfOk-weaker _ _ _ (λ p. joined_used m m c.in_ok-star-in-OneOrMore.field-0 p (λ x h. h) c.in_ok-star-in-OneOrMore.ensures.letters) c.concat-in-OneOrMore.ensures.letters
+pub returns-in_ok-repeat_automaton-in-Pairs-clause-letters : goal.returns-in_ok-repeat_automaton-in-Pairs-clause-letters
+returns-in_ok-repeat_automaton-in-Pairs-clause-letters c symbols ok =
+    symbols_of_one symbols c.in-Pairs.m c.in_ok-repeat_automaton-in-Pairs.field-0 c.in_ok-repeat_automaton-in-Pairs.ensures.letters (subst (IsNetwork symbols) c.in-Pairs.is ok)
 
-pub returns-in_ok-star-in-OneOrMore-clause-language : goal.returns-in_ok-star-in-OneOrMore-clause-language
-returns-in_ok-star-in-OneOrMore-clause-language g c =
-    subst (λ t. IfOk c.concat-in-OneOrMore.result (λ p. (w : List g.row.L.Denot) → Accepts p w ↔ IsRepetitionOf (Counts t) (Accepts c.args.m.now) w)) (sym c.in-OneOrMore.is)
-    (IfOk-weaker _ _ _ (λ p language. power_some p c.args.m.now c.in_ok-star-in-OneOrMore.field-0 language c.in_ok-star-in-OneOrMore.ensures.language) c.concat-in-OneOrMore.ensures.language)
-
-pub returns-in-Exactly-clause-language : goal.returns-in-Exactly-clause-language
-returns-in-Exactly-clause-language g c =
-    subst (λ t. IfOk c.power.result (λ p. (w : List g.row.L.Denot) → Accepts p w ↔ IsRepetitionOf (Counts t) (Accepts c.args.m.now) w)) (sym c.in-Exactly.is) c.power.ensures.language
+pub returns-in_ok-repeat_automaton-in-Pairs-clause-meaning : goal.returns-in_ok-repeat_automaton-in-Pairs-clause-meaning
+returns-in_ok-repeat_automaton-in-Pairs-clause-meaning c =
+    let new = c.in_ok-repeat_automaton-in-Pairs.field-0 in
+    let old = c.in-Pairs.m in
+    subst (λ n. IsFor (kind_of_network n) (IsRepetitionOf (Counts c.args.times) (WordsOf n)) (IsRepetitionOfPairs (Counts c.args.times) (PairsOf n)) (Pairs new)) (sym c.in-Pairs.is)
+    (pairs_for Relation new (IsRepetitionOf (Counts c.args.times) (WordsOf (Pairs old))) (IsRepetitionOfPairs (Counts c.args.times) (IsRelated old)) refl (repeated_pairs (Counts c.args.times) old new c.in_ok-repeat_automaton-in-Pairs.ensures.language))

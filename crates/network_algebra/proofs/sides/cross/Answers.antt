@@ -1,7 +1,7 @@
 use Rattle.std.proofs.Common.{refl}
 use Rattle.fsa.specs.Language.{Accepts}
 use Rattle.expr_meaning.specs.Operators.{inner}
-use Rattle.expr_forms.specs.declared.form.Kind.TheVariants.{Relation}
+use Rattle.expr_kinds.specs.declared.form.Kind.TheVariants.{Relation}
 use Rattle.network_algebra.proofs.Meanings.{crossed_pairs, crossed_symbols, pairs_for}
 use Rattle.network_algebra.proofs.sides.cross.Goals as goal
 

@@ -1,7 +1,7 @@
 use Rattle.std.proofs.Common.{refl, sym, subst}
 use Rattle.fst_relation.specs.Relation.{IsRelated}
-use Rattle.fsm_words.specs.Relations.{IsInverse}
-use Rattle.expr_forms.specs.declared.form.Kind.TheVariants.{Relation}
+use Rattle.word_relations.specs.Relations.{IsInverse}
+use Rattle.expr_kinds.specs.declared.form.Kind.TheVariants.{Relation}
 use Rattle.network_algebra.specs.Networks.{IsFor, WordsOf, PairsOf, kind_of_network}
 use Rattle.network_algebra.specs.declared.network.Network.TheVariants.{Pairs}
 use Rattle.network_algebra.proofs.Meanings.{pairs_for}

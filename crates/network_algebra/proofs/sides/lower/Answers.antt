@@ -1,5 +1,5 @@
 use Rattle.fst_relation.specs.Relation.{IsRelated}
-use Rattle.fsm_words.specs.Relations.{IsLower}
+use Rattle.word_relations.specs.Relations.{IsLower}
 use Rattle.network_algebra.specs.Networks.{PairsOf}
 use Rattle.network_algebra.proofs.Meanings.{side_words, side_letters, lower_same}
 use Rattle.network_algebra.proofs.sides.lower.Goals as goal

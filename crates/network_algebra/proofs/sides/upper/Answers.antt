@@ -1,5 +1,5 @@
 use Rattle.fst_relation.specs.Relation.{IsRelated}
-use Rattle.fsm_words.specs.Relations.{IsUpper}
+use Rattle.word_relations.specs.Relations.{IsUpper}
 use Rattle.network_algebra.specs.Networks.{PairsOf}
 use Rattle.network_algebra.proofs.Meanings.{side_words, side_letters, upper_same}
 use Rattle.network_algebra.proofs.sides.upper.Goals as goal

@@ -1,6 +1,6 @@
 use Rattle.std.proofs.Common.{◌≡◌, Some, sym, ap, subst, ◌∙◌}
 use Rattle.std.specs.List.{Contains}
-use Rattle.fsm_words.proofs.Places.{Contains-from_slice_get}
+use Rattle.word_relations.proofs.Places.{Contains-from_slice_get}
 use Rattle.network_algebra.proofs.WordAlone.{alone_accepts}
 use Rattle.network_algebra.proofs.words.word.Goals as goal
 

@@ -1,9 +1,9 @@
 use Rattle.std.proofs.Common.{◌≡◌, ◌↔◌, Contains, arith, take_all}
 use Rattle.std.proofs.lemmas.Result.{IfOk-weaker}
 use Rattle.fsm_base.specs.declared.letters.Sym.{Sym as Symbol}
-use Rattle.fsm_words.specs.Words.{IsDistinct}
+use Rattle.word_relations.specs.Words.{IsDistinct}
 use Rattle.regex_ast.specs.declared.expr.Atom.TheVariants.{Sym}
-use Rattle.expr_parts.specs.Leaves.{seen}
+use Rattle.expr_leaves.specs.Leaves.{seen}
 use Rattle.network_build.proofs.Uses.{apart_distinct, more_among}
 use Rattle.network_build.proofs.symbols.symbols_among.Goals as goal
 

@@ -10,10 +10,8 @@ use Rattle.regex_ast.specs.declared.expr.Step.{Step}
 use Rattle.regex_ast.specs.declared.expr.Context.{Context}
 use Rattle.regex_ast.specs.Terms.{term, terms_of, links_of, contexts_of, steps_by, concat, ignore, maybe, no_term, no_link, or}
 use Rattle.regex_ast.proofs.Rows.{term-Concat, term-Ignore, term-Chain, term-Only, term-Steps}
-use Rattle.expr_forms.specs.Atoms.{symbols as leaves}
-use Rattle.expr_forms.specs.Kinds.{ChainFits, ContextsFit, EachFits, EachFitsAsLanguage, Fits, StepsFit, kind_of, kind_of_chain}
-use Rattle.expr_forms.specs.declared.form.Kind.TheVariants.{Language}
-use Rattle.expr_meaning.specs.Leaves.{stands_for}
+use Rattle.expr_kinds.specs.Kinds.{ChainFits, ContextsFit, EachFits, EachFitsAsLanguage, Fits, StepsFit, kind_of, kind_of_chain}
+use Rattle.expr_kinds.specs.declared.form.Kind.TheVariants.{Language}
 use Rattle.expr_meaning.specs.Meaning.{In, InChain, InIgnoring, Relates, RelatesChain}
 use Rattle.network_algebra.specs.Networks.{all_letters, kind_of_network, WordsOf, PairsOf}
 use Rattle.network_algebra.specs.declared.network.Network.TheVariants.{Words}
@@ -21,69 +19,71 @@ use Rattle.network_sets.specs.Split.{split_letters}
 use Rattle.network_sets.proofs.Inside.{over_left, over_right, inside_all}
 use Rattle.network_sets.proofs.Splits.{both_only}
 use Rattle.network_sets.proofs.Restrictions.{edge_only}
-use Rattle.network_expr.specs.Built.{AreBuilt, ContextsAreBuilt, IsBuilt, IsChoice, IsMeant, LinksAreBuilt, StepsAreBuilt}
+use Rattle.network_expr.specs.Parts.{kinds, stands}
+use Rattle.network_expr.specs.Built.{AreBuiltOver, ContextsAreBuiltOver, IsBuiltOver, IsChoice, IsMeant, LinksAreBuiltOver, StepsAreBuiltOver}
 use Rattle.network_expr.proofs.Weights.{weight, each_halves, links_halves, contexts_halves, steps_halves as steps_lighter}
 use Rattle.network_expr.proofs.Rows.{each_built, each_fits, each_language, chain_built, chain_fits, choice_fits, contexts_built, contexts_fit, steps_built, steps_fit, no_item, one_item, halves_joined, terms_joined, some_terms}
-use Rattle.network_expr.proofs.Meant.{IsChosen, IsChained, IsStepped, AreIn, reduced_for, alone_chosen, or_chained, chain_for, chain_halves, chain_choice, choice_halves, none_chosen, none_accepted, steps_for, steps_halves, then_stepped, context_one, context_halves, no_contexts, only_meant, words_meant, meant_words, atom_meant, maybe_meant, same_meant, turn_alone, turns_meant, suffixed_for, prefixed_meant, not_one_meant, ignore_row, ignore_one, ignore_halves, each_kind_language, empty_only, given_one, given_two}
+use Rattle.network_expr.proofs.Meant.{IsChosen, IsChained, IsStepped, AreIn, reduced_for, alone_chosen, or_chained, chain_for, chain_halves, chain_choice, choice_halves, none_chosen, none_accepted, steps_for, steps_halves, then_stepped, context_one, context_halves, no_contexts, only_meant, words_meant, meant_words, letters_meant, colon_language, maybe_meant, same_meant, turn_alone, turns_meant, suffixed_for, prefixed_meant, not_one_meant, ignore_row, ignore_one, ignore_halves, each_kind_language, empty_only, given_one, given_two}
 use Rattle.network_expr.proofs.build.+build.Goals as goal
 
-pub by_any-by_any-requires : goal.by_any-by_any-requires
-by_any-by_any-requires t c =
+pub union_operands-union_operands-requires : goal.union_operands-union_operands-requires
+union_operands-union_operands-requires t c =
     let A = c.args.alphabet.now in
     let front = c.split_at.result.0.now in
     let back = c.split_at.result.1.now in
     let whole = c.args.links.now in
     let is = halves_joined front back whole (length whole / 2) c.split_at.ensures.front c.split_at.ensures.back in
     let light = links_halves front back whole is (omega arith) (omega arith) in
-    let built = chain_built A front back (subst (λ (z : List (Link Atom)). LinksAreBuilt A (links_of z)) (sym is) c.requires.built) in
-    let fits = chain_fits front back Language (subst (λ (z : List (Link Atom)). ChainFits leaves Language (links_of z)) (sym is) c.requires.fits) in
-    (omega (arith, c.decreases, light.0), (c.requires.distinct, (over_left IsChoice front back (subst (All IsChoice) (sym is) c.requires.choices), (built.0, fits.0))))
+    let built = chain_built c.args.parts.now A front back (subst (λ (z : List (Link Atom)). LinksAreBuiltOver c.args.parts.now A (links_of z)) (sym is) c.requires.built) in
+    let fits = chain_fits c.args.parts.now front back Language (subst (λ (z : List (Link Atom)). ChainFits (kinds c.args.parts.now) Language (links_of z)) (sym is) c.requires.fits) in
+    (omega (arith, c.decreases, light.0), (c.requires.ground, (over_left IsChoice front back (subst (All IsChoice) (sym is) c.requires.choices), (built.0, fits.0))))
 
-pub by_any-by_any-requires-in_default : goal.by_any-by_any-requires-in_default
-by_any-by_any-requires-in_default t c =
+pub union_operands-union_operands-requires-in_default : goal.union_operands-union_operands-requires-in_default
+union_operands-union_operands-requires-in_default t c =
     let A = c.args.alphabet.now in
     let front = c.split_at.result.0.now in
     let back = c.split_at.result.1.now in
     let whole = c.args.links.now in
     let is = halves_joined front back whole (length whole / 2) c.split_at.ensures.front c.split_at.ensures.back in
     let light = links_halves front back whole is (omega arith) (omega arith) in
-    let built = chain_built A front back (subst (λ (z : List (Link Atom)). LinksAreBuilt A (links_of z)) (sym is) c.requires.built) in
-    let fits = chain_fits front back Language (subst (λ (z : List (Link Atom)). ChainFits leaves Language (links_of z)) (sym is) c.requires.fits) in
+    let built = chain_built c.args.parts.now A front back (subst (λ (z : List (Link Atom)). LinksAreBuiltOver c.args.parts.now A (links_of z)) (sym is) c.requires.built) in
+    let fits = chain_fits c.args.parts.now front back Language (subst (λ (z : List (Link Atom)). ChainFits (kinds c.args.parts.now) Language (links_of z)) (sym is) c.requires.fits) in
     let all = over_right IsChoice front back (subst (All IsChoice) (sym is) c.requires.choices) in
-    (omega (arith, c.decreases, light.1), (c.requires.distinct, (all, (built.1, choice_fits back all (kind_of_chain leaves Language (links_of front)) Language fits.1))))
+    (omega (arith, c.decreases, light.1), (c.requires.ground, (all, (built.1, choice_fits c.args.parts.now back all (kind_of_chain (kinds c.args.parts.now) Language (links_of front)) Language fits.1))))
 
-pub by_any-returns-in_ok-new-in-empty-clause-meaning : goal.by_any-returns-in_ok-new-in-empty-clause-meaning
-by_any-returns-in_ok-new-in-empty-clause-meaning t c =
+pub union_operands-returns-in_ok-new-in-empty-clause-meaning : goal.union_operands-returns-in_ok-new-in-empty-clause-meaning
+union_operands-returns-in_ok-new-in-empty-clause-meaning t c =
     let A = c.args.alphabet.now in
     let empty = c.in_ok-new-in-empty.field-0 in
-    subst (λ (z : List (Link Atom)). IsChosen A z (Words empty)) (sym (no_item c.args.links.now (omega arith))) (none_chosen A empty (none_accepted empty c.in_ok-new-in-empty.ensures))
+    subst (λ (z : List (Link Atom)). IsChosen c.args.parts.now A z (Words empty)) (sym (no_item c.args.links.now (omega arith))) (none_chosen c.args.parts.now A empty (none_accepted empty c.in_ok-new-in-empty.ensures))
 
-pub by_any-returns-in-len1-clause-meaning : goal.by_any-returns-in-len1-clause-meaning
-by_any-returns-in-len1-clause-meaning t c =
+pub union_operands-returns-in-len1-clause-meaning : goal.union_operands-returns-in-len1-clause-meaning
+union_operands-returns-in-len1-clause-meaning t c =
     let A = c.args.alphabet.now in
     let item = c.link-item.result in
-    subst (λ (z : List (Link Atom)). IfOk c.chosen.result (IsChosen A z)) (sym (one_item c.args.links.now item (omega arith) (omega arith) c.link-item.is)) c.chosen.ensures.meaning
+    subst (λ (z : List (Link Atom)). IfOk c.chosen.result (IsChosen c.args.parts.now A z)) (sym (one_item c.args.links.now item (omega arith) (omega arith) c.link-item.is)) c.chosen.ensures.meaning
 
-pub by_any-returns-in_ok-second-in_default-clause-meaning : goal.by_any-returns-in_ok-second-in_default-clause-meaning
-by_any-returns-in_ok-second-in_default-clause-meaning t c =
+pub union_operands-returns-in_ok-second-in_default-clause-meaning : goal.union_operands-returns-in_ok-second-in_default-clause-meaning
+union_operands-returns-in_ok-second-in_default-clause-meaning t c =
     let A = c.args.alphabet.now in
     let front = c.split_at.result.0.now in
     let back = c.split_at.result.1.now in
     let whole = c.args.links.now in
     let is = halves_joined front back whole (length whole / 2) c.split_at.ensures.front c.split_at.ensures.back in
     let all = over_right IsChoice front back (subst (All IsChoice) (sym is) c.requires.choices) in
-    IfOk-weaker _ _ _ (λ r. choice_halves A c.in_ok-first-in_default.first c.in_ok-second-in_default.second r front back whole is all c.in_ok-first-in_default.ensures.meaning c.in_ok-second-in_default.ensures.meaning) c.union.ensures.meaning
+    IfOk-weaker _ _ _ (λ r. choice_halves c.args.parts.now A c.in_ok-first-in_default.first c.in_ok-second-in_default.second r front back whole is all c.in_ok-first-in_default.ensures.meaning c.in_ok-second-in_default.ensures.meaning) c.union.ensures.meaning
 
 pub chosen-returns-clause-meaning : goal.chosen-returns-clause-meaning
 chosen-returns-clause-meaning t c =
     let A = c.args.alphabet.now in
-    subst (λ (z : Link Atom). IfOk c.network_of.result (IsChosen A (z ∷ []))) (sym c.in-Or.is)
-    (IfOk-weaker _ _ _ (alone_chosen A (term c.in-Or.operand)) c.network_of.ensures.meaning)
+    subst (λ (z : Link Atom). IfOk c.network_of.result (IsChosen c.args.parts.now A (z ∷ []))) (sym c.in-Or.is)
+    (IfOk-weaker _ _ _ (alone_chosen c.args.parts.now A (term c.in-Or.operand)) c.network_of.ensures.meaning)
 
-pub crossed-returns-in-Language-clause-meaning : goal.crossed-returns-in-Language-clause-meaning
-crossed-returns-in-Language-clause-meaning t c =
-    same_meant c.args.alphabet.now (term c.args.upper.now) (term c.args.lower.now) c.in_ok-above.above c.in_ok-below.below c.in_ok-both-in-Language.field-0 (sym c.requires.kind ∙ c.in-Language.is)
-    c.in_ok-above.ensures.words c.in_ok-below.ensures.words c.in_ok-both-in-Language.ensures.words
+pub crossed-returns-then-are_alike-clause-meaning : goal.crossed-returns-then-are_alike-clause-meaning
+crossed-returns-then-are_alike-clause-meaning t c =
+    let e = term c.args.upper.now in
+    let f = term c.args.lower.now in
+    same_meant c.args.parts.now c.args.alphabet.now e f c.in_ok-above.above c.in_ok-below.below c.in_ok-both.field-0 (colon_language c.args.parts.now c.args.alphabet.now e f c.are_alike.result c.are_alike.ensures c.if-are_alike.true) c.in_ok-above.ensures.words c.in_ok-below.ensures.words c.in_ok-both.ensures.words
 
 pub ignored-returns-in-empty-clause-letters : goal.ignored-returns-in-empty-clause-letters
 ignored-returns-in-empty-clause-letters t c = IfOk-weaker _ _ _ (λ m. empty_only (all_letters c.args.alphabet.now) m) c.word.ensures.letters
@@ -97,9 +97,9 @@ ignored-ignored-requires t c =
     let is = halves_joined front back whole (length whole / 2) c.split_at.ensures.front c.split_at.ensures.back in
     let light = each_halves front back whole is (omega arith) (omega arith) in
     let terms = terms_joined front back whole is in
-    let built = each_built A (map term front) (map term back) (subst (λ z. AreBuilt A (terms_of z)) (sym terms) c.requires.built) in
-    let fits = each_language (map term front) (map term back) (subst (λ z. EachFitsAsLanguage leaves (terms_of z)) (sym terms) c.requires.fits) in
-    (omega (arith, c.decreases, light.0), (c.requires.distinct, (built.0, fits.0)))
+    let built = each_built c.args.parts.now A (map term front) (map term back) (subst (λ z. AreBuiltOver c.args.parts.now A (terms_of z)) (sym terms) c.requires.built) in
+    let fits = each_language c.args.parts.now (map term front) (map term back) (subst (λ z. EachFitsAsLanguage (kinds c.args.parts.now) (terms_of z)) (sym terms) c.requires.fits) in
+    (omega (arith, c.decreases, light.0), (c.requires.ground, (built.0, fits.0)))
 
 pub ignored-in_ignoring-requires : goal.ignored-in_ignoring-requires
 ignored-in_ignoring-requires t c =
@@ -110,15 +110,15 @@ ignored-in_ignoring-requires t c =
     let is = halves_joined front back whole (length whole / 2) c.split_at.ensures.front c.split_at.ensures.back in
     let light = each_halves front back whole is (omega arith) (omega arith) in
     let terms = terms_joined front back whole is in
-    let built = each_built A (map term front) (map term back) (subst (λ z. AreBuilt A (terms_of z)) (sym terms) c.requires.built) in
-    let fits = each_language (map term front) (map term back) (subst (λ z. EachFitsAsLanguage leaves (terms_of z)) (sym terms) c.requires.fits) in
-    (omega (arith, c.decreases, light.1), (c.requires.distinct, (c.in_ok-first-in_default.ensures.letters, (built.1, fits.1))))
+    let built = each_built c.args.parts.now A (map term front) (map term back) (subst (λ z. AreBuiltOver c.args.parts.now A (terms_of z)) (sym terms) c.requires.built) in
+    let fits = each_language c.args.parts.now (map term front) (map term back) (subst (λ z. EachFitsAsLanguage (kinds c.args.parts.now) (terms_of z)) (sym terms) c.requires.fits) in
+    (omega (arith, c.decreases, light.1), (c.requires.ground, (c.in_ok-first-in_default.ensures.letters, (built.1, fits.1))))
 
 pub ignored-returns-in-len1-clause-words : goal.ignored-returns-in-len1-clause-words
 ignored-returns-in-len1-clause-words t c =
     let A = c.args.alphabet.now in
     let item = c.operand-item.result in
-    subst (λ (z : List (Expr Atom)). IfOk c.words_of.result (λ m. (w : List (Bound Sym)) → Accepts m w ↔ In stands_for A (ignore (terms_of (map term z))) w)) (sym (one_item c.args.operands.now item (omega arith) (omega arith) c.operand-item.is)) c.words_of.ensures.words
+    subst (λ (z : List (Expr Atom)). IfOk c.words_of.result (λ m. (w : List (Bound Sym)) → Accepts m w ↔ In (stands c.args.parts.now) A (ignore (terms_of (map term z))) w)) (sym (one_item c.args.operands.now item (omega arith) (omega arith) c.operand-item.is)) c.words_of.ensures.words
 
 pub ignored-returns-in_ok-first-in_default-clause-words : goal.ignored-returns-in_ok-first-in_default-clause-words
 ignored-returns-in_ok-first-in_default-clause-words t c =
@@ -126,13 +126,13 @@ ignored-returns-in_ok-first-in_default-clause-words t c =
     let back = c.split_at.result.1.now in
     let whole = c.args.operands.now in
     let is = halves_joined front back whole (length whole / 2) c.split_at.ensures.front c.split_at.ensures.back in
-    IfOk-weaker _ _ _ (λ m. ignore_row c.args.alphabet.now (map term front) (map term back) (map term whole) c.in_ok-first-in_default.first m (terms_joined front back whole is) (some_terms front (omega arith)) c.in_ok-first-in_default.ensures.words)
+    IfOk-weaker _ _ _ (λ m. ignore_row c.args.parts.now c.args.alphabet.now (map term front) (map term back) (map term whole) c.in_ok-first-in_default.first m (terms_joined front back whole is) (some_terms front (omega arith)) c.in_ok-first-in_default.ensures.words)
     c.in_ignoring.ensures.words
 
-pub in_chain-by_any-requires : goal.in_chain-by_any-requires
-in_chain-by_any-requires t c =
+pub in_chain-union_operands-requires : goal.in_chain-union_operands-requires
+in_chain-union_operands-requires t c =
     let all = c.are_choices.ensures.0 c.if-are_choices.true in
-    (omega (arith, c.decreases), (c.requires.distinct, (all, (c.requires.built, choice_fits c.args.links.now all (kind_of_network c.args.before) Language c.requires.fits))))
+    (omega (arith, c.decreases), (c.requires.ground, (all, (c.requires.built, choice_fits c.args.parts.now c.args.links.now all (kind_of_network c.args.before) Language c.requires.fits))))
 
 pub in_chain-in_chain-requires : goal.in_chain-in_chain-requires
 in_chain-in_chain-requires t c =
@@ -143,9 +143,9 @@ in_chain-in_chain-requires t c =
     let whole = c.args.links.now in
     let is = halves_joined front back whole (length whole / 2) c.split_at.ensures.front c.split_at.ensures.back in
     let light = links_halves front back whole is (omega arith) (omega arith) in
-    let built = chain_built A front back (subst (λ (z : List (Link Atom)). LinksAreBuilt A (links_of z)) (sym is) c.requires.built) in
-    let fits = chain_fits front back K (subst (λ (z : List (Link Atom)). ChainFits leaves K (links_of z)) (sym is) c.requires.fits) in
-    (omega (arith, c.decreases, light.0), (c.requires.distinct, (c.requires.before, (built.0, fits.0))))
+    let built = chain_built c.args.parts.now A front back (subst (λ (z : List (Link Atom)). LinksAreBuiltOver c.args.parts.now A (links_of z)) (sym is) c.requires.built) in
+    let fits = chain_fits c.args.parts.now front back K (subst (λ (z : List (Link Atom)). ChainFits (kinds c.args.parts.now) K (links_of z)) (sym is) c.requires.fits) in
+    (omega (arith, c.decreases, light.0), (c.requires.ground, (c.requires.before, (built.0, fits.0))))
 
 pub in_chain-in_chain-requires-in_default-2 : goal.in_chain-in_chain-requires-in_default-2
 in_chain-in_chain-requires-in_default-2 t c =
@@ -156,16 +156,16 @@ in_chain-in_chain-requires-in_default-2 t c =
     let whole = c.args.links.now in
     let is = halves_joined front back whole (length whole / 2) c.split_at.ensures.front c.split_at.ensures.back in
     let light = links_halves front back whole is (omega arith) (omega arith) in
-    let built = chain_built A front back (subst (λ (z : List (Link Atom)). LinksAreBuilt A (links_of z)) (sym is) c.requires.built) in
-    let fits = chain_fits front back K (subst (λ (z : List (Link Atom)). ChainFits leaves K (links_of z)) (sym is) c.requires.fits) in
+    let built = chain_built c.args.parts.now A front back (subst (λ (z : List (Link Atom)). LinksAreBuiltOver c.args.parts.now A (links_of z)) (sym is) c.requires.built) in
+    let fits = chain_fits c.args.parts.now front back K (subst (λ (z : List (Link Atom)). ChainFits (kinds c.args.parts.now) K (links_of z)) (sym is) c.requires.fits) in
     let kind = c.in_ok-first-in_default-2.ensures.meaning.kind_is in
-    (omega (arith, c.decreases, light.1), (c.requires.distinct, (c.in_ok-first-in_default-2.ensures.letters, (built.1, subst (λ k. ChainFits leaves k (links_of back)) (sym kind) fits.1))))
+    (omega (arith, c.decreases, light.1), (c.requires.ground, (c.in_ok-first-in_default-2.ensures.letters, (built.1, subst (λ k. ChainFits (kinds c.args.parts.now) k (links_of back)) (sym kind) fits.1))))
 
 pub in_chain-returns-in_ok-either-in_default-clause-letters : goal.in_chain-returns-in_ok-either-in_default-clause-letters
 in_chain-returns-in_ok-either-in_default-clause-letters t c =
     let A = c.args.alphabet.now in
     let either = c.in_ok-either-in_default.either in
-    let letters = given_two A c.args.before c.in_ok-by_any-in_default.field-0 either c.requires.before c.in_ok-by_any-in_default.ensures.letters c.in_ok-either-in_default.ensures.letters in
+    let letters = given_two A c.args.before c.in_ok-union_operands-in_default.field-0 either c.requires.before c.in_ok-union_operands-in_default.ensures.letters c.in_ok-either-in_default.ensures.letters in
     IfOk-weaker _ _ _ (λ r. given_one A either r letters) c.reduced.ensures.letters
 
 pub in_chain-returns-in_ok-either-in_default-clause-meaning : goal.in_chain-returns-in_ok-either-in_default-clause-meaning
@@ -175,8 +175,8 @@ in_chain-returns-in_ok-either-in_default-clause-meaning t c =
     let links = c.args.links.now in
     let either = c.in_ok-either-in_default.either in
     let all = c.are_choices.ensures.0 c.if-are_choices.true in
-    let chained = chain_choice A before c.in_ok-by_any-in_default.field-0 either links all c.in_ok-by_any-in_default.ensures.meaning c.in_ok-either-in_default.ensures.meaning in
-    IfOk-weaker _ _ _ (λ r. reduced_for (kind_of_chain leaves (kind_of_network before) (links_of links)) (InChain stands_for A (WordsOf before) (links_of links)) (RelatesChain stands_for A (WordsOf before) (PairsOf before) (links_of links)) either r chained) c.reduced.ensures.meaning
+    let chained = chain_choice c.args.parts.now A before c.in_ok-union_operands-in_default.field-0 either links all c.in_ok-union_operands-in_default.ensures.meaning c.in_ok-either-in_default.ensures.meaning in
+    IfOk-weaker _ _ _ (λ r. reduced_for (kind_of_chain (kinds c.args.parts.now) (kind_of_network before) (links_of links)) (InChain (stands c.args.parts.now) A (WordsOf before) (links_of links)) (RelatesChain (stands c.args.parts.now) A (WordsOf before) (PairsOf before) (links_of links)) either r chained) c.reduced.ensures.meaning
 
 pub in_chain-returns-in_ok-first-in_default-2-clause-meaning : goal.in_chain-returns-in_ok-first-in_default-2-clause-meaning
 in_chain-returns-in_ok-first-in_default-2-clause-meaning t c =
@@ -185,8 +185,8 @@ in_chain-returns-in_ok-first-in_default-2-clause-meaning t c =
     let back = c.split_at.result.1.now in
     let whole = c.args.links.now in
     let is = halves_joined front back whole (length whole / 2) c.split_at.ensures.front c.split_at.ensures.back in
-    let fits = chain_fits front back K (subst (λ (z : List (Link Atom)). ChainFits leaves K (links_of z)) (sym is) c.requires.fits) in
-    IfOk-weaker _ _ _ (λ r. chain_halves c.args.alphabet.now c.args.before c.in_ok-first-in_default-2.first r front back whole is fits.1 c.in_ok-first-in_default-2.ensures.meaning) c.in_chain-in_default-2.ensures.meaning
+    let fits = chain_fits c.args.parts.now front back K (subst (λ (z : List (Link Atom)). ChainFits (kinds c.args.parts.now) K (links_of z)) (sym is) c.requires.fits) in
+    IfOk-weaker _ _ _ (λ r. chain_halves c.args.parts.now c.args.alphabet.now c.args.before c.in_ok-first-in_default-2.first r front back whole is fits.1 c.in_ok-first-in_default-2.ensures.meaning) c.in_chain-in_default-2.ensures.meaning
 
 pub in_contexts-in_contexts-requires : goal.in_contexts-in_contexts-requires
 in_contexts-in_contexts-requires t c =
@@ -196,9 +196,9 @@ in_contexts-in_contexts-requires t c =
     let whole = c.args.contexts.now in
     let is = halves_joined front back whole (length whole / 2) c.split_at.ensures.front c.split_at.ensures.back in
     let light = contexts_halves front back whole is (omega arith) (omega arith) in
-    let built = contexts_built A front back (subst (λ (z : List (Context Atom)). ContextsAreBuilt A (contexts_of z)) (sym is) c.requires.built) in
-    let fits = contexts_fit front back (subst (λ (z : List (Context Atom)). ContextsFit leaves (contexts_of z)) (sym is) c.requires.fits) in
-    (omega (arith, c.decreases, light.0), (c.requires.distinct, (built.0, fits.0)))
+    let built = contexts_built c.args.parts.now A front back (subst (λ (z : List (Context Atom)). ContextsAreBuiltOver c.args.parts.now A (contexts_of z)) (sym is) c.requires.built) in
+    let fits = contexts_fit c.args.parts.now front back (subst (λ (z : List (Context Atom)). ContextsFit (kinds c.args.parts.now) (contexts_of z)) (sym is) c.requires.fits) in
+    (omega (arith, c.decreases, light.0), (c.requires.ground, (built.0, fits.0)))
 
 pub in_contexts-in_contexts-requires-in_default : goal.in_contexts-in_contexts-requires-in_default
 in_contexts-in_contexts-requires-in_default t c =
@@ -208,22 +208,22 @@ in_contexts-in_contexts-requires-in_default t c =
     let whole = c.args.contexts.now in
     let is = halves_joined front back whole (length whole / 2) c.split_at.ensures.front c.split_at.ensures.back in
     let light = contexts_halves front back whole is (omega arith) (omega arith) in
-    let built = contexts_built A front back (subst (λ (z : List (Context Atom)). ContextsAreBuilt A (contexts_of z)) (sym is) c.requires.built) in
-    let fits = contexts_fit front back (subst (λ (z : List (Context Atom)). ContextsFit leaves (contexts_of z)) (sym is) c.requires.fits) in
-    (omega (arith, c.decreases, light.1), (c.requires.distinct, (built.1, fits.1)))
+    let built = contexts_built c.args.parts.now A front back (subst (λ (z : List (Context Atom)). ContextsAreBuiltOver c.args.parts.now A (contexts_of z)) (sym is) c.requires.built) in
+    let fits = contexts_fit c.args.parts.now front back (subst (λ (z : List (Context Atom)). ContextsFit (kinds c.args.parts.now) (contexts_of z)) (sym is) c.requires.fits) in
+    (omega (arith, c.decreases, light.1), (c.requires.ground, (built.1, fits.1)))
 
 pub in_contexts-returns-in-empty-clause-words : goal.in_contexts-returns-in-empty-clause-words
 in_contexts-returns-in-empty-clause-words t c =
     let A = c.args.alphabet.now in
-    subst (λ (z : List (Context Atom)). IfOk c.new.result (AreIn A (contexts_of z))) (sym (no_item c.args.contexts.now (omega arith)))
-    (IfOk-weaker _ _ _ (λ m is. no_contexts A m (none_accepted m is)) c.new.ensures)
+    subst (λ (z : List (Context Atom)). IfOk c.new.result (AreIn c.args.parts.now A (contexts_of z))) (sym (no_item c.args.contexts.now (omega arith)))
+    (IfOk-weaker _ _ _ (λ m is. no_contexts c.args.parts.now A m (none_accepted m is)) c.new.ensures)
 
 pub in_contexts-returns-in_ok-right-in-len1-clause-words : goal.in_contexts-returns-in_ok-right-in-len1-clause-words
 in_contexts-returns-in_ok-right-in-len1-clause-words t c =
     let A = c.args.alphabet.now in
     let item = c.context-item.result in
-    subst (λ (z : List (Context Atom)). IfOk c.in_context.result (AreIn A (contexts_of z))) (sym (one_item c.args.contexts.now item (omega arith) (omega arith) c.context-item.is))
-    (IfOk-weaker _ _ _ (λ m. context_one A (term item.left) (term item.right) c.in_ok-left-in-len1.left c.in_ok-right-in-len1.right m c.in_ok-left-in-len1.ensures.words c.in_ok-right-in-len1.ensures.words) c.in_context.ensures.words)
+    subst (λ (z : List (Context Atom)). IfOk c.in_context.result (AreIn c.args.parts.now A (contexts_of z))) (sym (one_item c.args.contexts.now item (omega arith) (omega arith) c.context-item.is))
+    (IfOk-weaker _ _ _ (λ m. context_one c.args.parts.now A (term item.left) (term item.right) c.in_ok-left-in-len1.left c.in_ok-right-in-len1.right m c.in_ok-left-in-len1.ensures.words c.in_ok-right-in-len1.ensures.words) c.in_context.ensures.words)
 
 pub in_contexts-returns-in_ok-second-in_default-clause-letters : goal.in_contexts-returns-in_ok-second-in_default-clause-letters
 in_contexts-returns-in_ok-second-in_default-clause-letters t c =
@@ -235,7 +235,7 @@ in_contexts-returns-in_ok-second-in_default-clause-words t c =
     let back = c.split_at.result.1.now in
     let whole = c.args.contexts.now in
     let is = halves_joined front back whole (length whole / 2) c.split_at.ensures.front c.split_at.ensures.back in
-    IfOk-weaker _ _ _ (λ m. context_halves c.args.alphabet.now front back whole c.in_ok-first-in_default.first c.in_ok-second-in_default.second m is c.in_ok-first-in_default.ensures.words c.in_ok-second-in_default.ensures.words) c.union.ensures.language
+    IfOk-weaker _ _ _ (λ m. context_halves c.args.parts.now c.args.alphabet.now front back whole c.in_ok-first-in_default.first c.in_ok-second-in_default.second m is c.in_ok-first-in_default.ensures.words c.in_ok-second-in_default.ensures.words) c.union.ensures.language
 
 pub in_ignoring-in_ignoring-requires : goal.in_ignoring-in_ignoring-requires
 in_ignoring-in_ignoring-requires t c =
@@ -246,9 +246,9 @@ in_ignoring-in_ignoring-requires t c =
     let is = halves_joined front back whole (length whole / 2) c.split_at.ensures.front c.split_at.ensures.back in
     let light = each_halves front back whole is (omega arith) (omega arith) in
     let terms = terms_joined front back whole is in
-    let built = each_built A (map term front) (map term back) (subst (λ z. AreBuilt A (terms_of z)) (sym terms) c.requires.built) in
-    let fits = each_language (map term front) (map term back) (subst (λ z. EachFitsAsLanguage leaves (terms_of z)) (sym terms) c.requires.fits) in
-    (omega (arith, c.decreases, light.0), (c.requires.distinct, (c.requires.before, (built.0, fits.0))))
+    let built = each_built c.args.parts.now A (map term front) (map term back) (subst (λ z. AreBuiltOver c.args.parts.now A (terms_of z)) (sym terms) c.requires.built) in
+    let fits = each_language c.args.parts.now (map term front) (map term back) (subst (λ z. EachFitsAsLanguage (kinds c.args.parts.now) (terms_of z)) (sym terms) c.requires.fits) in
+    (omega (arith, c.decreases, light.0), (c.requires.ground, (c.requires.before, (built.0, fits.0))))
 
 pub in_ignoring-in_ignoring-requires-in_default : goal.in_ignoring-in_ignoring-requires-in_default
 in_ignoring-in_ignoring-requires-in_default t c =
@@ -259,16 +259,16 @@ in_ignoring-in_ignoring-requires-in_default t c =
     let is = halves_joined front back whole (length whole / 2) c.split_at.ensures.front c.split_at.ensures.back in
     let light = each_halves front back whole is (omega arith) (omega arith) in
     let terms = terms_joined front back whole is in
-    let built = each_built A (map term front) (map term back) (subst (λ z. AreBuilt A (terms_of z)) (sym terms) c.requires.built) in
-    let fits = each_language (map term front) (map term back) (subst (λ z. EachFitsAsLanguage leaves (terms_of z)) (sym terms) c.requires.fits) in
-    (omega (arith, c.decreases, light.1), (c.requires.distinct, (c.in_ok-first-in_default.ensures.letters, (built.1, fits.1))))
+    let built = each_built c.args.parts.now A (map term front) (map term back) (subst (λ z. AreBuiltOver c.args.parts.now A (terms_of z)) (sym terms) c.requires.built) in
+    let fits = each_language c.args.parts.now (map term front) (map term back) (subst (λ z. EachFitsAsLanguage (kinds c.args.parts.now) (terms_of z)) (sym terms) c.requires.fits) in
+    (omega (arith, c.decreases, light.1), (c.requires.ground, (c.in_ok-first-in_default.ensures.letters, (built.1, fits.1))))
 
 pub in_ignoring-returns-in_ok-words-in-len1-clause-words : goal.in_ignoring-returns-in_ok-words-in-len1-clause-words
 in_ignoring-returns-in_ok-words-in-len1-clause-words t c =
     let A = c.args.alphabet.now in
     let item = c.operand-item.result in
-    subst (λ (z : List (Expr Atom)). IfOk c.ignoring.result (λ m. (w : List (Bound Sym)) → Accepts m w ↔ InIgnoring stands_for A (Accepts c.args.before) (terms_of (map term z)) w)) (sym (one_item c.args.operands.now item (omega arith) (omega arith) c.operand-item.is))
-    (IfOk-weaker _ _ _ (λ m. ignore_one A (term item) c.args.before c.in_ok-words-in-len1.words m c.in_ok-words-in-len1.ensures.words) c.ignoring.ensures.words)
+    subst (λ (z : List (Expr Atom)). IfOk c.ignore.result (λ m. (w : List (Bound Sym)) → Accepts m w ↔ InIgnoring (stands c.args.parts.now) A (Accepts c.args.before) (terms_of (map term z)) w)) (sym (one_item c.args.operands.now item (omega arith) (omega arith) c.operand-item.is))
+    (IfOk-weaker _ _ _ (λ m. ignore_one c.args.parts.now A (term item) c.args.before c.in_ok-words-in-len1.words m c.in_ok-words-in-len1.ensures.words) c.ignore.ensures.words)
 
 pub in_ignoring-returns-in_ok-first-in_default-clause-words : goal.in_ignoring-returns-in_ok-first-in_default-clause-words
 in_ignoring-returns-in_ok-first-in_default-clause-words t c =
@@ -276,7 +276,7 @@ in_ignoring-returns-in_ok-first-in_default-clause-words t c =
     let back = c.split_at.result.1.now in
     let whole = c.args.operands.now in
     let is = halves_joined front back whole (length whole / 2) c.split_at.ensures.front c.split_at.ensures.back in
-    IfOk-weaker _ _ _ (λ m. ignore_halves c.args.alphabet.now (map term front) (map term back) (map term whole) c.args.before c.in_ok-first-in_default.first m (terms_joined front back whole is) c.in_ok-first-in_default.ensures.words) c.in_ignoring-in_default.ensures.words
+    IfOk-weaker _ _ _ (λ m. ignore_halves c.args.parts.now c.args.alphabet.now (map term front) (map term back) (map term whole) c.args.before c.in_ok-first-in_default.first m (terms_joined front back whole is) c.in_ok-first-in_default.ensures.words) c.in_ignoring-in_default.ensures.words
 
 pub in_link-returns-in_ok-either-in-Or-clause-letters : goal.in_link-returns-in_ok-either-in-Or-clause-letters
 in_link-returns-in_ok-either-in-Or-clause-letters t c =
@@ -291,15 +291,15 @@ in_link-returns-in_ok-either-in-Or-clause-meaning t c =
     let before = c.args.before in
     let either = c.in_ok-either-in-Or.either in
     let links = or (term c.in-Or.operand) no_link in
-    let chained = or_chained A before c.in_ok-network_of-in-Or.field-0 either (term c.in-Or.operand) c.in_ok-network_of-in-Or.ensures.meaning c.in_ok-either-in-Or.ensures.meaning in
-    subst (λ (z : Link Atom). IfOk c.reduced.result (IsChained A before (z ∷ []))) (sym c.in-Or.is)
-    (IfOk-weaker _ _ _ (λ r. reduced_for (kind_of_chain leaves (kind_of_network before) links) (InChain stands_for A (WordsOf before) links) (RelatesChain stands_for A (WordsOf before) (PairsOf before) links) either r chained) c.reduced.ensures.meaning)
+    let chained = or_chained c.args.parts.now A before c.in_ok-network_of-in-Or.field-0 either (term c.in-Or.operand) c.in_ok-network_of-in-Or.ensures.meaning c.in_ok-either-in-Or.ensures.meaning in
+    subst (λ (z : Link Atom). IfOk c.reduced.result (IsChained c.args.parts.now A before (z ∷ []))) (sym c.in-Or.is)
+    (IfOk-weaker _ _ _ (λ r. reduced_for (kind_of_chain (kinds c.args.parts.now) (kind_of_network before) links) (InChain (stands c.args.parts.now) A (WordsOf before) links) (RelatesChain (stands c.args.parts.now) A (WordsOf before) (PairsOf before) links) either r chained) c.reduced.ensures.meaning)
 
 pub in_step-returns-in_ok-network-in-Then-clause-meaning : goal.in_step-returns-in_ok-network-in-Then-clause-meaning
 in_step-returns-in_ok-network-in-Then-clause-meaning t c =
     let A = c.args.alphabet.now in
-    subst (λ (z : Step Atom). IfOk c.composed.result (IsStepped A c.args.before (z ∷ []))) (sym c.in-Then.is)
-    (IfOk-weaker _ _ _ (λ r. then_stepped A c.args.before c.in_ok-network-in-Then.network r (term c.in-Then.operand) c.in_ok-network-in-Then.ensures.meaning) c.composed.ensures.meaning)
+    subst (λ (z : Step Atom). IfOk c.compose.result (IsStepped c.args.parts.now A c.args.before (z ∷ []))) (sym c.in-Then.is)
+    (IfOk-weaker _ _ _ (λ r. then_stepped c.args.parts.now A c.args.before c.in_ok-network-in-Then.network r (term c.in-Then.operand) c.in_ok-network-in-Then.ensures.meaning) c.compose.ensures.meaning)
 
 pub in_steps-in_steps-requires : goal.in_steps-in_steps-requires
 in_steps-in_steps-requires t c =
@@ -310,9 +310,9 @@ in_steps-in_steps-requires t c =
     let whole = c.args.steps.now in
     let is = halves_joined front back whole (length whole / 2) c.split_at.ensures.front c.split_at.ensures.back in
     let light = steps_lighter front back whole is (omega arith) (omega arith) in
-    let built = steps_built A front back (subst (λ (z : List (Step Atom)). StepsAreBuilt A (steps_by z)) (sym is) c.requires.built) in
-    let fits = steps_fit front back K (subst (λ (z : List (Step Atom)). StepsFit leaves K (steps_by z)) (sym is) c.requires.fits) in
-    (omega (arith, c.decreases, light.0), (c.requires.distinct, (c.requires.before, (built.0, fits.0))))
+    let built = steps_built c.args.parts.now A front back (subst (λ (z : List (Step Atom)). StepsAreBuiltOver c.args.parts.now A (steps_by z)) (sym is) c.requires.built) in
+    let fits = steps_fit c.args.parts.now front back K (subst (λ (z : List (Step Atom)). StepsFit (kinds c.args.parts.now) K (steps_by z)) (sym is) c.requires.fits) in
+    (omega (arith, c.decreases, light.0), (c.requires.ground, (c.requires.before, (built.0, fits.0))))
 
 pub in_steps-in_steps-requires-in_default : goal.in_steps-in_steps-requires-in_default
 in_steps-in_steps-requires-in_default t c =
@@ -323,10 +323,10 @@ in_steps-in_steps-requires-in_default t c =
     let whole = c.args.steps.now in
     let is = halves_joined front back whole (length whole / 2) c.split_at.ensures.front c.split_at.ensures.back in
     let light = steps_lighter front back whole is (omega arith) (omega arith) in
-    let built = steps_built A front back (subst (λ (z : List (Step Atom)). StepsAreBuilt A (steps_by z)) (sym is) c.requires.built) in
-    let fits = steps_fit front back K (subst (λ (z : List (Step Atom)). StepsFit leaves K (steps_by z)) (sym is) c.requires.fits) in
+    let built = steps_built c.args.parts.now A front back (subst (λ (z : List (Step Atom)). StepsAreBuiltOver c.args.parts.now A (steps_by z)) (sym is) c.requires.built) in
+    let fits = steps_fit c.args.parts.now front back K (subst (λ (z : List (Step Atom)). StepsFit (kinds c.args.parts.now) K (steps_by z)) (sym is) c.requires.fits) in
     let kind = c.in_ok-first-in_default.ensures.meaning.kind_is in
-    (omega (arith, c.decreases, light.1), (c.requires.distinct, (c.in_ok-first-in_default.ensures.letters, (built.1, subst (λ k. StepsFit leaves k (steps_by back)) (sym kind) fits.1))))
+    (omega (arith, c.decreases, light.1), (c.requires.ground, (c.in_ok-first-in_default.ensures.letters, (built.1, subst (λ k. StepsFit (kinds c.args.parts.now) k (steps_by back)) (sym kind) fits.1))))
 
 pub in_steps-returns-in_ok-first-in_default-clause-meaning : goal.in_steps-returns-in_ok-first-in_default-clause-meaning
 in_steps-returns-in_ok-first-in_default-clause-meaning t c =
@@ -335,11 +335,11 @@ in_steps-returns-in_ok-first-in_default-clause-meaning t c =
     let back = c.split_at.result.1.now in
     let whole = c.args.steps.now in
     let is = halves_joined front back whole (length whole / 2) c.split_at.ensures.front c.split_at.ensures.back in
-    let fits = steps_fit front back K (subst (λ (z : List (Step Atom)). StepsFit leaves K (steps_by z)) (sym is) c.requires.fits) in
-    IfOk-weaker _ _ _ (λ r. steps_halves c.args.alphabet.now c.args.before c.in_ok-first-in_default.first r front back whole is fits.1 c.in_ok-first-in_default.ensures.meaning) c.in_steps-in_default.ensures.meaning
+    let fits = steps_fit c.args.parts.now front back K (subst (λ (z : List (Step Atom)). StepsFit (kinds c.args.parts.now) K (steps_by z)) (sym is) c.requires.fits) in
+    IfOk-weaker _ _ _ (λ r. steps_halves c.args.parts.now c.args.alphabet.now c.args.before c.in_ok-first-in_default.first r front back whole is fits.1 c.in_ok-first-in_default.ensures.meaning) c.in_steps-in_default.ensures.meaning
 
-pub in_turn-in_turn-requires : goal.in_turn-in_turn-requires
-in_turn-in_turn-requires t c =
+pub concat_operands-concat_operands-requires : goal.concat_operands-concat_operands-requires
+concat_operands-concat_operands-requires t c =
     let A = c.args.alphabet.now in
     let front = c.split_at.result.0.now in
     let back = c.split_at.result.1.now in
@@ -347,12 +347,12 @@ in_turn-in_turn-requires t c =
     let is = halves_joined front back whole (length whole / 2) c.split_at.ensures.front c.split_at.ensures.back in
     let light = each_halves front back whole is (omega arith) (omega arith) in
     let terms = terms_joined front back whole is in
-    let built = each_built A (map term front) (map term back) (subst (λ z. AreBuilt A (terms_of z)) (sym terms) c.requires.built) in
-    let fits = each_fits (map term front) (map term back) (subst (λ z. EachFits leaves (terms_of z)) (sym terms) c.requires.fits) in
-    (omega (arith, c.decreases, light.0), (c.requires.distinct, (built.0, fits.0)))
+    let built = each_built c.args.parts.now A (map term front) (map term back) (subst (λ z. AreBuiltOver c.args.parts.now A (terms_of z)) (sym terms) c.requires.built) in
+    let fits = each_fits c.args.parts.now (map term front) (map term back) (subst (λ z. EachFits (kinds c.args.parts.now) (terms_of z)) (sym terms) c.requires.fits) in
+    (omega (arith, c.decreases, light.0), (c.requires.ground, (built.0, fits.0)))
 
-pub in_turn-in_turn-requires-in_default : goal.in_turn-in_turn-requires-in_default
-in_turn-in_turn-requires-in_default t c =
+pub concat_operands-concat_operands-requires-in_default : goal.concat_operands-concat_operands-requires-in_default
+concat_operands-concat_operands-requires-in_default t c =
     let A = c.args.alphabet.now in
     let front = c.split_at.result.0.now in
     let back = c.split_at.result.1.now in
@@ -360,70 +360,96 @@ in_turn-in_turn-requires-in_default t c =
     let is = halves_joined front back whole (length whole / 2) c.split_at.ensures.front c.split_at.ensures.back in
     let light = each_halves front back whole is (omega arith) (omega arith) in
     let terms = terms_joined front back whole is in
-    let built = each_built A (map term front) (map term back) (subst (λ z. AreBuilt A (terms_of z)) (sym terms) c.requires.built) in
-    let fits = each_fits (map term front) (map term back) (subst (λ z. EachFits leaves (terms_of z)) (sym terms) c.requires.fits) in
-    (omega (arith, c.decreases, light.1), (c.requires.distinct, (built.1, fits.1)))
+    let built = each_built c.args.parts.now A (map term front) (map term back) (subst (λ z. AreBuiltOver c.args.parts.now A (terms_of z)) (sym terms) c.requires.built) in
+    let fits = each_fits c.args.parts.now (map term front) (map term back) (subst (λ z. EachFits (kinds c.args.parts.now) (terms_of z)) (sym terms) c.requires.fits) in
+    (omega (arith, c.decreases, light.1), (c.requires.ground, (built.1, fits.1)))
 
-pub in_turn-returns-in_ok-word-in-empty-clause-letters : goal.in_turn-returns-in_ok-word-in-empty-clause-letters
-in_turn-returns-in_ok-word-in-empty-clause-letters t c = empty_only (all_letters c.args.alphabet.now) c.in_ok-word-in-empty.field-0 c.in_ok-word-in-empty.ensures.letters
+pub concat_operands-returns-in_ok-word-in-empty-clause-letters : goal.concat_operands-returns-in_ok-word-in-empty-clause-letters
+concat_operands-returns-in_ok-word-in-empty-clause-letters t c = empty_only (all_letters c.args.alphabet.now) c.in_ok-word-in-empty.field-0 c.in_ok-word-in-empty.ensures.letters
 
-pub in_turn-returns-in_ok-word-in-empty-clause-meaning : goal.in_turn-returns-in_ok-word-in-empty-clause-meaning
-in_turn-returns-in_ok-word-in-empty-clause-meaning t c =
+pub concat_operands-returns-in_ok-word-in-empty-clause-meaning : goal.concat_operands-returns-in_ok-word-in-empty-clause-meaning
+concat_operands-returns-in_ok-word-in-empty-clause-meaning t c =
     let A = c.args.alphabet.now in
     let m = c.in_ok-word-in-empty.field-0 in
-    subst (λ (z : List (Expr Atom)). IsMeant A (concat (terms_of (map term z))) (Words m)) (sym (no_item c.args.operands.now (omega arith))) (words_meant A (concat no_term) m refl c.in_ok-word-in-empty.ensures.language)
+    subst (λ (z : List (Expr Atom)). IsMeant c.args.parts.now A (concat (terms_of (map term z))) (Words m)) (sym (no_item c.args.operands.now (omega arith))) (words_meant c.args.parts.now A (concat no_term) m refl c.in_ok-word-in-empty.ensures.language)
 
-pub in_turn-returns-in-len1-clause-meaning : goal.in_turn-returns-in-len1-clause-meaning
-in_turn-returns-in-len1-clause-meaning t c =
+pub concat_operands-returns-in-len1-clause-meaning : goal.concat_operands-returns-in-len1-clause-meaning
+concat_operands-returns-in-len1-clause-meaning t c =
     let A = c.args.alphabet.now in
     let item = c.operand-item.result in
-    subst (λ (z : List (Expr Atom)). IfOk c.network_of.result (IsMeant A (concat (terms_of (map term z))))) (sym (one_item c.args.operands.now item (omega arith) (omega arith) c.operand-item.is))
-    (IfOk-weaker _ _ _ (turn_alone A (term item)) c.network_of.ensures.meaning)
+    subst (λ (z : List (Expr Atom)). IfOk c.network_of.result (IsMeant c.args.parts.now A (concat (terms_of (map term z))))) (sym (one_item c.args.operands.now item (omega arith) (omega arith) c.operand-item.is))
+    (IfOk-weaker _ _ _ (turn_alone c.args.parts.now A (term item)) c.network_of.ensures.meaning)
 
-pub in_turn-returns-in_ok-second-in_default-clause-meaning : goal.in_turn-returns-in_ok-second-in_default-clause-meaning
-in_turn-returns-in_ok-second-in_default-clause-meaning t c =
+pub concat_operands-returns-in_ok-second-in_default-clause-meaning : goal.concat_operands-returns-in_ok-second-in_default-clause-meaning
+concat_operands-returns-in_ok-second-in_default-clause-meaning t c =
     let front = c.split_at.result.0.now in
     let back = c.split_at.result.1.now in
     let whole = c.args.operands.now in
     let is = halves_joined front back whole (length whole / 2) c.split_at.ensures.front c.split_at.ensures.back in
-    IfOk-weaker _ _ _ (λ r. turns_meant c.args.alphabet.now (map term front) (map term back) (map term whole) c.in_ok-first-in_default.first c.in_ok-second-in_default.second r (terms_joined front back whole is) c.in_ok-first-in_default.ensures.meaning c.in_ok-second-in_default.ensures.meaning) c.concat.ensures.meaning
+    IfOk-weaker _ _ _ (λ r. turns_meant c.args.parts.now c.args.alphabet.now (map term front) (map term back) (map term whole) c.in_ok-first-in_default.first c.in_ok-second-in_default.second r (terms_joined front back whole is) c.in_ok-first-in_default.ensures.meaning c.in_ok-second-in_default.ensures.meaning) c.concat.ensures.meaning
+
+pub network_of-no_such_letter-requires : goal.network_of-no_such_letter-requires
+network_of-no_such_letter-requires t c =
+    let P = c.args.parts.now in
+    let A = c.args.alphabet.now in
+    let is = ap term c.in-NotOne.is in
+    let inner = c.deref-in-NotOne.ensures in
+    (rw inner (omega (arith, c.decreases, ap weight is)), (c.requires.ground, (rw inner (subst (λ e. IsBuiltOver P A e) is c.requires.built), rw inner (subst (λ e. Fits (kinds P) e) is c.requires.fits))))
+
+pub network_of-crossed-requires : goal.network_of-crossed-requires
+network_of-crossed-requires t c =
+    let P = c.args.parts.now in
+    let A = c.args.alphabet.now in
+    let is = ap term c.in-Cross.is in
+    let upper = c.deref-in-Cross.ensures in
+    let lower = c.deref-in-Cross-2.ensures in
+    (rw (upper, lower) (omega (arith, c.decreases, ap weight is)), (c.requires.ground, (rw (upper, lower) (subst (λ e. IsBuiltOver P A e) is c.requires.built), rw (upper, lower) (subst (λ e. Fits (kinds P) e) is c.requires.fits))))
+
+pub network_of-words_of-requires : goal.network_of-words_of-requires
+network_of-words_of-requires t c =
+    let P = c.args.parts.now in
+    let A = c.args.alphabet.now in
+    let is = ap term c.in-Prefixed.is in
+    let inner = c.deref-in-Prefixed.ensures in
+    let fits = subst (λ e. Fits (kinds P) e) is c.requires.fits in
+    (rw inner (omega (arith, c.decreases, ap weight is)), (c.requires.ground, (rw inner (subst (λ e. IsBuiltOver P A e) is c.requires.built), (rw inner fits.1, rw inner fits.0))))
 
 pub network_of-ignored-requires : goal.network_of-ignored-requires
 network_of-ignored-requires t c =
     let is = ap term c.in-Ignore.is ∙ term-Ignore c.in-Ignore.operands in
     let slice = c.deref-in-Ignore.ensures.value in
-    (rw slice (omega (arith, c.decreases, ap weight is)), (c.requires.distinct, (rw slice (subst (λ e. IsBuilt c.args.alphabet.now e) is c.requires.built), rw slice (subst (λ e. Fits leaves e) is c.requires.fits))))
+    (rw slice (omega (arith, c.decreases, ap weight is)), (c.requires.ground, (rw slice (subst (λ e. IsBuiltOver c.args.parts.now c.args.alphabet.now e) is c.requires.built), rw slice (subst (λ e. Fits (kinds c.args.parts.now) e) is c.requires.fits))))
 
-pub network_of-in_turn-requires : goal.network_of-in_turn-requires
-network_of-in_turn-requires t c =
+pub network_of-concat_operands-requires : goal.network_of-concat_operands-requires
+network_of-concat_operands-requires t c =
     let is = ap term c.in-Concat.is ∙ term-Concat c.in-Concat.operands in
     let slice = c.deref-in-Concat.ensures.value in
-    (rw slice (omega (arith, c.decreases, ap weight is)), (c.requires.distinct, (rw slice (subst (λ e. IsBuilt c.args.alphabet.now e) is c.requires.built), rw slice (subst (λ e. Fits leaves e) is c.requires.fits))))
+    (rw slice (omega (arith, c.decreases, ap weight is)), (c.requires.ground, (rw slice (subst (λ e. IsBuiltOver c.args.parts.now c.args.alphabet.now e) is c.requires.built), rw slice (subst (λ e. Fits (kinds c.args.parts.now) e) is c.requires.fits))))
 
 pub network_of-in_chain-requires : goal.network_of-in_chain-requires
 network_of-in_chain-requires t c =
     let is = ap term c.in-Chain.is ∙ term-Chain c.in-Chain.first c.in-Chain.links in
     let slice = c.deref-in-Chain-2.ensures.value in
-    let built = subst (λ e. IsBuilt c.args.alphabet.now e) is c.requires.built in
-    let fits = subst (λ e. Fits leaves e) is c.requires.fits in
+    let built = subst (λ e. IsBuiltOver c.args.parts.now c.args.alphabet.now e) is c.requires.built in
+    let fits = subst (λ e. Fits (kinds c.args.parts.now) e) is c.requires.fits in
     let kind = rw c.deref-in-Chain.ensures at c.in_ok-network_of-in-Chain.ensures.meaning.kind_is in
-    (rw slice (omega (arith, c.decreases, ap weight is)), (c.requires.distinct, (c.in_ok-network_of-in-Chain.ensures.letters, (rw slice built.1, rw slice (subst (λ k. ChainFits leaves k (links_of c.in-Chain.links.items)) (sym kind) fits.1)))))
+    (rw slice (omega (arith, c.decreases, ap weight is)), (c.requires.ground, (c.in_ok-network_of-in-Chain.ensures.letters, (rw slice built.1, rw slice (subst (λ k. ChainFits (kinds c.args.parts.now) k (links_of c.in-Chain.links.items)) (sym kind) fits.1)))))
 
 pub network_of-only_in-requires : goal.network_of-only_in-requires
 network_of-only_in-requires t c =
     let is = ap term c.in-Only.is ∙ term-Only c.in-Only.centre c.in-Only.contexts in
     let centre = c.deref-in-Only.ensures in
     let slice = c.deref-in-Only-2.ensures.value in
-    (rw (centre, slice) (omega (arith, c.decreases, ap weight is)), (c.requires.distinct, (rw (centre, slice) (subst (λ e. IsBuilt c.args.alphabet.now e) is c.requires.built), rw (centre, slice) (subst (λ e. Fits leaves e) is c.requires.fits))))
+    (rw (centre, slice) (omega (arith, c.decreases, ap weight is)), (c.requires.ground, (rw (centre, slice) (subst (λ e. IsBuiltOver c.args.parts.now c.args.alphabet.now e) is c.requires.built), rw (centre, slice) (subst (λ e. Fits (kinds c.args.parts.now) e) is c.requires.fits))))
 
 pub network_of-in_steps-requires : goal.network_of-in_steps-requires
 network_of-in_steps-requires t c =
     let is = ap term c.in-Steps.is ∙ term-Steps c.in-Steps.first c.in-Steps.steps in
     let slice = c.deref-in-Steps-2.ensures.value in
-    let built = subst (λ e. IsBuilt c.args.alphabet.now e) is c.requires.built in
-    let fits = subst (λ e. Fits leaves e) is c.requires.fits in
+    let built = subst (λ e. IsBuiltOver c.args.parts.now c.args.alphabet.now e) is c.requires.built in
+    let fits = subst (λ e. Fits (kinds c.args.parts.now) e) is c.requires.fits in
     let kind = rw c.deref-in-Steps.ensures at c.in_ok-network_of-in-Steps.ensures.meaning.kind_is in
-    (rw slice (omega (arith, c.decreases, ap weight is)), (c.requires.distinct, (c.in_ok-network_of-in-Steps.ensures.letters, (rw slice built.1, rw slice (subst (λ k. StepsFit leaves k (steps_by c.in-Steps.steps.items)) (sym kind) fits.1)))))
+    (rw slice (omega (arith, c.decreases, ap weight is)), (c.requires.ground, (c.in_ok-network_of-in-Steps.ensures.letters, (rw slice built.1, rw slice (subst (λ k. StepsFit (kinds c.args.parts.now) k (steps_by c.in-Steps.steps.items)) (sym kind) fits.1)))))
 
 pub network_of-returns-in_ok-word-in-Empty-clause-letters : goal.network_of-returns-in_ok-word-in-Empty-clause-letters
 network_of-returns-in_ok-word-in-Empty-clause-letters t c = empty_only (all_letters c.args.alphabet.now) c.in_ok-word-in-Empty.field-0 c.in_ok-word-in-Empty.ensures.letters
@@ -434,84 +460,100 @@ network_of-returns-in_ok-one_letter-in-Any-clause-letters t c x used = inside_al
 pub network_of-returns-in_ok-word-in-Edge-clause-letters : goal.network_of-returns-in_ok-word-in-Edge-clause-letters
 network_of-returns-in_ok-word-in-Edge-clause-letters t c = edge_only c.args.alphabet.now c.in_ok-word-in-Edge.field-0 c.in_ok-word-in-Edge.ensures.letters
 
-pub network_of-returns-in_ok-leaves-in-Atom-clause-meaning : goal.network_of-returns-in_ok-leaves-in-Atom-clause-meaning
-network_of-returns-in_ok-leaves-in-Atom-clause-meaning t c =
+pub network_of-returns-in-Atom-clause-meaning : goal.network_of-returns-in-Atom-clause-meaning
+network_of-returns-in-Atom-clause-meaning t c = subst (λ e. IfOk c.leaf.result (IsMeant c.args.parts.now c.args.alphabet.now (term e))) (sym c.in-Atom.is) c.leaf.ensures.meaning
+
+pub network_of-returns-in_ok-symbols-in-Letters-clause-meaning : goal.network_of-returns-in_ok-symbols-in-Letters-clause-meaning
+network_of-returns-in_ok-symbols-in-Letters-clause-meaning t c =
     let A = c.args.alphabet.now in
-    let m = c.in_ok-leaves-in-Atom.field-0 in
-    subst (λ e. IsMeant A (term e) (Words m)) (sym c.in-Atom.is) (atom_meant A m c.in-Atom.atom c.in_ok-leaves-in-Atom.ensures.words)
+    let m = c.in_ok-symbols-in-Letters.field-0 in
+    let words = rw c.deref-in-Letters.ensures.value at c.in_ok-symbols-in-Letters.ensures.words in
+    subst (λ e. IsMeant c.args.parts.now A (term e) (Words m)) (sym c.in-Letters.is) (letters_meant c.args.parts.now A m c.in-Letters.letters.items (words c.args.parts.now))
+
+pub network_of-returns-in-Group-clause-meaning : goal.network_of-returns-in-Group-clause-meaning
+network_of-returns-in-Group-clause-meaning t c =
+    subst (λ x. IfOk c.network_of.result (IsMeant c.args.parts.now c.args.alphabet.now (term x))) (sym c.in-Group.is) (rw c.deref-in-Group.ensures at c.network_of.ensures.meaning)
+
+pub network_of-returns-in-Maybe-clause-meaning : goal.network_of-returns-in-Maybe-clause-meaning
+network_of-returns-in-Maybe-clause-meaning t c =
+    subst (λ x. IfOk c.perhaps.result (IsMeant c.args.parts.now c.args.alphabet.now (term x))) (sym c.in-Maybe.is) (rw c.deref-in-Maybe.ensures at c.perhaps.ensures.meaning)
+
+pub network_of-returns-in-NotOne-clause-meaning : goal.network_of-returns-in-NotOne-clause-meaning
+network_of-returns-in-NotOne-clause-meaning t c =
+    subst (λ x. IfOk c.no_such_letter.result (IsMeant c.args.parts.now c.args.alphabet.now (term x))) (sym c.in-NotOne.is) (rw c.deref-in-NotOne.ensures at c.no_such_letter.ensures.meaning)
 
 pub network_of-returns-in_ok-network_of-in-Suffixed-clause-meaning : goal.network_of-returns-in_ok-network_of-in-Suffixed-clause-meaning
 network_of-returns-in_ok-network_of-in-Suffixed-clause-meaning t c =
     let A = c.args.alphabet.now in
     let e = term c.in-Suffixed.inner.value in
     let meant = rw c.deref-in-Suffixed.ensures at c.in_ok-network_of-in-Suffixed.ensures.meaning in
-    let result = rw c.deref-in-Suffixed-2.ensures.value at c.with_suffixes.ensures.meaning in
-    subst (λ x. IfOk c.with_suffixes.result (IsMeant A (term x))) (sym c.in-Suffixed.is)
-    (IfOk-weaker _ _ _ (λ r. suffixed_for (kind_of leaves e) (In stands_for A e) (Relates stands_for A e) c.in_ok-network_of-in-Suffixed.field-0 r c.in-Suffixed.suffixes.items meant) result)
+    let result = rw c.deref-in-Suffixed-2.ensures.value at c.apply_suffixes.ensures.meaning in
+    subst (λ x. IfOk c.apply_suffixes.result (IsMeant c.args.parts.now A (term x))) (sym c.in-Suffixed.is)
+    (IfOk-weaker _ _ _ (λ r. suffixed_for (kind_of (kinds c.args.parts.now) e) (In (stands c.args.parts.now) A e) (Relates (stands c.args.parts.now) A e) c.in_ok-network_of-in-Suffixed.field-0 r c.in-Suffixed.suffixes.items meant) result)
 
-pub network_of-returns-in_ok-with_prefixes-in-Prefixed-clause-meaning : goal.network_of-returns-in_ok-with_prefixes-in-Prefixed-clause-meaning
-network_of-returns-in_ok-with_prefixes-in-Prefixed-clause-meaning t c =
+pub network_of-returns-in_ok-apply_prefixes-in-Prefixed-clause-meaning : goal.network_of-returns-in_ok-apply_prefixes-in-Prefixed-clause-meaning
+network_of-returns-in_ok-apply_prefixes-in-Prefixed-clause-meaning t c =
     let A = c.args.alphabet.now in
-    let m = c.in_ok-with_prefixes-in-Prefixed.field-0 in
-    let fits = subst (λ x. Fits leaves (term x)) c.in-Prefixed.is c.requires.fits in
+    let m = c.in_ok-apply_prefixes-in-Prefixed.field-0 in
+    let fits = subst (λ x. Fits (kinds c.args.parts.now) (term x)) c.in-Prefixed.is c.requires.fits in
     let words = rw c.deref-in-Prefixed.ensures at c.in_ok-words-in-Prefixed.ensures.words in
-    let result = rw c.deref-in-Prefixed-2.ensures.value at c.in_ok-with_prefixes-in-Prefixed.ensures.words in
-    subst (λ x. IsMeant A (term x) (Words m)) (sym c.in-Prefixed.is)
-    (prefixed_meant A c.in-Prefixed.prefixes.items (term c.in-Prefixed.inner.value) c.in_ok-words-in-Prefixed.words m fits.0 words result)
+    let result = rw c.deref-in-Prefixed-2.ensures.value at c.in_ok-apply_prefixes-in-Prefixed.ensures.words in
+    subst (λ x. IsMeant c.args.parts.now A (term x) (Words m)) (sym c.in-Prefixed.is)
+    (prefixed_meant c.args.parts.now A c.in-Prefixed.prefixes.items (term c.in-Prefixed.inner.value) c.in_ok-words-in-Prefixed.words m fits.0 words result)
 
 pub network_of-returns-in_ok-ignored-in-Ignore-clause-meaning : goal.network_of-returns-in_ok-ignored-in-Ignore-clause-meaning
 network_of-returns-in_ok-ignored-in-Ignore-clause-meaning t c =
     let A = c.args.alphabet.now in
     let m = c.in_ok-ignored-in-Ignore.field-0 in
     let is = ap term c.in-Ignore.is ∙ term-Ignore c.in-Ignore.operands in
-    let fits = subst (λ e. Fits leaves e) is c.requires.fits in
+    let fits = subst (λ e. Fits (kinds c.args.parts.now) e) is c.requires.fits in
     let terms = terms_of (map term c.in-Ignore.operands.items) in
-    subst (λ e. IsMeant A e (Words m)) (sym is) (words_meant A (ignore terms) m (each_kind_language A terms fits) (rw c.deref-in-Ignore.ensures.value at c.in_ok-ignored-in-Ignore.ensures.words))
+    subst (λ e. IsMeant c.args.parts.now A e (Words m)) (sym is) (words_meant c.args.parts.now A (ignore terms) m (each_kind_language c.args.parts.now A terms fits) (rw c.deref-in-Ignore.ensures.value at c.in_ok-ignored-in-Ignore.ensures.words))
 
-pub network_of-returns-in_ok-in_turn-in-Concat-clause-meaning : goal.network_of-returns-in_ok-in_turn-in-Concat-clause-meaning
-network_of-returns-in_ok-in_turn-in-Concat-clause-meaning t c =
+pub network_of-returns-in_ok-concat_operands-in-Concat-clause-meaning : goal.network_of-returns-in_ok-concat_operands-in-Concat-clause-meaning
+network_of-returns-in_ok-concat_operands-in-Concat-clause-meaning t c =
     let A = c.args.alphabet.now in
     let is = ap term c.in-Concat.is ∙ term-Concat c.in-Concat.operands in
     let e = concat (terms_of (map term c.in-Concat.operands.items)) in
-    let meant = rw c.deref-in-Concat.ensures.value at c.in_ok-in_turn-in-Concat.ensures.meaning in
-    subst (λ e. IfOk c.reduced.result (IsMeant A e)) (sym is)
-    (IfOk-weaker _ _ _ (λ r. reduced_for (kind_of leaves e) (In stands_for A e) (Relates stands_for A e) c.in_ok-in_turn-in-Concat.field-0 r meant) c.reduced.ensures.meaning)
+    let meant = rw c.deref-in-Concat.ensures.value at c.in_ok-concat_operands-in-Concat.ensures.meaning in
+    subst (λ e. IfOk c.reduced.result (IsMeant c.args.parts.now A e)) (sym is)
+    (IfOk-weaker _ _ _ (λ r. reduced_for (kind_of (kinds c.args.parts.now) e) (In (stands c.args.parts.now) A e) (Relates (stands c.args.parts.now) A e) c.in_ok-concat_operands-in-Concat.field-0 r meant) c.reduced.ensures.meaning)
 
 pub network_of-returns-in_ok-network_of-in-Chain-clause-meaning : goal.network_of-returns-in_ok-network_of-in-Chain-clause-meaning
 network_of-returns-in_ok-network_of-in-Chain-clause-meaning t c =
     let A = c.args.alphabet.now in
     let is = ap term c.in-Chain.is ∙ term-Chain c.in-Chain.first c.in-Chain.links in
     let e = term c.in-Chain.first.value in
-    let fits = subst (λ x. Fits leaves x) is c.requires.fits in
+    let fits = subst (λ x. Fits (kinds c.args.parts.now) x) is c.requires.fits in
     let meant = rw c.deref-in-Chain.ensures at c.in_ok-network_of-in-Chain.ensures.meaning in
     let result = rw c.deref-in-Chain-2.ensures.value at c.in_chain.ensures.meaning in
-    subst (λ x. IfOk c.in_chain.result (IsMeant A x)) (sym is)
-    (IfOk-weaker _ _ _ (λ r. chain_for A (kind_of leaves e) (In stands_for A e) (Relates stands_for A e) c.in_ok-network_of-in-Chain.field-0 r (links_of c.in-Chain.links.items) fits.1 meant) result)
+    subst (λ x. IfOk c.in_chain.result (IsMeant c.args.parts.now A x)) (sym is)
+    (IfOk-weaker _ _ _ (λ r. chain_for c.args.parts.now A (kind_of (kinds c.args.parts.now) e) (In (stands c.args.parts.now) A e) (Relates (stands c.args.parts.now) A e) c.in_ok-network_of-in-Chain.field-0 r (links_of c.in-Chain.links.items) fits.1 meant) result)
 
 pub network_of-returns-in-Only-clause-meaning : goal.network_of-returns-in-Only-clause-meaning
 network_of-returns-in-Only-clause-meaning t c =
     let is = ap term c.in-Only.is ∙ term-Only c.in-Only.centre c.in-Only.contexts in
-    subst (λ x. IfOk c.only_in.result (IsMeant c.args.alphabet.now x)) (sym is) (rw (c.deref-in-Only.ensures, c.deref-in-Only-2.ensures.value) at c.only_in.ensures.meaning)
+    subst (λ x. IfOk c.only_in.result (IsMeant c.args.parts.now c.args.alphabet.now x)) (sym is) (rw (c.deref-in-Only.ensures, c.deref-in-Only-2.ensures.value) at c.only_in.ensures.meaning)
 
 pub network_of-returns-in_ok-network_of-in-Steps-clause-meaning : goal.network_of-returns-in_ok-network_of-in-Steps-clause-meaning
 network_of-returns-in_ok-network_of-in-Steps-clause-meaning t c =
     let A = c.args.alphabet.now in
     let is = ap term c.in-Steps.is ∙ term-Steps c.in-Steps.first c.in-Steps.steps in
     let e = term c.in-Steps.first.value in
-    let fits = subst (λ x. Fits leaves x) is c.requires.fits in
+    let fits = subst (λ x. Fits (kinds c.args.parts.now) x) is c.requires.fits in
     let meant = rw c.deref-in-Steps.ensures at c.in_ok-network_of-in-Steps.ensures.meaning in
     let result = rw c.deref-in-Steps-2.ensures.value at c.in_steps.ensures.meaning in
-    subst (λ x. IfOk c.in_steps.result (IsMeant A x)) (sym is)
-    (IfOk-weaker _ _ _ (λ r. steps_for A (kind_of leaves e) (In stands_for A e) (Relates stands_for A e) c.in_ok-network_of-in-Steps.field-0 r (steps_by c.in-Steps.steps.items) fits.1 meant) result)
+    subst (λ x. IfOk c.in_steps.result (IsMeant c.args.parts.now A x)) (sym is)
+    (IfOk-weaker _ _ _ (λ r. steps_for c.args.parts.now A (kind_of (kinds c.args.parts.now) e) (In (stands c.args.parts.now) A e) (Relates (stands c.args.parts.now) A e) c.in_ok-network_of-in-Steps.field-0 r (steps_by c.in-Steps.steps.items) fits.1 meant) result)
 
 pub no_such_letter-returns-clause-meaning : goal.no_such_letter-returns-clause-meaning
 no_such_letter-returns-clause-meaning t c =
-    not_one_meant c.args.alphabet.now c.args.count (term c.args.inner.now) c.in_ok-words.words c.in_ok-not_one_times.field-0 c.requires.fits.0 c.in_ok-words.ensures.words c.in_ok-not_one_times.ensures.words
+    not_one_meant c.args.parts.now c.args.alphabet.now c.args.count (term c.args.inner.now) c.in_ok-words.words c.in_ok-not_one_times.field-0 c.requires.fits.0 c.in_ok-words.ensures.words c.in_ok-not_one_times.ensures.words
 
 pub only_in-returns-clause-meaning : goal.only_in-returns-clause-meaning
 only_in-returns-clause-meaning t c =
     let fits = c.requires.fits in
-    only_meant c.args.alphabet.now (term c.args.centre.now) (contexts_of c.args.contexts.now) c.in_ok-words.words c.in_ok-allowed.allowed c.in_ok-restricted.field-0 fits.0 fits.2 c.in_ok-words.ensures.words c.in_ok-allowed.ensures.words c.in_ok-restricted.ensures.words
+    only_meant c.args.parts.now c.args.alphabet.now (term c.args.centre.now) (contexts_of c.args.contexts.now) c.in_ok-words.words c.in_ok-allowed.allowed c.in_ok-restrict.field-0 fits.0 fits.2 c.in_ok-words.ensures.words c.in_ok-allowed.ensures.words c.in_ok-restrict.ensures.words
 
 pub perhaps-returns-clause-letters : goal.perhaps-returns-clause-letters
 perhaps-returns-clause-letters t c =
@@ -525,8 +567,8 @@ perhaps-returns-clause-meaning t c =
     let A = c.args.alphabet.now in
     let e = maybe (term c.args.inner.now) in
     let either = c.in_ok-either.either in
-    let meant = maybe_meant A (term c.args.inner.now) c.in_ok-word.field-0 c.in_ok-network_of.field-0 either c.in_ok-word.ensures.language c.in_ok-network_of.ensures.meaning c.in_ok-either.ensures.meaning in
-    IfOk-weaker _ _ _ (λ r. reduced_for (kind_of leaves e) (In stands_for A e) (Relates stands_for A e) either r meant) c.reduced.ensures.meaning
+    let meant = maybe_meant c.args.parts.now A (term c.args.inner.now) c.in_ok-word.field-0 c.in_ok-network_of.field-0 either c.in_ok-word.ensures.language c.in_ok-network_of.ensures.meaning c.in_ok-either.ensures.meaning in
+    IfOk-weaker _ _ _ (λ r. reduced_for (kind_of (kinds c.args.parts.now) e) (In (stands c.args.parts.now) A e) (Relates (stands c.args.parts.now) A e) either r meant) c.reduced.ensures.meaning
 
 pub words_of-returns-clause-words : goal.words_of-returns-clause-words
-words_of-returns-clause-words t c = meant_words c.args.alphabet.now (term c.args.expr.now) c.in_ok-network_of.field-0 c.into_words.result c.requires.language c.into_words.ensures c.in_ok-network_of.ensures.meaning
+words_of-returns-clause-words t c = meant_words c.args.parts.now c.args.alphabet.now (term c.args.expr.now) c.in_ok-network_of.field-0 c.into_words.result c.requires.language c.into_words.ensures c.in_ok-network_of.ensures.meaning

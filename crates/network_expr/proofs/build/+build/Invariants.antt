@@ -24,14 +24,14 @@ decreases-ignored l = weight_each (terms_of (map term l.operands.now)) + 2
 abbrev pub decreases-in_ignoring : goal.decreases-in_ignoring
 decreases-in_ignoring l = weight_each (terms_of (map term l.operands.now))
 
-abbrev pub decreases-in_turn : goal.decreases-in_turn
-decreases-in_turn l = weight_each (terms_of (map term l.operands.now))
+abbrev pub decreases-concat_operands : goal.decreases-concat_operands
+decreases-concat_operands l = weight_each (terms_of (map term l.operands.now))
 
 abbrev pub decreases-in_chain : goal.decreases-in_chain
 decreases-in_chain l = weight_links (links_of l.links.now) + 1
 
-abbrev pub decreases-by_any : goal.decreases-by_any
-decreases-by_any l = weight_links (links_of l.links.now)
+abbrev pub decreases-union_operands : goal.decreases-union_operands
+decreases-union_operands l = weight_links (links_of l.links.now)
 
 abbrev pub decreases-chosen : goal.decreases-chosen
 decreases-chosen l = link_weight l.link.now

@@ -2,7 +2,7 @@ use Rattle.std.proofs.Common.{sym, subst, ◌∙◌}
 use Rattle.std.specs.List.{Contains}
 use Rattle.std.proofs.lemmas.Result.{IfOk-weaker}
 use Rattle.fsm_base.specs.declared.letters.Bound.TheVariants.{Inner}
-use Rattle.fsm_words.proofs.Members.{Contains-map}
+use Rattle.word_relations.proofs.Members.{Contains-map}
 use Rattle.fsa.specs.Language.{Accepts}
 use Rattle.lang_algebra.specs.Languages.{IsLang}
 use Rattle.lang_algebra.proofs.Made.{IsLang-same}

@@ -1,5 +1,5 @@
 use Rattle.std.proofs.Common.{◌≡◌, ◌≤◌, map, take, length}
-use Rattle.fsm_words.specs.Words.{IsDistinct}
+use Rattle.word_relations.specs.Words.{IsDistinct}
 use Rattle.regex_reader.specs.Files.{statement_of}
 use Rattle.project_meaning.specs.Projects.{names_of}
 use Rattle.project_sources.specs.Rows.{HaveNone, places}

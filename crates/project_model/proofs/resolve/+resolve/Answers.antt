@@ -4,7 +4,7 @@ use Rattle.regex_ast.specs.declared.expr.Raw.{Raw}
 use Rattle.regex_ast.specs.declared.expr.Expr.TheViews.{out-RuleSet}
 use Rattle.regex_ast.proofs.Sets.{term_rules}
 use Rattle.regex_ast.proofs.Rows.{term-Ignore, term-Concat, term-Chain, term-Only, term-Steps}
-use Rattle.expr_parts.specs.Mapped.{mapped}
+use Rattle.expr_leaves.specs.Mapped.{mapped}
 use Rattle.project_model.specs.Resolved.{atom_of}
 use Rattle.project_model.proofs.Rowed.{each_more, each_ended, links_more, links_ended, steps_more, steps_ended, contexts_more, contexts_ended, mappings_more, mappings_ended, groups_more, groups_ended}
 use Rattle.project_model.proofs.resolve.+resolve.Goals as goal

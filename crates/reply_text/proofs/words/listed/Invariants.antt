@@ -1,7 +1,7 @@
 use Rattle.std.proofs.Common.{◌≡◌, ◌++◌, ◌∷◌, decimal, length, take}
 use Rattle.std.specs.List.{flat_map}
 use Rattle.std.specs.String.{string_bytes}
-use Rattle.fsm_meaning.specs.Replies.{headed, line_of}
+use Rattle.reply_meaning.specs.Replies.{headed, line_of}
 use Rattle.reply_text.proofs.words.listed.Given as goal
 
 -- the count and the word, and the lines of the texts so far

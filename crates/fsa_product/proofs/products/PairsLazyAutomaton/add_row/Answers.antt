@@ -1,6 +1,6 @@
 use Rattle.std.proofs.Common.{[], ◌∷◌, get_or, refl}
 use Rattle.std.proofs.lemmas.Option.{slice_get-get_or}
-use Rattle.fsa_walk.proofs.Exploring.{AddsRow-push}
+use Rattle.fsa_explore.proofs.Exploring.{AddsRow-push}
 use Rattle.fsa_product.specs.Pairs.{IsPair, LeadsAt}
 use Rattle.fsa_product.proofs.products.PairsLazyAutomaton.add_row.Goals as goal
 

@@ -1,4 +1,4 @@
-use Rattle.fsa_walk.specs.Explored.{AddsRow}
+use Rattle.fsa_explore.specs.Explored.{AddsRow}
 use Rattle.fsa_product.specs.Pairs.{IsPair, LeadsAt}
 use Rattle.fsa_product.proofs.products.PairsLazyAutomaton.add_row.Given as goal
 

@@ -1,6 +1,6 @@
 use Rattle.std.proofs.Common.{◌≡◌, take}
 use Rattle.std.specs.String.{string_bytes}
-use Rattle.fsm_words.specs.Words.{joined}
+use Rattle.word_relations.specs.Words.{joined}
 use Rattle.fsm_base.specs.Alphabet.{spelled}
 use Rattle.fsm_base.proofs.alphabet.Alphabet.text.Given as goal
 

@@ -1,11 +1,16 @@
-use Rattle.std.proofs.Common.{List, ℕ, [], Option, unwrap_or, ap, ◌∙◌}
-use Rattle.fsm_base.proofs.AlphabetLemmas.{text_of-lookup}
+use Rattle.std.proofs.Common.{[], ◌∙◌, arith}
+use Rattle.std.proofs.lemmas.List.{get_or_default}
+use Rattle.fsm_base.proofs.AlphabetLemmas.{text_kept}
 use Rattle.fsm_base.proofs.alphabet.Alphabet.text_of.Goals as goal
 
-pub returns-in-Some : goal.returns-in-Some
-returns-in-Some c =
-    rw (← c.self.view_is) (c.as_str.ensures ∙ ap (λ (o : Option (List ℕ)). unwrap_or o []) c.in-Some.ensures.value ∙ text_of-lookup c.self.inside.texts.entries c.args.sym)
+pub index-requires : goal.index-requires
+index-requires c =
+    let inside = c.self.inside in
+    let text = text_kept inside.symbols.items inside.texts.items inside.sorted.items inside.lone.items c.args.self.now c.args.sym c.self.invariant c.self.view_is c.requires in
+    omega (arith, text.0, inside.texts.ok)
 
-pub returns-in-None : goal.returns-in-None
-returns-in-None c =
-    rw (← c.self.view_is) (ap (λ (o : Option (List ℕ)). unwrap_or o []) c.in-None.ensures.value ∙ text_of-lookup c.self.inside.texts.entries c.args.sym)
+pub returns : goal.returns
+returns c =
+    let inside = c.self.inside in
+    let text = text_kept inside.symbols.items inside.texts.items inside.sorted.items inside.lone.items c.args.self.now c.args.sym c.self.invariant c.self.view_is c.requires in
+    c.as_str.ensures ∙ c.index.ensures ∙ get_or_default inside.texts.items c.args.sym.0 c.index.result.now [] text.0 ∙ text.1

@@ -2,7 +2,7 @@ use Rattle.std.proofs.Common.{◌≡◌, ℕ, ◌<◌, List, map, length, sym, a
 use Rattle.std.proofs.lemmas.Option.{cond_some}
 use Rattle.std.specs.String.{string_bytes}
 use Rattle.fsm_base.specs.Symbols.{IsTable, number_of, with_text}
-use Rattle.fsm_words.specs.Words.{IsDistinct}
+use Rattle.word_relations.specs.Words.{IsDistinct}
 use Rattle.fsm_base.proofs.TableLemmas.{position_or_len-strings, with_text-held, with_text-strings, IsTable-with_text, IsDistinct-strings}
 use Rattle.fsm_base.proofs.symbols.SymbolTable.intern.Goals as goal
 

@@ -2,7 +2,7 @@ use Rattle.std.proofs.Common.{List, â„•, codes, length, refl, sym, ap, subst, â—
 use Rattle.std.specs.Str.{IsUtf8}
 use Rattle.std.proofs.lemmas.Str.{IsUtf8-from_is_utf8, is_utf8-from_IsUtf8}
 use Rattle.fsm_base.specs.Normal.{nfc_of}
-use Rattle.fsm_meaning.specs.Replies.{RepliesToWord, headed, no_memory, no_word, word}
+use Rattle.reply_meaning.specs.Replies.{RepliesToWord, headed, no_memory, no_word, word}
 use Rattle.fsm_program.proofs.LastByte.{length-without_last}
 use Rattle.fsm_program.proofs.Sending.{sends_as}
 use Rattle.fsm_program.proofs.look_up.LookUp.reply.Goals as goal

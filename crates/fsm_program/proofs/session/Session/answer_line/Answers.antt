@@ -1,5 +1,5 @@
 use Rattle.std.proofs.Common.{refl, None}
-use Rattle.fsm_meaning.specs.Replies.{long}
+use Rattle.reply_meaning.specs.Replies.{long}
 use Rattle.fsm_io.proofs.Streams.{settled_by}
 use Rattle.fsm_program.specs.Steps.{steps}
 use Rattle.fsm_program.proofs.Sending.{sends_as}

@@ -1,5 +1,5 @@
 use Rattle.std.proofs.Common.{sym, subst}
-use Rattle.fsm_words.specs.Words.{IsOver}
+use Rattle.word_relations.specs.Words.{IsOver}
 use Rattle.lang_algebra.proofs.lang.Lang.accepts.Goals as goal
 
 pub accepts-requires : goal.accepts-requires

@@ -1,10 +1,10 @@
 use Rattle.std.proofs.Common.{inl, inr}
 use Rattle.std.proofs.lemmas.Result.{IfOk-weaker}
-use Rattle.fsm_words.specs.Words.{IsOver}
+use Rattle.word_relations.specs.Words.{IsOver}
 use Rattle.fsa.specs.Language as language
 use Rattle.fsa.specs.Complete.{Accepts}
 use Rattle.lang_algebra.specs.Languages.{IsLang}
-use Rattle.fsm_words.specs.Operations.{HasPart}
+use Rattle.word_relations.specs.Operations.{HasPart}
 use Rattle.lang_algebra.proofs.Made.{contains_made}
 use Rattle.lang_algebra.proofs.lang.Lang.contains.Goals as goal
 

@@ -11,5 +11,5 @@ returns g c =
     let letters = c.args.letters.now in
     IfOk-weaker c.of_small.result (IsLang dfa.letters (Accepts dfa)) (IsLang letters (language.Accepts c.args.a.now))
     (small_made letters (language.Accepts c.args.a.now) dfa c.in_ok-dfa.ensures.letters
-    (λ w. (λ h. (c.in_ok-live_part.ensures.language w).0 ((c.in_ok-dfa.ensures.language w).0 h), λ h. (c.in_ok-dfa.ensures.language w).1 ((c.in_ok-live_part.ensures.language w).1 h))))
+    (λ w. (λ h. (c.in_ok-trim.ensures.language w).0 ((c.in_ok-dfa.ensures.language w).0 h), λ h. (c.in_ok-dfa.ensures.language w).1 ((c.in_ok-trim.ensures.language w).1 h))))
     c.of_small.ensures

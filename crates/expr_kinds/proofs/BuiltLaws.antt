@@ -1,0 +1,94 @@
+-- Whether a network is built, as one pass tells it.
+use Rattle.std.proofs.Common.{◌≡◌, ◌↔◌, ℕ, Bool, true, false, ◌&&◌, IsTrue, List, [], ◌∷◌, refl, sym, ◌∙◌}
+use Rattle.regex_ast.specs.Terms.{Term, Terms, Links, Contexts, Steps, empty, any, edge, atom, letters, group, maybe, not_one, cross, suffixed, prefixed, ignore, concat, chain, only, rules, steps, no_term, then_term, no_link, or, and, less, no_context, between, no_step, cross_with, then}
+use Rattle.regex_ast.specs.declared.expr.Suffix.{Suffix}
+use Rattle.regex_ast.specs.declared.expr.Suffix.TheVariants.{Star, Plus, Power, Upper, Lower, Inverse, Reverse}
+use Rattle.expr_kinds.specs.Built.{IsBuilt, AreBuilt, LinksAreBuilt, ContextsAreBuilt, StepsAreBuilt}
+use Rattle.expr_kinds.specs.Kinds.{Leaves}
+use Rattle.expr_kinds.specs.Forms.{as_language, heavier, beside, behind, with_each, with_kind, nothing, form_in, form_in_each, form_in_links, form_in_steps, form_in_contexts, form_in_groups}
+use Rattle.expr_kinds.specs.declared.form.Form.{Form}
+use Rattle.expr_kinds.specs.declared.form.Kind.TheVariants.{Relation}
+use Rattle.expr_kinds.proofs.FitLaws.{both_true}
+
+behind_built : (f : Form) (s : Suffix) → (behind f s).built ≡ f.built
+behind_built f Star = refl
+behind_built f Plus = refl
+behind_built f (Power n) = refl
+behind_built f Upper = refl
+behind_built f Lower = refl
+behind_built f Inverse = refl
+behind_built f Reverse = refl
+
+with_each_built : (f : Form) (ss : List Suffix) → (with_each f ss).built ≡ f.built
+with_each_built f [] = refl
+with_each_built f (s ∷ ss) = with_each_built (behind f s) ss ∙ behind_built f s
+
+along : (a b : Bool) (P : Type 0) → a ≡ b → IsTrue b ↔ P → IsTrue a ↔ P
+along a b P is h = (λ t. h.0 (sym is ∙ t), λ p. is ∙ h.1 p)
+
+-- what was built before, and one more
+one_more : (before here : Bool) (P Q : Type 0) → IsTrue here ↔ P → (b : Bool) → IsTrue b ↔ (IsTrue (before && here) × Q) → IsTrue b ↔ (IsTrue before × (P × Q))
+one_more before here P Q first b rest = (
+  λ h. let a = rest.0 h in let both = (both_true before here).0 a.0 in (both.0, (first.0 both.1, a.1)),
+  λ h. rest.1 ((both_true before here).1 (h.0, first.1 h.1.0), h.1.1),
+)
+
+from_first : (first : Bool) (P Q : Type 0) → IsTrue first ↔ P → (b : Bool) → IsTrue b ↔ (IsTrue first × Q) → IsTrue b ↔ (P × Q)
+from_first first P Q is b all = (λ h. (is.0 (all.0 h).0, (all.0 h).1), λ h. all.1 (is.1 h.0, h.1))
+
+from_none : (Q : Type 0) (b : Bool) → IsTrue b ↔ (IsTrue true × Q) → IsTrue b ↔ Q
+from_none Q b all = (λ h. (all.0 h).1, λ h. all.1 (refl, h))
+
+never : (b : Bool) → IsTrue (b && false) ↔ ⊥
+never b = (λ h. let both = (both_true b false).0 h in let no : false ≡ true = both.1 in cc, λ h. absurd h)
+
+mutual
+  pub built_is : {A : Type 0} (leaves : Leaves A) (leaf : A → ℕ) (built : A → Bool) (t : Term A) → IsTrue (form_in leaves leaf built t).built ↔ IsBuilt built t
+  built_is leaves leaf built empty = (λ h. tt, λ h. refl)
+  built_is leaves leaf built any = (λ h. tt, λ h. refl)
+  built_is leaves leaf built edge = (λ h. tt, λ h. refl)
+  built_is leaves leaf built (atom a) = (λ h. h, λ h. h)
+  built_is leaves leaf built (letters all) = (λ h. h, λ h. h)
+  built_is leaves leaf built (group e) = built_is leaves leaf built e
+  built_is leaves leaf built (maybe e) = built_is leaves leaf built e
+  built_is leaves leaf built (not_one n e) = built_is leaves leaf built e
+  built_is leaves leaf built (cross e f) =
+      let pair = both_true (form_in leaves leaf built e).built (form_in leaves leaf built f).built in
+      let first = built_is leaves leaf built e in
+      let second = built_is leaves leaf built f in
+      (λ h. (first.0 (pair.0 h).0, second.0 (pair.0 h).1), λ h. pair.1 (first.1 h.0, second.1 h.1))
+  built_is leaves leaf built (suffixed e suffixes) = along (with_each (form_in leaves leaf built e) suffixes).built (form_in leaves leaf built e).built (IsBuilt built e) (with_each_built (form_in leaves leaf built e) suffixes) (built_is leaves leaf built e)
+  built_is leaves leaf built (prefixed prefixes e) = built_is leaves leaf built e
+  built_is leaves leaf built (ignore es) = from_none (AreBuilt built es) (form_in_each leaves leaf built nothing es).built (each_built leaves leaf built nothing es)
+  built_is leaves leaf built (concat es) = from_none (AreBuilt built es) (form_in_each leaves leaf built nothing es).built (each_built leaves leaf built nothing es)
+  built_is leaves leaf built (chain e links) = from_first (form_in leaves leaf built e).built (IsBuilt built e) (LinksAreBuilt built links) (built_is leaves leaf built e) (form_in_links leaves leaf built (form_in leaves leaf built e) links).built (links_built leaves leaf built (form_in leaves leaf built e) links)
+  built_is leaves leaf built (only e contexts) = from_first (form_in leaves leaf built e).built (IsBuilt built e) (ContextsAreBuilt built contexts) (built_is leaves leaf built e) (form_in_contexts leaves leaf built (form_in leaves leaf built e) contexts).built (contexts_built leaves leaf built (form_in leaves leaf built e) contexts)
+  built_is leaves leaf built (rules optional groups) = never (form_in_groups leaves leaf built nothing groups).built
+  built_is leaves leaf built (steps e more) = from_first (form_in leaves leaf built e).built (IsBuilt built e) (StepsAreBuilt built more) (built_is leaves leaf built e) (form_in_steps leaves leaf built (form_in leaves leaf built e) more).built (steps_built leaves leaf built (form_in leaves leaf built e) more)
+
+  each_built : {A : Type 0} (leaves : Leaves A) (leaf : A → ℕ) (built : A → Bool) (before : Form) (es : Terms A) → IsTrue (form_in_each leaves leaf built before es).built ↔ (IsTrue before.built × AreBuilt built es)
+  each_built leaves leaf built before no_term = (λ h. (h, tt), λ h. h.0)
+  each_built leaves leaf built before (then_term e es) = one_more before.built (form_in leaves leaf built e).built (IsBuilt built e) (AreBuilt built es) (built_is leaves leaf built e) (form_in_each leaves leaf built (beside before (form_in leaves leaf built e)) es).built (each_built leaves leaf built (beside before (form_in leaves leaf built e)) es)
+
+  links_built : {A : Type 0} (leaves : Leaves A) (leaf : A → ℕ) (built : A → Bool) (before : Form) (links : Links A) → IsTrue (form_in_links leaves leaf built before links).built ↔ (IsTrue before.built × LinksAreBuilt built links)
+  links_built leaves leaf built before no_link = (λ h. (h, tt), λ h. h.0)
+  links_built leaves leaf built before (or e links) = one_more before.built (form_in leaves leaf built e).built (IsBuilt built e) (LinksAreBuilt built links) (built_is leaves leaf built e) _ (links_built leaves leaf built (heavier (beside before (form_in leaves leaf built e)) 1) links)
+  links_built leaves leaf built before (and e links) = one_more before.built (form_in leaves leaf built e).built (IsBuilt built e) (LinksAreBuilt built links) (built_is leaves leaf built e) _ (links_built leaves leaf built (heavier (as_language (beside before (form_in leaves leaf built e))) 1) links)
+  links_built leaves leaf built before (less e links) = one_more before.built (form_in leaves leaf built e).built (IsBuilt built e) (LinksAreBuilt built links) (built_is leaves leaf built e) _ (links_built leaves leaf built (heavier (as_language (beside before (form_in leaves leaf built e))) 1) links)
+
+  steps_built : {A : Type 0} (leaves : Leaves A) (leaf : A → ℕ) (built : A → Bool) (before : Form) (more : Steps A) → IsTrue (form_in_steps leaves leaf built before more).built ↔ (IsTrue before.built × StepsAreBuilt built more)
+  steps_built leaves leaf built before no_step = (λ h. (h, tt), λ h. h.0)
+  steps_built leaves leaf built before (cross_with e more) = one_more before.built (form_in leaves leaf built e).built (IsBuilt built e) (StepsAreBuilt built more) (built_is leaves leaf built e) _ (steps_built leaves leaf built (with_kind (heavier (as_language (beside before (form_in leaves leaf built e))) 1) Relation) more)
+  steps_built leaves leaf built before (then e more) = one_more before.built (form_in leaves leaf built e).built (IsBuilt built e) (StepsAreBuilt built more) (built_is leaves leaf built e) _ (steps_built leaves leaf built (heavier (beside before (form_in leaves leaf built e)) 1) more)
+
+  contexts_built : {A : Type 0} (leaves : Leaves A) (leaf : A → ℕ) (built : A → Bool) (before : Form) (contexts : Contexts A) → IsTrue (form_in_contexts leaves leaf built before contexts).built ↔ (IsTrue before.built × ContextsAreBuilt built contexts)
+  contexts_built leaves leaf built before no_context = (λ h. (h, tt), λ h. h.0)
+  contexts_built leaves leaf built before (between l r contexts) =
+      let left = built_is leaves leaf built l in
+      let right = built_is leaves leaf built r in
+      let parts = both_true (form_in leaves leaf built l).built (form_in leaves leaf built r).built in
+      let pair = both_true before.built ((form_in leaves leaf built l).built && (form_in leaves leaf built r).built) in
+      let rest = contexts_built leaves leaf built (beside before (beside (form_in leaves leaf built l) (form_in leaves leaf built r))) contexts in (
+        λ h. let a = rest.0 h in let b = pair.0 a.0 in let c = parts.0 b.1 in (b.0, (left.0 c.0, right.0 c.1, a.1)),
+        λ h. rest.1 (pair.1 (h.0, parts.1 (left.1 h.1.0, right.1 h.1.1)), h.1.2),
+      )

@@ -1,6 +1,0 @@
-use Rattle.std.proofs.Common.{◌≡◌, ◌++◌, drop}
-use Rattle.expr_parts.specs.Leaves.{seen}
-use Rattle.expr_parts.proofs.listing.add_all.Given as goal
-
-abbrev pub invariant-leaves : goal.invariant-leaves
-invariant-leaves g l = seen l.found.items ++ drop l.leaf-index l.leaves ≡ seen l.fn.found.items ++ l.leaves

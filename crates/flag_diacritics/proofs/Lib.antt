@@ -1,0 +1,4 @@
+pub mod Passing
+pub mod Finding
+pub mod Searching
+pub mod Resolved

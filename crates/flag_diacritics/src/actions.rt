@@ -1,0 +1,139 @@
+ghost use Rattle.std.specs.Prelude.{◌≡◌, ℕ, List, None, IfOk, OnOk, length, slice_index_or};
+ghost use Rattle.word_relations.specs.Words.{IsDistinct};
+ghost use Rattle.regex_ast.specs.declared.lexc.FlagOp.{FlagOp};
+ghost use Rattle.std.specs.Option.{option_map};
+ghost use Rattle.flag_diacritics.specs.Numbers.{Keeps, StandsFor, AreActions, is_number, passes_by, number_behind, behind_action};
+
+use crate::texts::TextTable;
+use regex_ast::{FlagKind, FlagOp};
+use std::alloc::{AllocError, Global};
+
+/// A flag with its feature and its value by numbers.
+#[derive(Clone, Copy, Debug)]
+pub struct Action {
+    /// What the flag does.
+    pub kind: FlagKind,
+    /// The number of its feature.
+    pub feature: usize,
+    /// The number of its value, where it has one.
+    pub value: Option<usize>,
+}
+
+/// Flags by numbers, and how many features they have.
+#[derive(Drop)]
+pub struct Actions {
+    /// The flags, in their order.
+    pub list: Vec<Action>,
+    /// How many features there are.
+    pub features: usize,
+}
+
+/// Numbers the features and the values of flags.
+pub fn actions_of(alloc: Global, flags: &[FlagOp]) -> Result<Actions, AllocError>
+    ensures { IfOk result (λ actions. (features values : List (List ℕ)) × AreActions features values flags.now actions.list.items × (actions.features ≡ length features)) }
+{
+    let mut features = TextTable::new(alloc);
+    let mut values = TextTable::new(alloc);
+    let mut list = Vec::new(alloc);
+    for flag in flags {
+        let action = action_of(alloc, flag, &mut features, &mut values)?;
+        list.push(action)?;
+    }
+    Ok(Actions {
+        list,
+        features: features.len(),
+    })
+}
+
+/// A flag by numbers. Its feature and its value get a number where they have none.
+fn action_of(
+    alloc: Global,
+    flag: &FlagOp,
+    features: &mut TextTable,
+    values: &mut TextTable,
+) -> Result<Action, AllocError>
+    requires values { IsDistinct values.old }
+    ensures features { OnOk result (Keeps features.old features.new) }
+    ensures features_once { OnOk result (IsDistinct features.new) }
+    ensures values { OnOk result (Keeps values.old values.new) }
+    ensures values_once { OnOk result (IsDistinct values.new) }
+    ensures action { IfOk result (λ action. StandsFor features.new values.new flag.now action) }
+{
+    let feature = features.number_of(alloc, flag.feature.as_str())?;
+    let value = match &flag.value {
+        Some(value) => Some(values.number_of(alloc, value.as_str())?),
+        None => None,
+    };
+    Ok(Action {
+        kind: flag.kind,
+        feature,
+        value,
+    })
+}
+
+/// What the features are behind a flag, or None where it doesn't pass.
+pub fn behind_action(
+    alloc: Global,
+    now: &[Option<usize>],
+    action: &Action,
+) -> Result<Option<Vec<Option<usize>>>, AllocError>
+    ensures { IfOk result (λ behind. option_map (λ list. list.items) behind ≡ behind_action now.now action.now) }
+{
+    let value = value_at(now, action.feature);
+    if !passes(value, action) {
+        return Ok(None);
+    }
+    let mut behind = Vec::from_slice(alloc, now)?;
+    if action.feature < behind.len() {
+        behind[action.feature] = value_behind(value, action);
+    }
+    Ok(Some(behind))
+}
+
+/// The value of a feature; a feature that isn't there is neutral.
+fn value_at(now: &[Option<usize>], feature: usize) -> Option<usize>
+    ensures { result ≡ slice_index_or now.now feature None }
+{
+    if feature < now.len() {
+        now[feature]
+    } else {
+        None
+    }
+}
+
+/// Whether a flag passes where its feature has this value.
+fn passes(now: Option<usize>, action: &Action) -> bool
+    ensures { result ≡ passes_by now action.now.kind action.now.value }
+{
+    match (action.kind, action.value) {
+        (FlagKind::P, _) => true,
+        (FlagKind::C, _) => true,
+        (FlagKind::R, None) => now.is_some(),
+        (FlagKind::R, Some(value)) => is_number(now, value),
+        (FlagKind::D, None) => now.is_none(),
+        (FlagKind::D, Some(value)) => !is_number(now, value),
+        (FlagKind::U, None) => true,
+        (FlagKind::U, Some(value)) => now.is_none() || is_number(now, value),
+    }
+}
+
+/// Whether the feature has this value.
+fn is_number(now: Option<usize>, value: usize) -> bool
+    ensures { result ≡ is_number now value }
+{
+    match now {
+        Some(number) => number == value,
+        None => false,
+    }
+}
+
+/// The value of its feature behind a flag that passes.
+fn value_behind(now: Option<usize>, action: &Action) -> Option<usize>
+    ensures { result ≡ number_behind now action.now.kind action.now.value }
+{
+    match action.kind {
+        FlagKind::P | FlagKind::U => action.value,
+        FlagKind::C => None,
+        FlagKind::R | FlagKind::D => now,
+    }
+}

@@ -1,0 +1,18 @@
+//! Flag diacritics (Beesley and Karttunen, Finite State Morphology, 2003, chapter 7), resolved into states.
+//!
+//! - [`Tape`]: a letter of a network with flags: a pair of symbols, or a flag on one of the two sides.
+//! - [`resolve`]: the transducer of the pairs on those tapes whose flags pass (`specs/Tapes.antt`). No flag is left in
+//!   it, so whoever looks words up needs none.
+//! - `actions`: flags by numbers, and what they do (`specs/Numbers.antt`). `texts`: numbers of features and values.
+//!   `search`: the states of the result (`specs/Search.antt`), which `tables` numbers.
+#![tactic(auto)]
+
+mod actions;
+mod resolution;
+mod search;
+mod tables;
+mod tape;
+mod texts;
+
+pub use resolution::resolve;
+pub use tape::Tape;

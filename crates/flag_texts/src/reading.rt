@@ -1,0 +1,163 @@
+ghost use Rattle.std.specs.Prelude.{◌≡◌, ◌≢◌, ◌↔◌, ◌++◌, ◌∷◌, [], ℕ, List, Option, None, Some, IfOk, IsTrue, MatchOption};
+ghost use Rattle.std.specs.Option.{option_map};
+ghost use Rattle.regex_ast.specs.Flags.{IsFlag, IsFeature, IsFeatureByte};
+ghost use Rattle.regex_ast.specs.declared.lexc.FlagKind.{FlagKind};
+ghost use Rattle.flag_texts.specs.Reading.{IsFlagOf, MayHave, HasNo, has_value, has_no_value, letter_of, ending_of};
+
+use fsm_base::Text;
+use regex_ast::{FlagKind, FlagOp};
+use std::alloc::{AllocError, Global};
+
+/// The parts of a flag.
+#[derive(Clone, Copy)]
+struct Parts<'a> {
+    /// What it does.
+    kind: FlagKind,
+    /// Its feature.
+    feature: &'a str,
+    /// Its value, where it has one.
+    value: Option<&'a str>,
+}
+
+/// The flag diacritic that a text is, or `None` where it is none. A flag is `@X.F.V@` or `@X.F@`: X is `P` or `U` with a
+/// value V, `C` without, `R` or `D` with or without; F and V aren't empty and have no blank, `.` or `@`.
+pub fn read_flag(alloc: Global, text: &str) -> Result<Option<FlagOp>, AllocError>
+    ensures { IfOk result (λ flag. MatchOption flag (IsFlag text.now → ⊥) (IsFlagOf text.now)) }
+{
+    let Some(parts) = parts_of(text) else {
+        return Ok(None);
+    };
+    let feature = Text::of(alloc, parts.feature)?;
+    let value = match parts.value {
+        Some(value) => Some(Text::of(alloc, value)?),
+        None => None,
+    };
+    Ok(Some(FlagOp {
+        kind: parts.kind,
+        feature,
+        value,
+    }))
+}
+
+/// The parts of the flag that a text is, or `None` where it is none.
+fn parts_of(text: &str) -> Option<Parts<'_>>
+    ensures { MatchOption result (IsFlag text.now → ⊥) (λ parts. IsFeature parts.feature.now × (text.now ≡ 64 ∷ letter_of parts.kind ∷ 46 ∷ parts.feature.now ++ ending_of (option_map (λ v. v.now) parts.value)) × MayHave parts.kind (option_map (λ v. v.now) parts.value)) }
+{
+    let Some(inner) = between(text) else {
+        return None;
+    };
+    let Some((letter, rest)) = split_dot(inner) else {
+        return None;
+    };
+    let Some(kind) = kind_of(letter) else {
+        return None;
+    };
+    match split_dot(rest) {
+        Some((feature, value)) => {
+            if !has_value(kind) {
+                return None;
+            }
+            if !is_part(feature) {
+                return None;
+            }
+            if !is_part(value) {
+                return None;
+            }
+            Some(Parts {
+                kind,
+                feature,
+                value: Some(value),
+            })
+        }
+        None => {
+            if !has_no_value(kind) {
+                return None;
+            }
+            if !is_part(rest) {
+                return None;
+            }
+            Some(Parts {
+                kind,
+                feature: rest,
+                value: None,
+            })
+        }
+    }
+}
+
+/// What stands between the two `@`, or `None` where the text doesn't begin and end with one and has no others.
+fn between(text: &str) -> Option<&str>
+    ensures { MatchOption result ((inner : List ℕ) → HasNo 64 inner → text.now ≢ 64 ∷ inner ++ 64 ∷ []) (λ inner. text.now ≡ 64 ∷ inner.now ++ 64 ∷ []) }
+{
+    let (before, rest) = split_mark(text)?;
+    let (inner, behind) = split_mark(rest)?;
+    if !before.is_empty() {
+        return None;
+    }
+    if !behind.is_empty() {
+        return None;
+    }
+    Some(inner)
+}
+
+/// What stands before the first `@`, and what behind it, or `None` where there is no `@`.
+fn split_mark(text: &str) -> Option<(&str, &str)>
+    ensures { MatchOption result (HasNo 64 text.now) (λ parts. HasNo 64 parts.0.now × (text.now ≡ parts.0.now ++ 64 ∷ parts.1.now)) }
+{
+    text.split_once('@')
+}
+
+/// What stands before the first dot, and what behind it, or `None` where there is no dot.
+fn split_dot(text: &str) -> Option<(&str, &str)>
+    ensures { MatchOption result (HasNo 46 text.now) (λ parts. HasNo 46 parts.0.now × (text.now ≡ parts.0.now ++ 46 ∷ parts.1.now)) }
+{
+    text.split_once('.')
+}
+
+/// The kind of a letter, or `None` where it has none.
+fn kind_of(letter: &str) -> Option<FlagKind>
+    ensures { MatchOption result ((kind : FlagKind) → letter.now ≢ letter_of kind ∷ []) (λ kind. letter.now ≡ letter_of kind ∷ []) }
+{
+    match letter.as_bytes() {
+        [b'P'] => Some(FlagKind::P),
+        [b'C'] => Some(FlagKind::C),
+        [b'R'] => Some(FlagKind::R),
+        [b'D'] => Some(FlagKind::D),
+        [b'U'] => Some(FlagKind::U),
+        _ => None,
+    }
+}
+
+/// Whether a flag of the kind may have a value.
+fn has_value(kind: FlagKind) -> bool
+    ensures { result ≡ has_value kind }
+{
+    match kind {
+        FlagKind::P | FlagKind::R | FlagKind::D | FlagKind::U => true,
+        FlagKind::C => false,
+    }
+}
+
+/// Whether a flag of the kind may have none.
+fn has_no_value(kind: FlagKind) -> bool
+    ensures { result ≡ has_no_value kind }
+{
+    match kind {
+        FlagKind::C | FlagKind::R | FlagKind::D => true,
+        FlagKind::P | FlagKind::U => false,
+    }
+}
+
+/// Whether a text may be a feature or a value.
+fn is_part(text: &str) -> bool
+    ensures { IsTrue result ↔ IsFeature text.now }
+{
+    !text.is_empty() && text.as_bytes().iter().all(|byte| is_part_byte(*byte))
+}
+
+/// Whether a byte may stand in a feature or a value.
+fn is_part_byte(byte: u8) -> bool
+    ensures { IsTrue result ↔ IsFeatureByte byte }
+{
+    !matches!(byte, b'\t' | b'\n' | b' ' | b'.' | b'@')
+}

@@ -1,0 +1,13 @@
+pub mod Marking
+pub mod Added
+pub mod OutEdges
+pub mod Closed
+pub mod TargetsLemmas
+pub mod Numbered
+pub mod Exploring
+pub mod Built
+pub mod EpsilonEdges
+pub mod Signed
+pub mod SameMarks
+pub mod Grouping
+pub mod Spreading

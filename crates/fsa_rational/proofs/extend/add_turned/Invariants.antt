@@ -1,6 +1,0 @@
-use Rattle.std.proofs.Common.{take}
-use Rattle.fsa_rational.specs.Shapes.{Extends, ComesFrom, turned}
-use Rattle.fsa_rational.proofs.extend.add_turned.Given as goal
-
-abbrev pub invariant-loop-edge : goal.invariant-loop-edge
-invariant-loop-edge g l = Extends l.initial.m l.m (ComesFrom (turned l.by) (take l.edge-index l.edges))

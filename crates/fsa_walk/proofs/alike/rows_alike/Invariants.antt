@@ -1,5 +1,0 @@
-use Rattle.fsa_walk.proofs.Grouping.{AreGrouped, HasSignature}
-use Rattle.fsa_walk.proofs.alike.rows_alike.Given as goal
-
-abbrev pub invariant-loop-place : goal.invariant-loop-place
-invariant-loop-place l = AreGrouped (HasSignature l.rows) l.place l.found l.firsts.items

@@ -1,8 +1,0 @@
-pub mod Marks
-pub mod Reaches
-pub mod Marking
-pub mod Targets
-pub mod Explored
-pub mod Silent
-pub mod Signatures
-pub mod Alike

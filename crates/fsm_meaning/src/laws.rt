@@ -1,7 +1,0 @@
-ghost use Rattle.fsm_meaning.specs.OneReply.{OneReply};
-
-/// The law that a line has one reply: two lawful ones are the same, unless one says that there was no memory, or both show a
-/// loop, of which there may be several. It does nothing when it runs.
-pub fn one_reply()
-    ensures { OneReply }
-{}

@@ -1,0 +1,4 @@
+pub mod Adding
+pub mod Built
+pub mod Steps
+pub mod Language

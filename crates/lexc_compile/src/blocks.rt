@@ -1,0 +1,103 @@
+ghost use Rattle.std.specs.Prelude.{◌≡◌, ◌+◌, ◌<◌, ◌≤◌, ◌↔◌, ◌++◌, false, IsTrue, OnOk, length, replicate};
+ghost use Rattle.fsa_rational.specs.Shapes.{epsilon, shifted, Extends, ComesFrom, LeavesFinal, FitsBelow};
+ghost use Rattle.lexc_compile.specs.Blocks.{AddsBlock, IsThere, target_of};
+
+use crate::entry::LexEntry;
+use flag_diacritics::Tape;
+use fsa::{Edge, Fsa};
+use std::alloc::AllocError;
+
+/// Adds the states and the edges of an entry of the lexicon at a place, among so many lexicons.
+pub fn add_entry(
+    m: &mut Fsa<Tape>,
+    count: usize,
+    place: usize,
+    entry: &LexEntry,
+) -> Result<(), AllocError>
+    requires homes { count + 2 ≤ length m.old.finals }
+    requires place { place < count }
+    requires next { IsThere count entry.now.next }
+    ensures { OnOk result (AddsBlock count place entry.now m.old m.new) }
+{
+    let begin = m.states();
+    add_states(m, entry.net.states())?;
+    add_epsilon(m, place + 1, begin)?;
+    add_shifted(m, entry.net.edges(), begin)?;
+    leave_finals(m, entry.net.finals(), begin, target_of(count, entry.next))
+}
+
+/// Whether a path may go on there: at its end, or in a lexicon that there is.
+pub fn is_there(count: usize, next: Option<u32>) -> bool
+    ensures { IsTrue result ↔ IsThere count next }
+{
+    match next {
+        Some(place) => (place as usize) < count,
+        None => true,
+    }
+}
+
+/// The state of the lexicon that a path goes on in, or of its end.
+fn target_of(count: usize, next: Option<u32>) -> usize
+    requires room { count < 18446744073709551615 }
+    ensures { result ≡ target_of count next }
+{
+    match next {
+        Some(place) => place as usize + 1,
+        None => count + 1,
+    }
+}
+
+/// Adds states that aren't final.
+fn add_states(m: &mut Fsa<Tape>, more: usize) -> Result<(), AllocError>
+    ensures finals { OnOk result (m.new.finals ≡ m.old.finals ++ replicate more false) }
+    ensures edges { OnOk result (m.new.edges ≡ m.old.edges) }
+{
+    for _added in 0..more {
+        m.add_state()?;
+    }
+    Ok(())
+}
+
+/// Adds an epsilon edge.
+pub fn add_epsilon(m: &mut Fsa<Tape>, from: usize, to: usize) -> Result<(), AllocError>
+    requires from { from < length m.old.finals }
+    requires to { to < length m.old.finals }
+    ensures { OnOk result (Extends m.old m.new (λ e. e ≡ epsilon from to)) }
+{
+    m.add_edge(Edge {
+        from,
+        letter: None,
+        to,
+    })
+}
+
+/// Adds edges with the numbers of their states raised.
+fn add_shifted(m: &mut Fsa<Tape>, edges: &[Edge<Tape>], by: usize) -> Result<(), AllocError>
+    requires { FitsBelow edges.now by (length m.old.finals) }
+    ensures { OnOk result (Extends m.old m.new (ComesFrom (shifted by) edges.now)) }
+{
+    let _states = m.states();
+    for edge in edges {
+        m.add_edge(Edge {
+            from: edge.from + by,
+            letter: edge.letter,
+            to: edge.to + by,
+        })?;
+    }
+    Ok(())
+}
+
+/// Adds an epsilon edge from each final state, its number raised, to a state.
+fn leave_finals(m: &mut Fsa<Tape>, finals: &[bool], by: usize, to: usize) -> Result<(), AllocError>
+    requires room { length finals.now + by ≤ length m.old.finals }
+    requires to { to < length m.old.finals }
+    ensures { OnOk result (Extends m.old m.new (LeavesFinal finals.now by to)) }
+{
+    let _states = m.states();
+    for (state, is_final) in finals.iter().enumerate() {
+        if *is_final {
+            add_epsilon(m, state + by, to)?;
+        }
+    }
+    Ok(())
+}

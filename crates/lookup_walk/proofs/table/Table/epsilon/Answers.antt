@@ -1,0 +1,8 @@
+use Rattle.std.proofs.Common.{◌≡◌, ◌↔◌, List, None, subst, ◌∙◌}
+use Rattle.std.specs.List.{Contains}
+use Rattle.lookup_walk.specs.declared.moves.Move.{Move}
+use Rattle.lookup_walk.proofs.table.Table.epsilon.Goals as goal
+
+pub returns : goal.returns
+returns c = λ m.
+    subst (λ (moves : List Move). Contains c.epsilon_in.result.now m ↔ (Contains moves m × (m.at ≡ record { state = c.args.state; read = None }))) (c.as_slice.ensures.value ∙ c.self.view_is) (c.epsilon_in.ensures m)

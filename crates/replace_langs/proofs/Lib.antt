@@ -1,0 +1,4 @@
+mod Listing
+mod Tables
+pub mod Sets
+mod Paired

@@ -1,0 +1,4 @@
+mod Unions
+mod BlockWords
+mod KeptWords
+mod Relations

@@ -1,0 +1,5 @@
+mod Splits
+mod Encode
+mod Reading
+mod Bridge
+pub mod Claimed

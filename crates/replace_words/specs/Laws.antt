@@ -1,0 +1,18 @@
+-- What places rewrite, by words of marks.
+use Rattle.std.specs.Prelude.{◌≡◌, ◌↔◌, Bool, List, Contains}
+use Rattle.std.specs.List.{filter_map}
+use Rattle.fsm_base.specs.declared.letters.Bound.{Bound}
+use Rattle.fsm_base.specs.declared.letters.Sym.{Sym}
+use Rattle.replace_words.specs.declared.marks.Mark.{Mark}
+use Rattle.replace_words.specs.Places.{Rules, HasNoEmptyCentre, IsRewrittenAt}
+use Rattle.replace_words.specs.Marked.{upper_of, lower_of, symbol_of, IsMarked}
+
+-- some word of marks keeps the rules and has these two sides
+abbrev pub IsMarkedBy : {P : Type 0} → Rules P → List P → List Sym → Bool → List Sym → List Sym → Type 0
+IsMarkedBy of places symbols optional u w =
+    (z : List (Bound Mark)) × IsMarked of symbols places optional z × (filter_map (symbol_of upper_of) z ≡ u) × (filter_map (symbol_of lower_of) z ≡ w)
+
+abbrev pub RewritingsAreMarkedWords : Type 1
+RewritingsAreMarkedWords =
+    (P : Type 0) (of : Rules P) (places : List P) (symbols : List Sym) (optional : Bool) (u w : List Sym)
+    → ((p : P) → Contains places p → HasNoEmptyCentre of p) → IsRewrittenAt of places symbols optional u w ↔ IsMarkedBy of places symbols optional u w

@@ -1,0 +1,4 @@
+pub mod Places
+pub mod Claims
+pub mod Marked
+pub mod Laws

@@ -1,0 +1,5 @@
+mod Letters
+mod MarkedStrings
+mod ContextPlaces
+mod KeptStrings
+mod SpelledStrings
