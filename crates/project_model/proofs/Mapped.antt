@@ -228,9 +228,9 @@ module _ {A B : Type 0} (leaf : B → Bool) (f : A → B) where
     steps_built (cross_with e more) = let a = mapped_built e in let b = steps_built more in λ i. a i × b i
     steps_built (then e more) = let a = mapped_built e in let b = steps_built more in λ i. a i × b i
 
--- whether each operand that must be a language is one, where leaves of which what is listed has a property are the same if what
--- they are replaced by is
-module _ {A B C : Type 0} (f : A → B) (here : Leaves A) (there : Leaves B) (of : A → List C) (P : C → Type 0) (kinds : (a : A) → there.kind (f a) ≡ here.kind a)
+-- the kind, and whether each operand that must be a language is one, where leaves of which what is listed has a property have the
+-- kind of what they are replaced by, and are the same if that is
+module _ {A B C : Type 0} (f : A → B) (here : Leaves A) (there : Leaves B) (of : A → List C) (P : C → Type 0) (kinds : (a : A) → All P (of a) → there.kind (f a) ≡ here.kind a)
     (same : (a b : A) → All P (of a) → All P (of b) → there.same (f a) (f b) ≡ here.same a b) where
   -- what is known of a half
   abbrev Known : Half A → Type 0
@@ -306,11 +306,11 @@ module _ {A B C : Type 0} (f : A → B) (here : Leaves A) (there : Leaves B) (of
       ap (λ (t : Bool). cond t Language Relation) ((λ i. are_alike there.same (a i) (b i)) ∙ alike (half e) (half d) (half_known e p) (half_known d q))
 
   mutual
-    mapped_kind : (e : Term A) → All P (listed of e) → kind_of there (mapped f e) ≡ kind_of here e
+    pub mapped_kind : (e : Term A) → All P (listed of e) → kind_of there (mapped f e) ≡ kind_of here e
     mapped_kind empty held = refl
     mapped_kind any held = refl
     mapped_kind edge held = refl
-    mapped_kind (atom a) held = kinds a
+    mapped_kind (atom a) held = kinds a held
     mapped_kind (letters all) held = refl
     mapped_kind (group e) held = mapped_kind e held
     mapped_kind (maybe e) held = mapped_kind e held

@@ -1,14 +1,21 @@
 -- Definitions without fault: their leaves stand in the alphabet, and so they do by their numbers.
-use Rattle.std.proofs.Common.{◌≡◌, ℕ, false, List, [], ◌∷◌, map, All, Contains, IsTrue, Some, None, sym, ap, subst}
+use Rattle.std.proofs.Common.{◌≡◌, ℕ, false, List, [], ◌∷◌, map, All, Contains, IsTrue, Some, None, refl, sym, ap, subst}
 use Rattle.std.proofs.lemmas.List.Elements.{All-nil, All-cons, All-head, All-tail}
 use Rattle.std.specs.List.{flat_map}
 use Rattle.std.specs.Option.{option_map}
 use Rattle.regex_ast.specs.declared.expr.Atom.{Atom}
+use Rattle.regex_ast.specs.declared.expr.Atom.TheVariants.{Sym, Name}
 use Rattle.regex_ast.specs.declared.expr.Raw.{Raw}
 use Rattle.regex_ast.specs.Terms.{Term}
+<<<<<<<
 use Rattle.expr_kinds.specs.Atoms.{symbols, is_symbol, is_symbol_of}
+=======
+use Rattle.expr_kinds.specs.Atoms.{symbols, is_symbol, kinds_at, leaves_at}
+>>>>>>>
 use Rattle.expr_kinds.specs.Built.{IsBuilt}
 use Rattle.expr_kinds.specs.Kinds.{Fits}
+use Rattle.expr_kinds.specs.declared.form.Form.{Form}
+use Rattle.expr_kinds.proofs.LeafLaws.{fits_alike}
 use Rattle.expr_leaves.specs.Mapped.{mapped}
 use Rattle.project_meaning.specs.Trees.{Body, xfst, lexc, twolc}
 use Rattle.project_meaning.specs.Leaves.{Leaf, symbol, named, leaf_of, resolved, symbol_in, symbols_in}
@@ -28,7 +35,23 @@ use Rattle.project_model.proofs.Texts.{any_from_has}
 never : IsTrue false → ⊥
 never e = cc
 
-module _ (names alphabet table : List (List ℕ)) where
+-- an expression without names fits whatever is told of names
+module _ (forms : List Form) where
+  kind_same : (a : Atom) → IsTrue (is_symbol a) → (leaves_at forms).kind a ≡ symbols.kind a
+  unfolding kinds_at
+  kind_same (Sym s) h = refl
+  kind_same (Name place) h = absurd (never h)
+
+  symbol_same : (a b : Atom) → IsTrue (is_symbol a) → IsTrue (is_symbol b) → (leaves_at forms).same a b ≡ symbols.same a b
+  unfolding kinds_at
+  symbol_same (Sym s) (Sym t) h g = refl
+  symbol_same (Sym s) (Name place) h g = absurd (never g)
+  symbol_same (Name place) b h g = absurd (never h)
+
+  fits_alone : (t : Term Atom) → IsBuilt is_symbol t → Fits (leaves_at forms) t → Fits symbols t
+  fits_alone t built fits = subst (λ (T : Type 0). T) (fits_alike symbols (leaves_at forms) is_symbol kind_same symbol_same t built) fits
+
+module _ (names alphabet table : List (List ℕ)) (forms : List Form) where
   -- a leaf that is a symbol is one of an alphabet that has it, and its number is one of the alphabet's
   stands : (leaf : Leaf) → All (Contains alphabet) (symbol_in leaf) → IsTrue (is_symbol (numbered names table leaf)) → IsTrue (is_leaf_over alphabet leaf)
   stands (symbol []) held h = absurd (never h)
@@ -69,7 +92,7 @@ module _ (names alphabet table : List (List ℕ)) where
 
   -- definitions of a plan and what was said: all are over the alphabet, and sound over its numbers
   pub definitions_over : (definitions : List Definition) (written : List Written) → map entry_of definitions ≡ map (entry_in names table) written
-      → All (Contains alphabet) (flat_map in_symbols (map (definition_in names) written)) → All (DoesMeet demand.Built) definitions → All Over (map (definition_in names) written)
+      → All (Contains alphabet) (flat_map in_symbols (map (definition_in names) written)) → All (DoesMeet forms demand.Built) definitions → All Over (map (definition_in names) written)
   definitions_over [] [] are held built = All-nil Over
   definitions_over [] (w ∷ written) are held built = let e : [] ≡ entry_in names table w ∷ map (entry_in names table) written = are in cc
   definitions_over (d ∷ definitions) [] are held built = let e : entry_of d ∷ map entry_of definitions ≡ [] = are in cc
@@ -80,17 +103,18 @@ module _ (names alphabet table : List (List ℕ)) where
       let m = definition_in names w in
       All-cons Over m (map (definition_in names) written)
       (body_over w.body (body_term d.body) (ap (λ (x : Entry). x.term) head) (All-front (Contains alphabet) (in_symbols m) (flat_map in_symbols (map (definition_in names) written)) held)
-      (All-head (DoesMeet demand.Built) d definitions built))
-      (definitions_over definitions written tail (All-back (Contains alphabet) (in_symbols m) (flat_map in_symbols (map (definition_in names) written)) held) (All-tail (DoesMeet demand.Built) d definitions built))
+      (All-head (DoesMeet forms demand.Built) d definitions built))
+      (definitions_over definitions written tail (All-back (Contains alphabet) (in_symbols m) (flat_map in_symbols (map (definition_in names) written)) held) (All-tail (DoesMeet forms demand.Built) d definitions built))
 
   pub sound_definitions : (definitions : List Definition) (written : List Written) → map entry_of definitions ≡ map (entry_in names table) written
-      → All (DoesMeet demand.Fits) definitions → All Over (map (definition_in names) written) → All (IsSoundOver (numbers_in table alphabet)) definitions
-  sound_definitions [] written are fits over = All-nil (IsSoundOver (numbers_in table alphabet))
-  sound_definitions (d ∷ definitions) [] are fits over = let e : entry_of d ∷ map entry_of definitions ≡ [] = are in cc
-  sound_definitions (d ∷ definitions) (w ∷ written) are fits over =
+      → All (DoesMeet forms demand.Fits) definitions → All (DoesMeet forms demand.Built) definitions → All Over (map (definition_in names) written)
+      → All (IsSoundOver (numbers_in table alphabet)) definitions
+  sound_definitions [] written are fits built over = All-nil (IsSoundOver (numbers_in table alphabet))
+  sound_definitions (d ∷ definitions) [] are fits built over = let e : entry_of d ∷ map entry_of definitions ≡ [] = are in cc
+  sound_definitions (d ∷ definitions) (w ∷ written) are fits built over =
       let e : entry_of d ∷ map entry_of definitions ≡ entry_in names table w ∷ map (entry_in names table) written = are in
       let head : entry_of d ≡ entry_in names table w = cc in
       let tail : map entry_of definitions ≡ map (entry_in names table) written = cc in
       All-cons (IsSoundOver (numbers_in table alphabet)) d definitions
-      (sound_over w.body (body_term d.body) (ap (λ (x : Entry). x.term) head) (All-head (DoesMeet demand.Fits) d definitions fits) (All-head Over (definition_in names w) (map (definition_in names) written) over))
-      (sound_definitions definitions written tail (All-tail (DoesMeet demand.Fits) d definitions fits) (All-tail Over (definition_in names w) (map (definition_in names) written) over))
+      (sound_over w.body (body_term d.body) (ap (λ (x : Entry). x.term) head) (fits_alone forms (body_term d.body) (All-head (DoesMeet forms demand.Built) d definitions built) (All-head (DoesMeet forms demand.Fits) d definitions fits)) (All-head Over (definition_in names w) (map (definition_in names) written) over))
+      (sound_definitions definitions written tail (All-tail (DoesMeet forms demand.Fits) d definitions fits) (All-tail (DoesMeet forms demand.Built) d definitions built) (All-tail Over (definition_in names w) (map (definition_in names) written) over))
