@@ -1,5 +1,5 @@
 -- What is told of leaves by their numbers: a name has the kind and the weight of what it stands for, or counts as one symbol.
-use Rattle.std.specs.Prelude.{◌==◌, ℕ, Bool, true, false, List, Option, None, Some, slice_get}
+use Rattle.std.specs.Prelude.{◌==◌, ℕ, Bool, true, false, List, Option, None, Some, is_some, slice_get}
 use Rattle.std.specs.List.{list_any}
 use Rattle.fsm_base.specs.declared.letters.Sym.{Sym as Symbol}
 use Rattle.regex_ast.specs.declared.expr.Atom.{Atom}
@@ -61,6 +61,11 @@ weights_at forms = weight_by (weight_at forms)
 abbrev pub leaves_at : List Form → Leaves Atom
 leaves_at forms = record { kind = kinds_at forms; same = are_one_symbol }
 
+-- whether a leaf is a symbol, or a name with a form
+unfoldable pub is_known_at : List Form → Atom → Bool
+is_known_at forms (Sym s) = true
+is_known_at forms (Name place) = is_some (slice_get forms place)
+
 -- whether a leaf is a symbol and no name
 abbrev pub is_symbol : Atom → Bool
 is_symbol (Sym s) = true
@@ -70,3 +75,8 @@ is_symbol (Name n) = false
 abbrev pub is_symbol_of : List Symbol → Atom → Bool
 is_symbol_of alphabet (Sym s) = list_any (λ t. t.0 == s.0) alphabet
 is_symbol_of alphabet (Name place) = false
+
+-- whether a leaf is a symbol of the alphabet, or a name with a form
+abbrev pub is_leaf_at : List Form → List Symbol → Atom → Bool
+is_leaf_at forms alphabet (Sym s) = is_symbol_of alphabet (Sym s)
+is_leaf_at forms alphabet (Name place) = is_some (slice_get forms place)

@@ -1,8 +1,8 @@
-ghost use Rattle.std.specs.Prelude.{◌≡◌, ◌↔◌, ◌+◌, ◌∷◌, [], IsTrue, cond, false, map, min};
+ghost use Rattle.std.specs.Prelude.{◌≡◌, ◌↔◌, ◌+◌, ◌∷◌, [], IsTrue, cond, is_some, map, min, slice_get};
 ghost use Rattle.std.specs.List.{list_all};
 ghost use Rattle.regex_ast.specs.Terms.{term, terms_of, links_of, contexts_of, steps_by, mappings_of, groups_of};
-ghost use Rattle.expr_kinds.specs.Atoms.{is_symbol, kind_at, kinds_at, leaves_at, weight_at, weights_at};
-ghost use Rattle.expr_kinds.specs.Built.{IsBuilt};
+ghost use Rattle.expr_kinds.specs.Atoms.{is_known_at, is_symbol, kind_at, kinds_at, leaves_at, weight_at, weights_at};
+ghost use Rattle.expr_kinds.specs.Built.{IsBuiltBy};
 ghost use Rattle.expr_kinds.specs.Forms.{as_language, beside, built_if, form_in, form_in_contexts, form_in_each, form_in_groups, form_in_links, form_in_mappings, form_in_steps, heavier, nothing, of_leaf, with_each, with_kind};
 ghost use Rattle.expr_kinds.specs.Kinds.{Fits, kind_of};
 ghost use Rattle.expr_kinds.specs.Weights.{most_weight, weight_of};
@@ -12,20 +12,27 @@ use crate::half::are_alike;
 use regex_ast::{Atom, Context, Expr, Group, Link, Mapping, Step, Suffix};
 
 /// What an expression is by its form, in time linear in its size. A name has the kind and the weight of the form at its
-/// place, and where there is none it's a language of weight 1; it is no symbol.
+/// place; where there is none it's a language of weight 1 of which nothing is built.
 pub fn form_of(names: &[Form], expr: &Expr<Atom>) -> Form
     ensures kind { result.kind ≡ kind_of (leaves_at names.now) (term expr.now) }
     ensures fits { IsTrue result.fits ↔ Fits (leaves_at names.now) (term expr.now) }
     ensures weight { result.weight ≡ min (weight_of (weights_at names.now) (term expr.now)) (most_weight + 1) }
-    ensures built { IsTrue result.built ↔ IsBuilt is_symbol (term expr.now) }
+    ensures built { IsTrue result.built ↔ IsBuiltBy (is_known_at names.now) is_symbol (term expr.now) }
 {
     in_expression(names, expr)
 }
 
 /// What a leaf is.
-#[tactic(auto, unfolding(crate::specs::Atoms::kinds_at, crate::specs::Atoms::weights_at))]
+#[tactic(
+    auto,
+    unfolding(
+        crate::specs::Atoms::is_known_at,
+        crate::specs::Atoms::kinds_at,
+        crate::specs::Atoms::weights_at
+    )
+)]
 fn of_atom(names: &[Form], atom: Atom) -> Form
-    ensures { result ≡ built_if (of_leaf (kinds_at names.now atom) (weights_at names.now atom)) (is_symbol atom) }
+    ensures { result ≡ built_if (of_leaf (kinds_at names.now atom) (weights_at names.now atom)) (is_known_at names.now atom) }
 {
     match atom {
         Atom::Sym(_) => Form::leaf(1),
@@ -35,10 +42,10 @@ fn of_atom(names: &[Form], atom: Atom) -> Form
 
 /// What a name is, by its place.
 fn of_name(names: &[Form], place: u32) -> Form
-    ensures { result ≡ built_if (of_leaf (kind_at names.now place) (weight_at names.now place)) false }
+    ensures { result ≡ built_if (of_leaf (kind_at names.now place) (weight_at names.now place)) (is_some (slice_get names.now place)) }
 {
     match names.get(place as usize) {
-        Some(form) => Form::leaf(form.weight).with_kind(form.kind).built_if(false),
+        Some(form) => Form::leaf(form.weight).with_kind(form.kind),
         None => Form::leaf(1).built_if(false),
     }
 }
@@ -83,7 +90,7 @@ fn crossed(upper: Form, lower: Form, alike: bool) -> Form
 /// The form of an expression.
 #[cycle(walk)]
 fn in_expression(names: &[Form], expr: &Expr<Atom>) -> Form
-    ensures { result ≡ form_in (leaves_at names.now) (weights_at names.now) is_symbol (term expr.now) }
+    ensures { result ≡ form_in (leaves_at names.now) (weights_at names.now) (is_known_at names.now) is_symbol (term expr.now) }
 {
     match expr {
         Expr::Empty => Form::leaf(1),
@@ -129,7 +136,7 @@ fn in_expression(names: &[Form], expr: &Expr<Atom>) -> Form
 /// The form of expressions together.
 #[cycle(walk)]
 fn in_each(names: &[Form], operands: &[Expr<Atom>]) -> Form
-    ensures { result ≡ form_in_each (leaves_at names.now) (weights_at names.now) is_symbol nothing (terms_of (map term operands.now)) }
+    ensures { result ≡ form_in_each (leaves_at names.now) (weights_at names.now) (is_known_at names.now) is_symbol nothing (terms_of (map term operands.now)) }
 {
     let mut form = Form::leaf(0);
     'operands: for operand in operands {
@@ -141,7 +148,7 @@ fn in_each(names: &[Form], operands: &[Expr<Atom>]) -> Form
 /// The form of a row of `|`, `&` and `-`, by the form of what stands before.
 #[cycle(walk)]
 fn in_links(names: &[Form], before: Form, links: &[Link<Atom>]) -> Form
-    ensures { result ≡ form_in_links (leaves_at names.now) (weights_at names.now) is_symbol before (links_of links.now) }
+    ensures { result ≡ form_in_links (leaves_at names.now) (weights_at names.now) (is_known_at names.now) is_symbol before (links_of links.now) }
 {
     let mut form = before;
     'links: for link in links {
@@ -153,7 +160,7 @@ fn in_links(names: &[Form], before: Form, links: &[Link<Atom>]) -> Form
 /// The form of what stands before with one operand more.
 #[cycle(walk)]
 fn in_link(names: &[Form], before: Form, link: &Link<Atom>) -> Form
-    ensures { result ≡ form_in_links (leaves_at names.now) (weights_at names.now) is_symbol before (links_of (link.now ∷ [])) }
+    ensures { result ≡ form_in_links (leaves_at names.now) (weights_at names.now) (is_known_at names.now) is_symbol before (links_of (link.now ∷ [])) }
 {
     match link {
         Link::Or(operand) => before.beside(in_expression(names, operand)).heavier(1),
@@ -167,7 +174,7 @@ fn in_link(names: &[Form], before: Form, link: &Link<Atom>) -> Form
 /// The form of a row of `.x.` and `.o.`, by the form of what stands before.
 #[cycle(walk)]
 fn in_steps(names: &[Form], before: Form, steps: &[Step<Atom>]) -> Form
-    ensures { result ≡ form_in_steps (leaves_at names.now) (weights_at names.now) is_symbol before (steps_by steps.now) }
+    ensures { result ≡ form_in_steps (leaves_at names.now) (weights_at names.now) (is_known_at names.now) is_symbol before (steps_by steps.now) }
 {
     let mut form = before;
     'steps: for step in steps {
@@ -179,7 +186,7 @@ fn in_steps(names: &[Form], before: Form, steps: &[Step<Atom>]) -> Form
 /// The form of what stands before with one operand more.
 #[cycle(walk)]
 fn in_step(names: &[Form], before: Form, step: &Step<Atom>) -> Form
-    ensures { result ≡ form_in_steps (leaves_at names.now) (weights_at names.now) is_symbol before (steps_by (step.now ∷ [])) }
+    ensures { result ≡ form_in_steps (leaves_at names.now) (weights_at names.now) (is_known_at names.now) is_symbol before (steps_by (step.now ∷ [])) }
 {
     match step {
         Step::CrossWith(operand) => before
@@ -194,7 +201,7 @@ fn in_step(names: &[Form], before: Form, step: &Step<Atom>) -> Form
 /// The form of what stands before and of contexts together.
 #[cycle(walk)]
 fn in_contexts(names: &[Form], before: Form, contexts: &[Context<Atom>]) -> Form
-    ensures { result ≡ form_in_contexts (leaves_at names.now) (weights_at names.now) is_symbol before (contexts_of contexts.now) }
+    ensures { result ≡ form_in_contexts (leaves_at names.now) (weights_at names.now) (is_known_at names.now) is_symbol before (contexts_of contexts.now) }
 {
     let mut form = before;
     'contexts: for context in contexts {
@@ -210,7 +217,7 @@ fn in_contexts(names: &[Form], before: Form, contexts: &[Context<Atom>]) -> Form
 /// The form of the groups of a set of rules together.
 #[cycle(walk)]
 fn in_groups(names: &[Form], groups: &[Group<Atom>]) -> Form
-    ensures { result ≡ form_in_groups (leaves_at names.now) (weights_at names.now) is_symbol nothing (groups_of groups.now) }
+    ensures { result ≡ form_in_groups (leaves_at names.now) (weights_at names.now) (is_known_at names.now) is_symbol nothing (groups_of groups.now) }
 {
     let mut form = Form::leaf(0);
     'groups: for group in groups {
@@ -226,7 +233,7 @@ fn in_groups(names: &[Form], groups: &[Group<Atom>]) -> Form
 /// The form of what stands before and of mappings together.
 #[cycle(walk)]
 fn in_mappings(names: &[Form], before: Form, mappings: &[Mapping<Atom>]) -> Form
-    ensures { result ≡ form_in_mappings (leaves_at names.now) (weights_at names.now) is_symbol before (mappings_of mappings.now) }
+    ensures { result ≡ form_in_mappings (leaves_at names.now) (weights_at names.now) (is_known_at names.now) is_symbol before (mappings_of mappings.now) }
 {
     let mut form = before;
     'mappings: for mapping in mappings {
@@ -238,7 +245,7 @@ fn in_mappings(names: &[Form], before: Form, mappings: &[Mapping<Atom>]) -> Form
 /// The form of what stands before and of a mapping together.
 #[cycle(walk)]
 fn in_mapping(names: &[Form], form: Form, mapping: &Mapping<Atom>) -> Form
-    ensures { result ≡ form_in_mappings (leaves_at names.now) (weights_at names.now) is_symbol form (mappings_of (mapping.now ∷ [])) }
+    ensures { result ≡ form_in_mappings (leaves_at names.now) (weights_at names.now) (is_known_at names.now) is_symbol form (mappings_of (mapping.now ∷ [])) }
 {
     match mapping {
         Mapping::Plain { centre, result: by } => {

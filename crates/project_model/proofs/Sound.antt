@@ -7,11 +7,7 @@ use Rattle.regex_ast.specs.declared.expr.Atom.{Atom}
 use Rattle.regex_ast.specs.declared.expr.Atom.TheVariants.{Sym, Name}
 use Rattle.regex_ast.specs.declared.expr.Raw.{Raw}
 use Rattle.regex_ast.specs.Terms.{Term}
-<<<<<<<
-use Rattle.expr_kinds.specs.Atoms.{symbols, is_symbol, is_symbol_of}
-=======
-use Rattle.expr_kinds.specs.Atoms.{symbols, is_symbol, kinds_at, leaves_at}
->>>>>>>
+use Rattle.expr_kinds.specs.Atoms.{symbols, is_symbol, is_symbol_of, kinds_at, leaves_at}
 use Rattle.expr_kinds.specs.Built.{IsBuilt}
 use Rattle.expr_kinds.specs.Kinds.{Fits}
 use Rattle.expr_kinds.specs.declared.form.Form.{Form}
