@@ -11,7 +11,7 @@ use Rattle.fsm_base.specs.Symbols.{number_of}
 use Rattle.word_relations.specs.Words.{IsDistinct}
 use Rattle.word_relations.proofs.Members.{Contains-map}
 use Rattle.word_relations.proofs.Places.{Contains-from_slice_get, slice_get_from_Contains, slice_get-append_left, slice_get-set_other, slice_get-set_same}
-use Rattle.expr_kinds.specs.Atoms.{kind_told, leaves_at, weight_told, weights_at}
+use Rattle.expr_kinds.specs.Atoms.{kind_at, kind_told, leaves_at, weight_told, weights_at}
 use Rattle.expr_kinds.specs.Forms.{capped}
 use Rattle.expr_kinds.specs.Kinds.{kind_of}
 use Rattle.expr_kinds.specs.Weights.{weight_of}
@@ -32,7 +32,7 @@ use Rattle.project_model.specs.Stands.{Entry, entry_of, entry_in}
 use Rattle.project_model.specs.declared.definition.Definition.{Definition}
 use Rattle.project_model.proofs.Alphabets.{at_number, number_within}
 use Rattle.project_model.proofs.Demanded.{held_each}
-use Rattle.project_model.proofs.Referring.{acyclic, at_map, count, name_at, referred_among, to_graph}
+use Rattle.project_model.proofs.Referring.{acyclic, at_map, count, name_at, place_at, referred_among, to_graph}
 use Rattle.project_model.proofs.Told.{IsTold, told_kind, told_weight}
 
 -- the definition at a place is that of its name, where names are apart
@@ -68,8 +68,7 @@ abbrev pub AreTold : Said → List ℕ → List Form → Type 0
 AreTold said places forms =
     (name : List ℕ) → Contains (names_of said.written) name → Contains places (number_of name (names_of said.written)) → IsTold (names_of said.written) (project_in said) forms name
 
-module _ (said : Said) (table : List (List ℕ)) (definitions : List Definition) (are : AreDefined said table definitions) (order : List ℕ) (ordered : IsOrder (references_of definitions) order)
-    (rounds : HasNoRound (references_of definitions)) where
+module _ (said : Said) (table : List (List ℕ)) (definitions : List Definition) (are : AreDefined said table definitions) where
   abbrev names : List (List ℕ)
   names = names_of said.written
 
@@ -88,81 +87,102 @@ module _ (said : Said) (table : List (List ℕ)) (definitions : List Definition)
           kept [] = refl
           kept (w ∷ ws) = ap (λ (z : List (List ℕ)). w.name ∷ z) (kept ws)
 
-  module _ (forms : List Form) (few : length forms ≡ length definitions) (i : ℕ) (inside : i < length order) (d : Definition) (at : slice_get definitions (get_or order i 0) ≡ Some d) (form : Form)
-      (kind : form.kind ≡ kind_of (leaves_at forms) (body_term d.body)) (weight : form.weight ≡ capped (weight_of (weights_at forms) (body_term d.body)))
-      (so_far : AreTold said (take i order) forms) where
-    abbrev here : ℕ
-    here = get_or order i 0
+  -- the form at the place of a definition has the kind of its expression
+  pub kind_there : HasNoRound (references_of definitions) → (forms : List Form) → length forms ≡ length definitions → AreForms names (project_in said) forms
+      → (k : ℕ) (d : Definition) → slice_get definitions k ≡ Some d → kind_at forms k ≡ kind_of (leaves_at forms) (body_term d.body)
+  kind_there rounds forms few all k d at =
+      let entries : slice_get (map (entry_in names table) said.written) k ≡ Some (entry_of d) =
+      ap (λ (es : List Entry). slice_get es k) (sym are.entries) ∙ slice_get-map entry_of definitions k ∙ ap (option_map entry_of) at in
+      let (w, at_w, same) = at_map (entry_in names table) said.written k (entry_of d) entries in
+      let there = Contains-map (definition_in names) said.written w (Contains-from_slice_get said.written k w at_w) in
+      let named_there = name_at said table definitions are k w at_w in
+      let numbered_by = ap (λ (e : Entry). e.term) (sym same) in
+      let held = held_each (Contains table) (λ (x : Meant). symbols_in x.body) (project_in said).definitions are.symbols (definition_in names w) there in
+      let told : (other : List ℕ) → Contains (names_in (resolved names w.body)) other → IsTold names (project_in said) forms other =
+      λ other h. (let among = referred_among said table definitions are w.name other (definition_in names w, there, refl, h) in
+      record { among = among; kind = all.kinds other among; weight = all.weights other among }) in
+      let many = few ∙ count said table definitions are in
+      subst (λ (p : ℕ). kind_at forms p ≡ kind_in (project_in said) w.name) (place_at said table definitions are k w.name named_there) (all.kinds w.name (Contains-from_slice_get names k w.name named_there))
+      ∙ kinds_unfold (project_in said) (acyclic said table definitions are rounds) (closed said.written (symbols_of said.manifest)) w.name
+      ∙ ap (found_kind (kind_in (project_in said))) (meant_at k w at_w)
+      ∙ sym (told_kind names table (project_in said) forms many (body_term d.body) w.body numbered_by held told)
 
-    abbrev after : List Form
-    after = set forms here form
+  module _ (order : List ℕ) (ordered : IsOrder (references_of definitions) order) (rounds : HasNoRound (references_of definitions)) where
+    module _ (forms : List Form) (few : length forms ≡ length definitions) (i : ℕ) (inside : i < length order) (d : Definition) (at : slice_get definitions (get_or order i 0) ≡ Some d) (form : Form)
+        (kind : form.kind ≡ kind_of (leaves_at forms) (body_term d.body)) (weight : form.weight ≡ capped (weight_of (weights_at forms) (body_term d.body)))
+        (so_far : AreTold said (take i order) forms) where
+      abbrev here : ℕ
+      here = get_or order i 0
 
-    here_at : slice_get order i ≡ Some here
-    here_at = slice_get-get_or order i 0 inside
+      abbrev after : List Form
+      after = set forms here form
 
-    here_within : here < length forms
-    here_within =
-        let within = (ordered.places here).0 (Contains-get_or order i 0 inside) in
-        let size = length-map definitions (λ (d : Definition). places_in (length definitions) (body_term d.body)) in
-        omega (arith, within, size, few)
+      here_at : slice_get order i ≡ Some here
+      here_at = slice_get-get_or order i 0 inside
 
-    -- what was told stays
-    not_here : (p : ℕ) → Contains (take i order) p → p ≡ here → ⊥
-    not_here p h same =
-        let (j, at_j, lower) = taken_at order i p h in
-        let is = ordered.once j i here (at_j ∙ ap (λ (q : ℕ). Some q) same) here_at in
-        omega (arith, is, lower)
-
-    stays : (name : List ℕ) → Contains (take i order) (place name) → IsTold names (project_in said) forms name → IsTold names (project_in said) after name
-    stays name h told =
-        let apart = not_here (place name) h in
-        let same = slice_get-set_other forms here (place name) form apart in
-        record { among = told.among; kind = ap kind_told same ∙ told.kind; weight = ap weight_told same ∙ told.weight }
-
-    -- the definition here is that of its name
-    pub told_here : (name : List ℕ) → Contains names name → place name ≡ here → IsTold names (project_in said) after name
-    told_here name among place_is =
-        let entries : slice_get (map (entry_in names table) said.written) here ≡ Some (entry_of d) =
-        ap (λ (es : List Entry). slice_get es here) (sym are.entries) ∙ slice_get-map entry_of definitions here ∙ ap (option_map entry_of) at in
-        let (w, at_w, same) = at_map (entry_in names table) said.written here (entry_of d) entries in
-        let name_is : w.name ≡ name = same_Some w.name name (sym (name_at said table definitions are here w at_w) ∙ subst (λ (p : ℕ). slice_get names p ≡ Some name) place_is (at_number names name among)) in
-        let numbered_by = ap (λ (e : Entry). e.term) (sym same) in
-        let held = held_each (Contains table) (λ (x : Meant). symbols_in x.body) (project_in said).definitions are.symbols (definition_in names w)
-        (Contains-map (definition_in names) said.written w (Contains-from_slice_get said.written here w at_w)) in
-        let referred : (other : List ℕ) → Contains (names_in (resolved names w.body)) other → Refers (project_in said) name other =
-        λ other h. (definition_in names w, Contains-map (definition_in names) said.written w (Contains-from_slice_get said.written here w at_w), name_is, h) in
-        let told : (other : List ℕ) → Contains (names_in (resolved names w.body)) other → IsTold names (project_in said) forms other =
-        λ other h. so_far other (referred_among said table definitions are name other (referred other h))
-        (ordered.behind i here (place other) here_at (subst (λ (p : ℕ). Leads (references_of definitions) p (place other)) place_is (to_graph said table definitions are name other (referred other h)))) in
-        let project_acyclic = acyclic said table definitions are rounds in
-        let project_closed = closed said.written (symbols_of said.manifest) in
-        let found : definition_of (project_in said).definitions name ≡ Some (definition_in names w) = subst (λ (n : List ℕ). definition_of (project_in said).definitions n ≡ Some (definition_in names w)) name_is (meant_at here w at_w) in
-        let formed : slice_get after (place name) ≡ Some form = subst (λ (p : ℕ). slice_get after p ≡ Some form) (sym place_is) (slice_get-set_same forms here form here_within) in
-        let many = few ∙ count said table definitions are in
-        record {
-          among = among;
-          kind = ap kind_told formed ∙ kind
-              ∙ told_kind names table (project_in said) forms many (body_term d.body) w.body numbered_by held told
-              ∙ sym (kinds_unfold (project_in said) project_acyclic project_closed name ∙ ap (found_kind (kind_in (project_in said))) found);
-          weight = ap weight_told formed ∙ weight
-              ∙ told_weight names table (project_in said) forms many (body_term d.body) w.body numbered_by told
-              ∙ ap capped (sym (weights_unfold (project_in said) project_acyclic project_closed name ∙ ap (found_weight (weight_in (project_in said))) found));
-        }
-
-    pub told_more : AreTold said (take (i + 1) order) after
-    told_more name among h =
-        elim (Contains-push_cases (take i order) here (place name) (subst (λ (ps : List ℕ). Contains ps (place name)) (take_more order i 0 inside) h)) as (λ _. IsTold names (project_in said) after name) [
-          | inl old ↦ stays name old (so_far name among old)
-          | inr same ↦ told_here name among (sym same)
-        ]
-
-  -- at the end all are told
-  pub forms_are : (forms : List Form) (i : ℕ) → length order ≤ i → AreTold said (take i order) forms → AreForms names (project_in said) forms
-  forms_are forms i past told = record { kinds = λ name among. (all name among).kind; weights = λ name among. (all name among).weight }
-    where
-      all : (name : List ℕ) → Contains names name → IsTold names (project_in said) forms name
-      all name among =
-          let within = number_within names name among in
+      here_within : here < length forms
+      here_within =
+          let within = (ordered.places here).0 (Contains-get_or order i 0 inside) in
           let size = length-map definitions (λ (d : Definition). places_in (length definitions) (body_term d.body)) in
-          let many = count said table definitions are in
-          told name among (subst (λ (ps : List ℕ). Contains ps (place name)) (sym (take_all i order past)) ((ordered.places (place name)).1 (omega (arith, within, size, many))))
+          omega (arith, within, size, few)
+
+      -- what was told stays
+      not_here : (p : ℕ) → Contains (take i order) p → p ≡ here → ⊥
+      not_here p h same =
+          let (j, at_j, lower) = taken_at order i p h in
+          let is = ordered.once j i here (at_j ∙ ap (λ (q : ℕ). Some q) same) here_at in
+          omega (arith, is, lower)
+
+      stays : (name : List ℕ) → Contains (take i order) (place name) → IsTold names (project_in said) forms name → IsTold names (project_in said) after name
+      stays name h told =
+          let apart = not_here (place name) h in
+          let same = slice_get-set_other forms here (place name) form apart in
+          record { among = told.among; kind = ap kind_told same ∙ told.kind; weight = ap weight_told same ∙ told.weight }
+
+      -- the definition here is that of its name
+      pub told_here : (name : List ℕ) → Contains names name → place name ≡ here → IsTold names (project_in said) after name
+      told_here name among place_is =
+          let entries : slice_get (map (entry_in names table) said.written) here ≡ Some (entry_of d) =
+          ap (λ (es : List Entry). slice_get es here) (sym are.entries) ∙ slice_get-map entry_of definitions here ∙ ap (option_map entry_of) at in
+          let (w, at_w, same) = at_map (entry_in names table) said.written here (entry_of d) entries in
+          let name_is : w.name ≡ name = same_Some w.name name (sym (name_at said table definitions are here w at_w) ∙ subst (λ (p : ℕ). slice_get names p ≡ Some name) place_is (at_number names name among)) in
+          let numbered_by = ap (λ (e : Entry). e.term) (sym same) in
+          let held = held_each (Contains table) (λ (x : Meant). symbols_in x.body) (project_in said).definitions are.symbols (definition_in names w)
+          (Contains-map (definition_in names) said.written w (Contains-from_slice_get said.written here w at_w)) in
+          let referred : (other : List ℕ) → Contains (names_in (resolved names w.body)) other → Refers (project_in said) name other =
+          λ other h. (definition_in names w, Contains-map (definition_in names) said.written w (Contains-from_slice_get said.written here w at_w), name_is, h) in
+          let told : (other : List ℕ) → Contains (names_in (resolved names w.body)) other → IsTold names (project_in said) forms other =
+          λ other h. so_far other (referred_among said table definitions are name other (referred other h))
+          (ordered.behind i here (place other) here_at (subst (λ (p : ℕ). Leads (references_of definitions) p (place other)) place_is (to_graph said table definitions are name other (referred other h)))) in
+          let project_acyclic = acyclic said table definitions are rounds in
+          let project_closed = closed said.written (symbols_of said.manifest) in
+          let found : definition_of (project_in said).definitions name ≡ Some (definition_in names w) = subst (λ (n : List ℕ). definition_of (project_in said).definitions n ≡ Some (definition_in names w)) name_is (meant_at here w at_w) in
+          let formed : slice_get after (place name) ≡ Some form = subst (λ (p : ℕ). slice_get after p ≡ Some form) (sym place_is) (slice_get-set_same forms here form here_within) in
+          let many = few ∙ count said table definitions are in
+          record {
+            among = among;
+            kind = ap kind_told formed ∙ kind
+                ∙ told_kind names table (project_in said) forms many (body_term d.body) w.body numbered_by held told
+                ∙ sym (kinds_unfold (project_in said) project_acyclic project_closed name ∙ ap (found_kind (kind_in (project_in said))) found);
+            weight = ap weight_told formed ∙ weight
+                ∙ told_weight names table (project_in said) forms many (body_term d.body) w.body numbered_by told
+                ∙ ap capped (sym (weights_unfold (project_in said) project_acyclic project_closed name ∙ ap (found_weight (weight_in (project_in said))) found));
+          }
+
+      pub told_more : AreTold said (take (i + 1) order) after
+      told_more name among h =
+          elim (Contains-push_cases (take i order) here (place name) (subst (λ (ps : List ℕ). Contains ps (place name)) (take_more order i 0 inside) h)) as (λ _. IsTold names (project_in said) after name) [
+            | inl old ↦ stays name old (so_far name among old)
+            | inr same ↦ told_here name among (sym same)
+          ]
+
+    -- at the end all are told
+    pub forms_are : (forms : List Form) (i : ℕ) → length order ≤ i → AreTold said (take i order) forms → AreForms names (project_in said) forms
+    forms_are forms i past told = record { kinds = λ name among. (all name among).kind; weights = λ name among. (all name among).weight }
+      where
+        all : (name : List ℕ) → Contains names name → IsTold names (project_in said) forms name
+        all name among =
+            let within = number_within names name among in
+            let size = length-map definitions (λ (d : Definition). places_in (length definitions) (body_term d.body)) in
+            let many = count said table definitions are in
+            told name among (subst (λ (ps : List ℕ). Contains ps (place name)) (sym (take_all i order past)) ((ordered.places (place name)).1 (omega (arith, within, size, many))))

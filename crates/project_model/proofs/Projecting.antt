@@ -48,7 +48,8 @@ use Rattle.project_model.proofs.Demanded.{demand_fault}
 use Rattle.project_model.proofs.Gathering.{with_texts-append, with_texts_behind}
 use Rattle.project_model.proofs.Mapped.{mapped_twice}
 use Rattle.project_model.proofs.NameSteps.{refused_by}
-use Rattle.project_model.proofs.Referring.{cycle_fault, none_cyclic}
+use Rattle.project_model.proofs.Forming.{kind_there}
+use Rattle.project_model.proofs.Referring.{count, cycle_fault, none_cyclic}
 use Rattle.project_model.proofs.Expressions.{names_said}
 use Rattle.project_model.proofs.Sound.{definitions_over, sound_definitions}
 use Rattle.project_model.proofs.Texts.{one_longer}
@@ -199,14 +200,21 @@ module _ (file : List ℕ) (statements : List Statement) (names alphabet old new
 
       module _ (symbols : List Sym) (numbers_are : symbols ≡ numbers_in new alphabet) (distinct : IsDistinct alphabet) (fits : All (DoesMeet forms demand.Fits) definitions)
           (light : All (DoesMeet forms demand.Light) definitions) (built : All (DoesMeet forms demand.Built) definitions) where
-        over : All (λ (d : Meant). IsBodyOver alphabet d.body) (map (definition_in (names_of written)) written)
-        over = definitions_over (names_of written) alphabet new forms definitions written said_are symbols_are built
+        many : length forms ≡ length (names_of written)
+        many = few ∙ count (said_by [] file statements) new definitions (defined [])
 
-        pub is_plan : IsPlan (record { definitions = definitions; symbols = symbols })
+        over : All (λ (d : Meant). IsBodyOver alphabet d.body) (map (definition_in (names_of written)) written)
+        over = definitions_over (names_of written) alphabet new forms many definitions written said_are symbols_are built
+
+        abbrev plan : PlanView
+        plan = record { definitions = definitions; symbols = symbols; forms = forms }
+
+        pub is_plan : IsPlan plan
         is_plan = record {
           distinct = subst IsDistinct (sym numbers_are) (numbers_distinct new alphabet (subst (λ (t : List (List ℕ)). All (Contains t) alphabet) (sym new_is) (put alphabet old)) distinct);
           names = subst IsDistinct (names_are ∙ sym (names_said (names_of written) new definitions written said_are)) apart;
-          sound = subst (λ (z : List Sym). All (IsSoundOver z) definitions) (sym numbers_are) (sound_definitions (names_of written) alphabet new forms definitions written said_are fits built over);
+          forms = record { count = few; kinds = kind_there (said_by [] file statements) new definitions (defined []) rounds forms few (told (said_by [] file statements) new (defined [])) };
+          sound = subst (λ (z : List Sym). All (IsSoundOver forms z) definitions) (sym numbers_are) (sound_definitions (names_of written) alphabet new forms many definitions written said_are fits over);
         }
 
         none_fails : (manifest : List Placed) → HaveNone (SaidFault (said_by manifest file statements)) definitions_so_far
@@ -217,7 +225,7 @@ module _ (file : List ℕ) (statements : List Statement) (names alphabet old new
             none_more (SaidFault (said_by manifest file statements)) cyclic (no_language ∷ heavy ∷ unbuilt ∷ []) (no_cycle manifest) (λ found h. none found ((alike manifest found).1 h))
 
         pub is_planned : (manifest : List Placed) → (project_in (said_by manifest file statements)).alphabet ≡ alphabet
-            → IsPlanBy definitions_so_far (said_by manifest file statements) old new (Ok (record { definitions = definitions; symbols = symbols }))
+            → IsPlanBy definitions_so_far (said_by manifest file statements) old new (Ok plan)
         is_planned manifest is = (
           none_fails manifest,
           record {

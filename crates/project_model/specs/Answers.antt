@@ -7,8 +7,8 @@ use Rattle.regex_ast.specs.declared.fault.Why.TheVariants as why
 use Rattle.regex_ast.specs.declared.expr.Atom.{Atom}
 use Rattle.regex_ast.specs.Terms.{Term}
 use Rattle.regex_reader.specs.Files.{Statement, FaultAt, ReadsAs}
-use Rattle.expr_kinds.specs.Atoms.{is_symbol, leaves_at, weights_at}
-use Rattle.expr_kinds.specs.Built.{IsBuilt}
+use Rattle.expr_kinds.specs.Atoms.{is_known_at, is_symbol, leaves_at, weights_at}
+use Rattle.expr_kinds.specs.Built.{IsBuiltBy}
 use Rattle.expr_kinds.specs.Kinds.{Fits}
 use Rattle.expr_kinds.specs.Weights.{most_weight, weight_of}
 use Rattle.expr_kinds.specs.declared.form.Form.{Form}
@@ -81,7 +81,7 @@ said_by manifest file statements = record { manifest = manifest; written = defin
 abbrev pub Meets : List Form → Demand → Term Atom → Type 0
 Meets forms demand.Fits t = Fits (leaves_at forms) t
 Meets forms demand.Light t = weight_of (weights_at forms) t ≤ most_weight
-Meets forms demand.Built t = IsBuilt is_symbol t
+Meets forms demand.Built t = IsBuiltBy (is_known_at forms) is_symbol t
 
 abbrev pub why_not : Demand → Why
 why_not demand.Fits = why.NotALanguage

@@ -41,6 +41,8 @@ pub struct Plan {
     symbols: Vec<Sym>,
     /// The places of the definitions, each behind those that it refers to.
     order: Vec<usize>,
+    /// What each definition is by its form.
+    forms: Vec<Form>,
 }
 
 impl Model for Plan {
@@ -55,9 +57,9 @@ impl Model for Plan {
 
     ghost use Rattle.project_model.specs.Referring.{IsOrderedPlan};
 
-    ghost view = { λ p. record { definitions = p.definitions.items; symbols = p.symbols.items } };
+    ghost view = { λ p. record { definitions = p.definitions.items; symbols = p.symbols.items; forms = p.forms.items } };
 
-    ghost invariant = { λ p. IsOrderedPlan (record { definitions = p.definitions.items; symbols = p.symbols.items }) p.order.items };
+    ghost invariant = { λ p. IsOrderedPlan (record { definitions = p.definitions.items; symbols = p.symbols.items; forms = p.forms.items }) p.order.items };
 }
 
 impl Plan {
@@ -75,6 +77,14 @@ impl Plan {
         ensures formed { IsPlan self.now }
     {
         &self.symbols
+    }
+
+    /// What each definition is by its form: whether it's a language or a relation, and its weight.
+    pub fn forms(&self) -> &[Form]
+        ensures forms { result.now ≡ self.now.forms }
+        ensures formed { IsPlan self.now }
+    {
+        &self.forms
     }
 
     /// The places of the definitions, counted from 0, each behind those that its definition refers to.
@@ -255,6 +265,7 @@ fn plan_over(
         definitions,
         symbols,
         order,
+        forms,
     })
 }
 
