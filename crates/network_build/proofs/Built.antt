@@ -125,3 +125,48 @@ module _ {A : Type 0} (spells letter passes held : A → Bool) where
 -- one test in place of two, of which the second passes no more than the first
 pub built_alone : {A : Type 0} (spells letter : A → Bool) → ((a : A) → IsTrue (letter a) → IsTrue (spells a)) → (e : Term A) → IsBuiltBy spells letter e → IsBuilt spells e
 built_alone spells letter fewer e h = built_by spells letter spells spells e h (λ a at p. p, λ a at p. fewer a p)
+
+-- where leaves that pass a test each time pass another one, what is built each time is built by that
+module _ {A : Type 0} (one one_letter two two_letter passes : A → Bool) (leaf : (a : A) → IsTrue (one a) → IsTrue (two a) → IsTrue (passes a))
+    (letter : (a : A) → IsTrue (one_letter a) → IsTrue (passes a)) where
+  letters_both : (all : List A) → IsTrue (list_all one_letter all) → IsTrue (list_all passes all)
+  letters_both all h = list_all-from_AllPass passes all (All-weaker (λ a. IsTrue (one_letter a)) (λ a. IsTrue (passes a)) letter all (AllPass-from_list_all one_letter all h))
+
+  mutual
+    pub built_both : (e : Term A) → IsBuiltBy one one_letter e → IsBuiltBy two two_letter e → IsBuilt passes e
+    built_both empty h g = tt
+    built_both any h g = tt
+    built_both edge h g = tt
+    built_both (atom a) h g = leaf a h g
+    built_both (letters all) h g = letters_both all h
+    built_both (group e) h g = built_both e h g
+    built_both (maybe e) h g = built_both e h g
+    built_both (not_one n e) h g = built_both e h g
+    built_both (cross e f) h g = (built_both e h.0 g.0, built_both f h.1 g.1)
+    built_both (suffixed e suffixes) h g = built_both e h g
+    built_both (prefixed prefixes e) h g = built_both e h g
+    built_both (ignore es) h g = each_both es h g
+    built_both (concat es) h g = each_both es h g
+    built_both (chain e links) h g = (built_both e h.0 g.0, links_both links h.1 g.1)
+    built_both (only e contexts) h g = (built_both e h.0 g.0, contexts_both contexts h.1 g.1)
+    built_both (rules optional groups) h g = absurd h
+    built_both (steps e more) h g = (built_both e h.0 g.0, steps_both more h.1 g.1)
+
+    each_both : (es : Terms A) → AreBuiltBy one one_letter es → AreBuiltBy two two_letter es → AreBuilt passes es
+    each_both no_term h g = tt
+    each_both (then_term e es) h g = (built_both e h.0 g.0, each_both es h.1 g.1)
+
+    links_both : (links : Links A) → LinksAreBuiltBy one one_letter links → LinksAreBuiltBy two two_letter links → LinksAreBuilt passes links
+    links_both no_link h g = tt
+    links_both (or e links) h g = (built_both e h.0 g.0, links_both links h.1 g.1)
+    links_both (and e links) h g = (built_both e h.0 g.0, links_both links h.1 g.1)
+    links_both (less e links) h g = (built_both e h.0 g.0, links_both links h.1 g.1)
+
+    contexts_both : (contexts : Contexts A) → ContextsAreBuiltBy one one_letter contexts → ContextsAreBuiltBy two two_letter contexts → ContextsAreBuilt passes contexts
+    contexts_both no_context h g = tt
+    contexts_both (between l r contexts) h g = (built_both l h.0 g.0, built_both r h.1 g.1, contexts_both contexts h.2 g.2)
+
+    steps_both : (more : Steps A) → StepsAreBuiltBy one one_letter more → StepsAreBuiltBy two two_letter more → StepsAreBuilt passes more
+    steps_both no_step h g = tt
+    steps_both (cross_with e more) h g = (built_both e h.0 g.0, steps_both more h.1 g.1)
+    steps_both (then e more) h g = (built_both e h.0 g.0, steps_both more h.1 g.1)
