@@ -68,8 +68,8 @@ impl Project {
     pub fn find(&self, name: &str) -> Option<usize>
         ensures { MatchOption result ((d : Definition) → Contains self.now.definitions d → d.name ≡ name.now → ⊥) (λ place. (d : Definition) × (slice_get self.now.definitions place ≡ Some d) × (d.name ≡ name.now)) }
     {
-        let definitions = self.plan.definitions();
-        'definitions: for (place, definition) in definitions.iter().enumerate() {
+        let all = self.plan.definitions();
+        'definitions: for (place, definition) in all.iter().enumerate() {
             if definition.name.as_str() == name {
                 return Some(place);
             }

@@ -5,16 +5,16 @@ use Rattle.fsm_program.proofs.project.Project.find.Goals as goal
 
 pub returns-then-eq : goal.returns-then-eq
 returns-then-eq c =
-    let same = c.definitions.ensures.definitions in
-    let at = stands_at c.definitions.result.now c.self.inside.plan.definitions c.definitions-2.place c.definition-item.result same (omega arith) c.definition-item.is in
+    let same = c.definitions-all.ensures.definitions in
+    let at = stands_at c.definitions-all.result.now c.self.inside.plan.definitions c.definitions.place c.definition-item.result same (omega arith) c.definition-item.is in
     let named = sym c.as_str.ensures ∙ (bytes_eq-Decides c.as_str.result.now c.args.name.now).0 (sym c.eq.ensures ∙ c.if-eq.true) in
     rw (← c.self.view_is) (c.definition-item.result, at, named)
 
 pub definitions-preserved : goal.definitions-preserved
 definitions-preserved c =
-    none_more (λ d. d.name ≡ c.args.name.now → ⊥) c.definitions.result.now c.definitions-2.place c.definition-item.result (omega arith) c.definition-item.is c.definitions-2.invariant
+    none_more (λ d. d.name ≡ c.args.name.now → ⊥) c.definitions-all.result.now c.definitions.place c.definition-item.result (omega arith) c.definition-item.is c.definitions.invariant
     (λ named. true≢false (sym ((bytes_eq-Decides c.as_str.result.now c.args.name.now).1 (c.as_str.ensures ∙ named)) ∙ sym c.eq.ensures ∙ c.if-eq.false))
 
 pub returns : goal.returns
 returns c =
-    none_of_all c.args.name.now c.definitions.result.now c.args.self.now.definitions c.definitions-2.place (c.definitions.ensures.definitions ∙ ap (λ v. v.definitions) c.self.view_is) (omega arith) c.definitions-2.invariant
+    none_of_all c.args.name.now c.definitions-all.result.now c.args.self.now.definitions c.definitions.place (c.definitions-all.ensures.definitions ∙ ap (λ v. v.definitions) c.self.view_is) (omega arith) c.definitions.invariant
