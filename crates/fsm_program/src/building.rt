@@ -21,9 +21,10 @@ fn add_name(leaf: &Atom, names: &mut [Option<u32>])
         return;
     };
     let place = name as usize;
-    if place < names.len() {
-        names[place] = Some(name);
+    if place >= names.len() {
+        return;
     }
+    names[place] = Some(name);
 }
 
 /// The numbers of the names among leaves, each at its place, of so many.
@@ -54,12 +55,13 @@ fn parts_at<'a>(
 {
     let mut parts = Vec::new(alloc);
     'names: for (place, name) in names.iter().enumerate() {
-        if let (Some(name), Some(network)) = (name, &built[place]) {
-            parts.push(Part {
-                name: *name,
-                network,
-            })?;
-        }
+        let (Some(name), Some(network)) = (name, &built[place]) else {
+            continue;
+        };
+        parts.push(Part {
+            name: *name,
+            network,
+        })?;
     }
     Ok(parts)
 }
