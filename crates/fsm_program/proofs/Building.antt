@@ -36,7 +36,7 @@ use Rattle.project_model.specs.Plans.{IsPlan, IsSoundOver, body_term}
 use Rattle.project_model.specs.Referring.{place_in, places_in, references_of}
 use Rattle.project_model.specs.declared.definition.Definition.{Definition}
 use Rattle.project_model.proofs.Gathering.{listed_is}
-use Rattle.fsm_program.specs.Building.{AreBuilt, AreNamesAmong, ArePartsOf, HasParts, IsBuiltAt, IsThere}
+use Rattle.fsm_program.specs.Building.{AreBuilt, AreNamesAmong, ArePartsOf, HasParts, HasPut, IsBuiltAt, IsThere}
 use Rattle.fsm_program.specs.Loaded.{LoadedView, plan_in}
 use Rattle.fsm_program.proofs.Parts.{part_found, part_there}
 use Rattle.fsm_program.proofs.Shown.{name_spelled_here}
@@ -238,6 +238,23 @@ module _ (names : List (Option ℕ)) (built : List (Option Network)) where
       | inr apart ↦ so_far.all place (omega (arith, within, apart)) named there
     ];
   }
+
+  clash_network : (n : Network) → ◌≡◌ {A = Option (Option Network)} (Some None) (Some (Some n)) → ⊥
+  clash_network n e = cc
+
+  clash_name : (k : ℕ) → ◌≡◌ {A = Option (Option ℕ)} (Some None) (Some (Some k)) → ⊥
+  clash_name k e = cc
+
+  -- the next place
+  pub parts_next : (i : ℕ) (parts new : List Part) (name : Option ℕ) (network : Option Network) → slice_get names i ≡ Some name → slice_get built i ≡ Some network
+      → ((place k : ℕ) → slice_get names place ≡ Some (Some k) → k ≡ place) → HasPut name network parts new → PartsSoFar names built i parts → PartsSoFar names built (i + 1) new
+  parts_next i parts new (Some k) (Some n) at_name at_built own (part, is_name, is_network, is) so_far =
+      subst (PartsSoFar names built (i + 1)) (sym is)
+      (parts_more i parts part (is_name ∙ own i k at_name) (at_built ∙ ap (λ (m : Network). Some (Some m)) (sym is_network)) so_far)
+  parts_next i parts new (Some k) None at_name at_built own is so_far =
+      subst (PartsSoFar names built (i + 1)) (sym is) (parts_past i parts (λ named (n, there). clash_network n (sym at_built ∙ there)) so_far)
+  parts_next i parts new None network at_name at_built own is so_far =
+      subst (PartsSoFar names built (i + 1)) (sym is) (parts_past i parts (λ named there. clash_name i (sym at_name ∙ named)) so_far)
 
   pub parts_all : (i : ℕ) (parts : List Part) → length names ≤ i → PartsSoFar names built i parts → ArePartsOf names built parts
   parts_all i parts past so_far = record {
