@@ -1,9 +1,9 @@
 -- The networks of a project's definitions are built of one another.
 use Rattle.std.proofs.Common.{◌≡◌, ◌<◌, ◌≤◌, ◌+◌, ◌++◌, ℕ, Bool, true, false, cond, nat_lt, List, [], ◌∷◌, length, take, get_or, map, AllPairs, Contains, Option, Some, None, is_some, IsTrue, slice_get, refl, sym, ap, subst, ◌∙◌, inl, inr, arith}
-use Rattle.std.proofs.Math.ListN.{set}
+use Rattle.std.proofs.Math.ListN.{replicate, set}
 use Rattle.std.proofs.lemmas.Bool.{cases_eq}
 use Rattle.std.proofs.lemmas.Bool.Decides.{nat_tests}
-use Rattle.std.proofs.lemmas.List.{length-map, length-set, take_all, take_more}
+use Rattle.std.proofs.lemmas.List.{get_or-replicate, length-map, length-replicate, length-set, take_all, take_more}
 use Rattle.std.proofs.lemmas.List.Elements.{All-contains, All-contains_itself, All-weaker, Contains-append_left, Contains-append_right, Contains-push, Contains-push_cases, Contains-get_or}
 use Rattle.std.proofs.lemmas.List.Quantifiers.{all_pairs_push}
 use Rattle.std.proofs.lemmas.Option.{slice_get-get_or, slice_get-map, slice_get_within, same_Some}
@@ -186,6 +186,16 @@ module _ (before : List Atom) (leaf : Atom) (names : List (Option ℕ)) (are : A
           by (inr apart) =
               slice_get-set_other names p q (Some p) apart
               ∙ are.all q (omega (arith, inside, length-set names p (Some p))) (other_leaf (Name q) h (λ same. apart (sym (same_name q (sym is ∙ same)))))
+
+-- each item of a list of one item many times
+replicate_same : {X : Type 0} (n : ℕ) (x : X) (p : ℕ) (y : X) → slice_get (replicate n x) p ≡ Some y → x ≡ y
+replicate_same {X} n x p y at =
+    let within = slice_get_within (replicate n x) p y at in
+    let inside : p < n = omega (arith, within, length-replicate n x) in
+    same_Some x y (ap (λ (z : X). Some z) (sym (get_or-replicate n p x x inside)) ∙ sym (slice_get-get_or (replicate n x) p x within) ∙ at)
+
+pub no_names : (n p name : ℕ) → slice_get (replicate n None) p ≡ Some (Some name) → ⊥
+no_names n p name at = let no : None ≡ Some name = replicate_same n None p (Some name) at in cc
 
 -- no leaf so far
 pub names_none : (names : List (Option ℕ)) → ((p name : ℕ) → slice_get names p ≡ Some (Some name) → ⊥) → AreNamesAmong [] names

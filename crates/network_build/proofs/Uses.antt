@@ -101,17 +101,17 @@ module _ {X : Type 0} (Gives : X → Symbol → Type 0) where
   given_more first old new xs i x front added so_far s = (
     λ at. elim ((added s).0 at) as (λ _. Contains first s ⊎ Given (take (i + 1) xs) s) [
       | inl o ↦ elim ((so_far s).0 o) as (λ _. Contains first s ⊎ Given (take (i + 1) xs) s) [
-          | inl f ↦ inl f
-          | inr (y, among, gives) ↦ inr (y, subst (λ (ys : List X). Contains ys y) (sym front) (Contains-append_left (take i xs) (x ∷ []) y among), gives)
-        ]
+        | inl f ↦ inl f
+        | inr (y, among, gives) ↦ inr (y, subst (λ (ys : List X). Contains ys y) (sym front) (Contains-append_left (take i xs) (x ∷ []) y among), gives)
+      ]
       | inr gives ↦ inr (x, subst (λ (ys : List X). Contains ys x) (sym front) (Contains-push (take i xs) x), gives)
     ],
     λ h. elim h as (λ _. Contains new s) [
       | inl f ↦ (added s).1 (inl ((so_far s).1 (inl f)))
       | inr (y, among, gives) ↦ elim (Contains-push_cases (take i xs) x y (subst (λ (ys : List X). Contains ys y) front among)) as (λ _. Contains new s) [
-          | inl before ↦ (added s).1 (inl ((so_far s).1 (inr (y, before, gives))))
-          | inr same ↦ (added s).1 (inr (subst (λ (z : X). Gives z s) (sym same) gives))
-        ]
+        | inl before ↦ (added s).1 (inl ((so_far s).1 (inr (y, before, gives))))
+        | inr same ↦ (added s).1 (inr (subst (λ (z : X). Gives z s) (sym same) gives))
+      ]
     ],
   )
 
