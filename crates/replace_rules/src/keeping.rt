@@ -57,7 +57,7 @@ fn kept_at(
 
 /// Those of the words in which each replacement by the place of this number stands behind a word of the one language and before
 /// one of the other.
-fn in_context(
+pub fn in_context(
     alloc: Global,
     number: usize,
     words: &Lang<Bound<Mark>>,
