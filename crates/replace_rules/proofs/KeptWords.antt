@@ -174,3 +174,18 @@ module _ (Q : ℕ → Place → List (Bound Mark) → Type 0) (places : List Pla
         λ h. (h.0, λ k p l at. h.1 k p at),
       ))
       is
+
+-- all words of the marks
+pub every_words : (marks : List (Bound Mark)) (any : Automaton (Bound Mark)) (lang : Complete (Bound Mark)) → ((w : List (Bound Mark)) → language.Accepts any w ↔ IsOver marks w) → IsLang marks (λ w. IsOver marks w × language.Accepts any w) lang → IsLang marks (λ w. IsOver marks w) lang
+every_words marks any lang any_is is = IsLang-same marks (λ w. IsOver marks w × language.Accepts any w) (λ w. IsOver marks w) lang (λ w. (λ h. h.0, λ over. (over, (any_is w).1 over))) is
+
+-- what is asked, put together first
+pub asked_kept : (marks : List (Bound Mark)) (Q : List (Bound Mark) → Type 0) (words all asked last : Complete (Bound Mark)) → marks ≡ words.letters → IsLang marks (λ w. IsOver marks w) all → IsLang all.letters (λ w. Accepts all w × Q w) asked
+    → IsLang words.letters (λ w. Accepts words w × Accepts asked w) last → IsLang words.letters (λ w. Accepts words w × Q w) last
+asked_kept marks Q words all asked last same all_is asked_is last_is =
+    IsLang-same words.letters (λ w. Accepts words w × Accepts asked w) (λ w. Accepts words w × Q w) last
+    (λ w. (
+      λ h. (h.0, ((asked_is.words w).0 h.1).1),
+      λ h. (h.0, (asked_is.words w).1 ((all_is.words w).1 (subst (λ ls. IsOver ls w) (sym same) (accepted_over words h.0)), h.1)),
+    ))
+    last_is

@@ -6,7 +6,7 @@ ghost use Rattle.lang_algebra.specs.Languages.{IsLang};
 ghost use Rattle.replace_words.specs.Filled.{IsFilledAt, LeavesNoGap, NoTwo};
 ghost use Rattle.replace_rules.specs.Places.{Place, rules_by};
 
-use crate::keeping::in_context;
+use crate::keeping::{every_word, in_context};
 use crate::places::Place;
 use fsa::Fsa;
 use fsm_base::Bound;
@@ -37,6 +37,21 @@ pub fn filled_words(
 
 /// Those of the words that keep what insertions ask at the place of this number.
 fn filled_at(
+    alloc: Global,
+    optional: bool,
+    number: usize,
+    place: &Place,
+    words: &Lang<Bound<Mark>>,
+) -> Result<Lang<Bound<Mark>>, AllocError>
+    ensures { IfOk result (IsLang words.now.letters (λ w. complete.Accepts words.now w × IsFilledAt rules_by optional number place.now w)) }
+{
+    let all = every_word(alloc, words.letters())?;
+    let asked = asked_at(alloc, optional, number, place, &all)?;
+    words.both(alloc, &asked)
+}
+
+/// Those of the words that keep what insertions ask at the place of this number, by one constraint after another.
+fn asked_at(
     alloc: Global,
     optional: bool,
     number: usize,

@@ -15,25 +15,20 @@ pub fn add_answers(
 ) -> Result<(), AllocError>
     requires { IsOverAlphabet symbols.now.alphabet net.now }
 {
-    let (way, rest) = look.trim_ascii().split_once(' ').unwrap_or((look, ""));
+    let look = look.trim_ascii();
+    let (way, rest) = look.split_once(' ').unwrap_or((look, ""));
+    let word = word_of(alloc, symbols, rest)?;
     match way {
-        "down" => {
-            let word = word_of(alloc, symbols, rest)?;
-            add_line(
-                said,
-                &texts_of(alloc, &down(alloc, net, &symbols.alphabet, &word)?)?,
-            )
-        }
-        "up" => {
-            let word = word_of(alloc, symbols, rest)?;
-            add_line(
-                said,
-                &texts_of(alloc, &up(alloc, net, &symbols.alphabet, &word)?)?,
-            )
-        }
+        "down" => add_texts(alloc, said, &down(alloc, net, &symbols.alphabet, &word)?),
+        "up" => add_texts(alloc, said, &up(alloc, net, &symbols.alphabet, &word)?),
         "all" => add_all(alloc, said, net, symbols, rest.parse::<u32>().unwrap_or(0)),
         _ => Ok(()),
     }
+}
+
+/// Adds a line of an answer.
+fn add_texts(alloc: Global, said: &mut String, answer: &Answer) -> Result<(), AllocError> {
+    add_line(said, &texts_of(alloc, answer)?)
 }
 
 /// Adds a line.

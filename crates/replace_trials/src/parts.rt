@@ -20,7 +20,7 @@ pub fn part_of(
 ) -> Result<Fsa<Bound<Sym>>, AllocError>
     ensures { IfOk result (UsesOnly letters.now) }
 {
-    let mut part = Fsa::new(alloc)?;
+    let mut part = one_letter(alloc, &[])?;
     'words: for text in text.split('|') {
         let more = row_of(alloc, symbols, letters, text)?;
         part = union(alloc, &part, &more)?;
@@ -55,13 +55,13 @@ fn words_of(
     ensures { IfOk result (UsesOnly letters.now) }
 {
     match atom.strip_suffix('*') {
-        Some(atom) => star(alloc, &letters_of(alloc, symbols, letters, atom)?),
-        None => letters_of(alloc, symbols, letters, atom),
+        Some(atom) => star(alloc, &letter_of(alloc, symbols, letters, atom)?),
+        None => letter_of(alloc, symbols, letters, atom),
     }
 }
 
-/// Those of the letters that an atom may be, as words.
-fn letters_of(
+/// The words of one of the letters that an atom may be.
+fn letter_of(
     alloc: Global,
     symbols: &Symbols,
     letters: &[Bound<Sym>],
@@ -69,13 +69,25 @@ fn letters_of(
 ) -> Result<Fsa<Bound<Sym>>, AllocError>
     ensures { IfOk result (UsesOnly letters.now) }
 {
+    one_letter(alloc, &found_in(alloc, symbols, letters, atom)?)
+}
+
+/// Those of the letters that an atom may be.
+fn found_in(
+    alloc: Global,
+    symbols: &Symbols,
+    letters: &[Bound<Sym>],
+    atom: &str,
+) -> Result<Vec<Bound<Sym>>, AllocError>
+    ensures { IfOk result (λ found. (x : Bound Sym) → Contains found.items x → Contains letters.now x) }
+{
     let mut found = Vec::new(alloc);
     'letters: for letter in letters {
         if may_be(symbols, atom, *letter) {
             found.push(*letter)?;
         }
     }
-    one_letter(alloc, &found)
+    Ok(found)
 }
 
 /// Whether an atom may be a letter.

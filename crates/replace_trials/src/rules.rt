@@ -1,3 +1,10 @@
+ghost use Rattle.std.specs.Prelude.{◌≡◌, Contains, IfOk, IfSome};
+ghost use Rattle.fsm_base.specs.Alphabet.{symbols_of};
+ghost use Rattle.lookup.specs.Answering.{IsOverAlphabet};
+ghost use Rattle.network_algebra.specs.Networks.{UsesSymbols};
+ghost use Rattle.replace_rules.specs.Rules.{AreMapsOver, IsMapOver};
+ghost use Rattle.replace_rules.specs.declared.rules.LangMap.{LangMap};
+
 use crate::parts::part_of;
 use crate::symbols::Symbols;
 use fsa::Fsa;
@@ -5,24 +12,64 @@ use fsm_base::{Bound, Pair, Sym};
 use lang_algebra::Lang;
 use lookup::Net;
 use network_algebra::{every_letter, inside};
-use replace_rules::{LangContext, LangGroup, LangMap, Side, replace};
+use replace_rules::{LangContext, LangGroup, LangMap, Side, insert, replace};
 use std::alloc::{AllocError, Global};
 
 /// The network of the rules of a text.
-pub fn network(alloc: Global, symbols: &Symbols, rules: &str) -> Result<Net, AllocError> {
+pub fn network(alloc: Global, symbols: &Symbols, rules: &str) -> Result<Net, AllocError>
+    ensures { IfOk result (IsOverAlphabet symbols.now.alphabet) }
+{
     let fsa = rewriting(alloc, symbols, rules)?;
     Net::of(alloc, &fsa)
 }
 
 /// The network of the rules of a text, before look-up.
-fn rewriting(alloc: Global, symbols: &Symbols, rules: &str) -> Result<Fsa<Pair>, AllocError> {
+fn rewriting(alloc: Global, symbols: &Symbols, rules: &str) -> Result<Fsa<Pair>, AllocError>
+    ensures { IfOk result (UsesSymbols (symbols_of symbols.now.alphabet)) }
+{
     let optional = rules.contains("(->)");
+    if rules.contains("[..]") {
+        return insertion(alloc, symbols, optional, rules);
+    }
     let groups = groups_of(alloc, symbols, rules)?;
     replace(alloc, symbols.alphabet.symbols(), optional, &groups)
 }
 
+/// The network of an insertion.
+fn insertion(
+    alloc: Global,
+    symbols: &Symbols,
+    optional: bool,
+    text: &str,
+) -> Result<Fsa<Pair>, AllocError>
+    ensures { IfOk result (UsesSymbols (symbols_of symbols.now.alphabet)) }
+{
+    let (map, side, contexts) = sides_of(text);
+    let (_, put) = halves(map).unwrap_or((map, ""));
+    let put = language_of(alloc, symbols, put)?;
+    let contexts = contexts_of(alloc, symbols, contexts)?;
+    insert(
+        alloc,
+        symbols.alphabet.symbols(),
+        optional,
+        &put,
+        side,
+        &contexts,
+    )
+}
+
+/// What stands before the arrow of a mapping, and behind it.
+fn halves(map: &str) -> Option<(&str, &str)> {
+    match map.split_once("(->)") {
+        Some(halves) => Some(halves),
+        None => map.split_once("->"),
+    }
+}
+
 /// The groups of a text.
-fn groups_of(alloc: Global, symbols: &Symbols, rules: &str) -> Result<Vec<LangGroup>, AllocError> {
+fn groups_of(alloc: Global, symbols: &Symbols, rules: &str) -> Result<Vec<LangGroup>, AllocError>
+    ensures { IfOk result (λ groups. AreMapsOver (symbols_of symbols.now.alphabet) groups.items) }
+{
     let mut groups = Vec::new(alloc);
     'groups: for text in rules.split(",,") {
         groups.push(group_of(alloc, symbols, text)?)?;
@@ -31,7 +78,9 @@ fn groups_of(alloc: Global, symbols: &Symbols, rules: &str) -> Result<Vec<LangGr
 }
 
 /// The group of a text.
-fn group_of(alloc: Global, symbols: &Symbols, text: &str) -> Result<LangGroup, AllocError> {
+fn group_of(alloc: Global, symbols: &Symbols, text: &str) -> Result<LangGroup, AllocError>
+    ensures { IfOk result (λ group. (m : LangMap) → Contains group.maps.items m → IsMapOver (symbols_of symbols.now.alphabet) m) }
+{
     let (maps, side, contexts) = sides_of(text);
     let maps = maps_of(alloc, symbols, maps)?;
     let contexts = contexts_of(alloc, symbols, contexts)?;
@@ -58,7 +107,9 @@ fn sides_of(text: &str) -> (&str, Side, &str) {
 }
 
 /// The mappings of a text. One that isn't written as one, or whose centre has the empty word, is left out.
-fn maps_of(alloc: Global, symbols: &Symbols, text: &str) -> Result<Vec<LangMap>, AllocError> {
+fn maps_of(alloc: Global, symbols: &Symbols, text: &str) -> Result<Vec<LangMap>, AllocError>
+    ensures { IfOk result (λ maps. (m : LangMap) → Contains maps.items m → IsMapOver (symbols_of symbols.now.alphabet) m) }
+{
     let mut maps = Vec::new(alloc);
     'maps: for text in text.split(',') {
         if let Some(map) = map_of(alloc, symbols, text)? {
@@ -69,8 +120,10 @@ fn maps_of(alloc: Global, symbols: &Symbols, text: &str) -> Result<Vec<LangMap>,
 }
 
 /// The mapping of a text, if it is one.
-fn map_of(alloc: Global, symbols: &Symbols, text: &str) -> Result<Option<LangMap>, AllocError> {
-    let Some((centre, put)) = text.split_once("->") else {
+fn map_of(alloc: Global, symbols: &Symbols, text: &str) -> Result<Option<LangMap>, AllocError>
+    ensures { IfOk result (λ found. IfSome found (IsMapOver (symbols_of symbols.now.alphabet))) }
+{
+    let Some((centre, put)) = halves(text) else {
         return Ok(None);
     };
     let centre = language_of(alloc, symbols, centre)?;
@@ -93,7 +146,9 @@ fn map_of(alloc: Global, symbols: &Symbols, text: &str) -> Result<Option<LangMap
 }
 
 /// The words of a part that are without the edge.
-fn language_of(alloc: Global, symbols: &Symbols, text: &str) -> Result<Lang<Sym>, AllocError> {
+fn language_of(alloc: Global, symbols: &Symbols, text: &str) -> Result<Lang<Sym>, AllocError>
+    ensures { IfOk result (λ lang. lang.letters ≡ symbols_of symbols.now.alphabet) }
+{
     let letters = every_letter(alloc, symbols.alphabet.symbols())?;
     let part = part_of(alloc, symbols, &letters, text)?;
     Lang::of(alloc, symbols.alphabet.symbols(), &inside(alloc, &part)?)

@@ -1,4 +1,4 @@
-ghost use Rattle.std.specs.Prelude.{◌≡◌, ℕ, Some, IfOk, length, slice_get};
+ghost use Rattle.std.specs.Prelude.{◌≡◌, ◌<◌, ◌≤◌, ℕ, Some, IfOk, OnOk, OnErr, length, slice_get};
 ghost use Rattle.fsm_base.specs.declared.letters.Sym.{Sym};
 
 use fsm_base::{Alphabet, Sym, SymbolTable};
@@ -27,23 +27,37 @@ impl Symbols {
 pub fn symbols_of(alloc: Global, texts: &str) -> Result<Symbols, AllocError> {
     let mut table = SymbolTable::new(alloc);
     'texts: for text in texts.split_ascii_whitespace() {
-        if !text.is_empty() && table.len() < MOST {
-            table.intern(text)?;
-        }
+        add_text(&mut table, text)?;
     }
-    let symbols = symbols_below(alloc, table.len())?;
+    let symbols = symbols_below(alloc, count_of(&table))?;
     let alphabet = Alphabet::of(alloc, &table, &symbols)?;
     Ok(Symbols { table, alphabet })
 }
 
+/// Adds a symbol, if there is room.
+fn add_text(table: &mut SymbolTable, text: &str) -> Result<(), AllocError> {
+    if !text.is_empty() && table.len() < MOST {
+        table.intern(text)?;
+    }
+    Ok(())
+}
+
+/// How many symbols there are.
+fn count_of(table: &SymbolTable) -> u32
+    ensures { result ≤ length table.now }
+{
+    let count = table.len();
+    if count <= MOST { count as u32 } else { 0 }
+}
+
 /// The symbols of the numbers below this one, in their order.
-fn symbols_below(alloc: Global, count: usize) -> Result<Vec<Sym>, AllocError>
+fn symbols_below(alloc: Global, count: u32) -> Result<Vec<Sym>, AllocError>
     ensures numbers { IfOk result (λ symbols. (place : ℕ) (x : Sym) → slice_get symbols.items place ≡ Some x → x.0 ≡ place) }
     ensures count { IfOk result (λ symbols. length symbols.items ≡ count) }
 {
     let mut symbols = Vec::new(alloc);
     'numbers: for number in 0..count {
-        symbols.push(Sym(number as u32))?;
+        symbols.push(Sym(number))?;
     }
     Ok(symbols)
 }
