@@ -2,4 +2,4 @@ mod Listing
 mod Tables
 pub mod Sets
 mod Paired
-pub mod Gaps
+pub mod GapWords

@@ -19,7 +19,7 @@ use Rattle.replace_words.specs.declared.marks.Mark.TheVariants.{Open, Close}
 use Rattle.replace_words.specs.Filled.{IsFilledAt, LeavesNoGap, NoTwo}
 use Rattle.replace_words.specs.Marked.{copies, KeepsLeft, KeepsRight, LeavesNone, LeftHolds, RightHolds, IsKept}
 use Rattle.replace_langs.proofs.Sets.{over_front, over_back}
-use Rattle.replace_langs.proofs.Gaps.{accepted_over}
+use Rattle.replace_langs.proofs.GapWords.{accepted_over}
 use Rattle.replace_rules.specs.declared.rules.LangMap.{LangMap}
 use Rattle.replace_rules.specs.Places.{Place, HasCentreIn, IsBetween, rules_by}
 

@@ -14,7 +14,7 @@ use Rattle.replace_words.specs.declared.marks.Mark.{Mark}
 use Rattle.replace_words.specs.declared.marks.Mark.TheVariants.{Copy, Up, Low, Same, Open, Close}
 use Rattle.replace_words.specs.Marked.{ups, lows, sames, bracket, IsReplacement, IsBlock, IsWellMarked}
 use Rattle.replace_langs.specs.Letters.{IsMarkOf}
-use Rattle.replace_langs.proofs.Gaps.{accepted_over}
+use Rattle.replace_langs.proofs.GapWords.{accepted_over}
 use Rattle.replace_rules.specs.declared.rules.LangMap.{LangMap}
 use Rattle.replace_rules.specs.Places.{Place, rules_by}
 

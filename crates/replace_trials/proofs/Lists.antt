@@ -1,18 +1,20 @@
 -- Lists that grow by one item, parts over letters, and symbols whose numbers are their places.
 use Rattle.std.proofs.Common.{◌≡◌, ◌⊎◌, ◌<◌, ◌≤◌, ℕ, ◌+◌, List, [], ◌∷◌, ◌++◌, length, Option, Some, None, refl, sym, ap, subst, ◌∙◌, inl, inr, arith, zero, suc}
-use Rattle.std.specs.Prelude.{All}
+use Rattle.std.specs.Prelude.{All, map}
 use Rattle.std.specs.List.{Contains, slice_get}
 use Rattle.std.proofs.lemmas.Option.{slice_get_within}
 use Rattle.std.proofs.lemmas.List.Elements.{All-contains_itself, All-weaker, Contains-push_cases}
 use Rattle.fsm_base.specs.Alphabet.{symbols_of}
+use Rattle.fsm_base.specs.declared.letters.Bound.{Bound}
+use Rattle.fsm_base.specs.declared.letters.Bound.TheVariants.{Edge, Inner}
 use Rattle.fsm_base.specs.declared.letters.Sym.{Sym}
 use Rattle.fsm_base.specs.declared.letters.Pair.{Pair}
 use Rattle.word_relations.specs.Words.{IsDistinct, IsOver}
-use Rattle.word_relations.proofs.Members.{Contains-nil_cases}
+use Rattle.word_relations.proofs.Members.{Contains-nil_cases, Contains-cons_cases, Contains-map_cases}
 use Rattle.word_relations.proofs.Places.{slice_get-append_cases, slice_get_from_Contains}
 use Rattle.fsa.specs.Automaton.{Automaton, UsesLetter}
 use Rattle.fsa.specs.Complete.{Complete, Accepts}
-use Rattle.network_algebra.specs.Networks.{UsesOnly, UsesSymbols}
+use Rattle.network_algebra.specs.Networks.{UsesOnly, UsesSymbols, all_letters}
 use Rattle.lookup.specs.Answering.{IsOverAlphabet}
 use Rattle.replace_rules.specs.declared.rules.LangMap.{LangMap}
 use Rattle.replace_rules.specs.Rules.{IsMapOver}
@@ -30,6 +32,13 @@ joined_only letters a b m used first second x h = elim (used x h) as (λ _. Cont
 
 pub none_used : {L : Type 0} (letters : List L) (m : Automaton L) → ((x : L) → UsesLetter m x → Contains [] x) → UsesOnly letters m
 none_used letters m used x h = absurd (Contains-nil_cases x (used x h))
+
+-- the words without the edge of a part are over the symbols
+pub inner_only : (symbols : List Sym) (part : Automaton (Bound Sym)) (m : Automaton Sym) → UsesOnly (all_letters symbols) part → ((x : Sym) → UsesLetter m x → UsesLetter part (Inner x)) → (x : Sym) → UsesLetter m x → Contains symbols x
+inner_only symbols part m only inside x h = elim (Contains-cons_cases Edge (map Inner symbols) (Inner x) (only (Inner x) (inside x h))) as (λ _. Contains symbols x) [
+  | inl e ↦ let clash : Edge ≡ Inner x = e in absurd (cc)
+  | inr there ↦ let t = Contains-map_cases Inner symbols (Inner x) there in let e : Inner t.0 ≡ Inner x = t.2 in let same : t.0 ≡ x = cc in subst (Contains symbols) same t.1
+]
 
 -- a list is over itself
 pub over_itself : (letters symbols : List Sym) → letters ≡ symbols → IsOver symbols letters

@@ -176,8 +176,14 @@ fn context_of(
     left: &str,
     right: &str,
 ) -> Result<LangContext, AllocError> {
-    let letters = every_letter(alloc, symbols.alphabet.symbols())?;
-    let left = Lang::of(alloc, &letters, &part_of(alloc, symbols, &letters, left)?)?;
-    let right = Lang::of(alloc, &letters, &part_of(alloc, symbols, &letters, right)?)?;
+    let left = side_of(alloc, symbols, left)?;
+    let right = side_of(alloc, symbols, right)?;
     Ok(LangContext { left, right })
+}
+
+/// The words of a part, which may have the edge.
+fn side_of(alloc: Global, symbols: &Symbols, text: &str) -> Result<Lang<Bound<Sym>>, AllocError> {
+    let letters = every_letter(alloc, symbols.alphabet.symbols())?;
+    let part = part_of(alloc, symbols, &letters, text)?;
+    Lang::of(alloc, &letters, &part)
 }

@@ -1,6 +1,6 @@
 use Rattle.std.proofs.Common.{◌∙◌}
 use Rattle.std.proofs.lemmas.Result.{IfOk-weaker}
-use Rattle.replace_langs.proofs.Gaps.{begun_words}
+use Rattle.replace_langs.proofs.GapWords.{begun_words}
 use Rattle.replace_langs.proofs.gaps.beginning_with.Goals as goal
 
 pub over-requires : goal.over-requires

@@ -1,6 +1,6 @@
 use Rattle.std.proofs.Common.{◌∙◌}
 use Rattle.std.proofs.lemmas.Result.{IfOk-weaker}
-use Rattle.replace_langs.proofs.Gaps.{ended_words}
+use Rattle.replace_langs.proofs.GapWords.{ended_words}
 use Rattle.replace_langs.proofs.gaps.ending_in.Goals as goal
 
 pub over-requires : goal.over-requires

@@ -1,6 +1,6 @@
 use Rattle.std.proofs.Common.{sym, ◌∙◌}
 use Rattle.std.proofs.lemmas.Result.{IfOk-weaker}
-use Rattle.replace_langs.proofs.Gaps.{gaps_filled}
+use Rattle.replace_langs.proofs.GapWords.{gaps_filled}
 use Rattle.replace_langs.proofs.gaps.leaves_no_gap.Goals as goal
 
 pub meets_nowhere-requires : goal.meets_nowhere-requires

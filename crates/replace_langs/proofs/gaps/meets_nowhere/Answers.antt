@@ -1,5 +1,5 @@
 use Rattle.std.proofs.lemmas.Result.{IfOk-weaker}
-use Rattle.replace_langs.proofs.Gaps.{apart_words}
+use Rattle.replace_langs.proofs.GapWords.{apart_words}
 use Rattle.replace_langs.proofs.gaps.meets_nowhere.Goals as goal
 
 pub returns : goal.returns

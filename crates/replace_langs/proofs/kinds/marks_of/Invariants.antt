@@ -1,6 +1,6 @@
 use Rattle.std.proofs.Common.{◌≡◌, true, take}
 use Rattle.replace_langs.specs.Kinds.{is_of}
-use Rattle.replace_langs.proofs.Gaps.{ArePicked}
+use Rattle.replace_langs.proofs.GapWords.{ArePicked}
 use Rattle.replace_langs.proofs.kinds.marks_of.Given as goal
 
 abbrev pub invariant-loop-mark : goal.invariant-loop-mark

@@ -1,7 +1,8 @@
 -- Words of marks that keep what insertions ask.
-use Rattle.std.proofs.Common.{◌≡◌, ◌↔◌, Bool, true, false, ℕ, List, [], ◌∷◌, ◌++◌, refl, sym, ap, subst, ◌∙◌, inl, inr, append_assoc}
+use Rattle.std.proofs.Common.{◌≡◌, ◌↔◌, Bool, true, false, ℕ, ◌+◌, ◌<◌, length, take, get_or, List, [], ◌∷◌, ◌++◌, refl, sym, ap, subst, ◌∙◌, inl, inr, append_assoc}
 use Rattle.std.specs.List.{Contains}
 use Rattle.std.proofs.lemmas.List.Elements.{All-nil, All-cons, All-head, All-tail, Contains-append_left, Contains-append_right, Contains-push_cases}
+use Rattle.std.proofs.lemmas.List.{take_more}
 use Rattle.fsm_base.specs.declared.letters.Bound.{Bound}
 use Rattle.fsm_base.specs.declared.letters.Bound.TheVariants.{Edge, Inner}
 use Rattle.word_relations.specs.Words.{IsOver, IsConcatenation}
@@ -189,3 +190,12 @@ two_apart marks any all before behind kept any_is all_is before_is behind_is kep
         let (j, em) = closing_mark m is_m in
         let (k, en) = opening_mark n is_n in
         h x j k z (e ∙ ap (λ v. v ++ b) ea ∙ ap (λ v. (x ++ m ∷ []) ++ v) eb ∙ append_assoc x (m ∷ []) (n ∷ z) ∙ ap (λ g. x ++ g ∷ (n ∷ z)) em ∙ ap (λ g. x ++ Inner (Close j) ∷ (g ∷ z)) en)
+
+-- a step of a list that is gone through
+pub picked_step : (P : Bound Mark → Type 0) (marks found next : List (Bound Mark)) (i : ℕ) (d : Bound Mark) → i < length marks → ArePicked P (take i marks) found → P (get_or marks i d) → next ≡ found ++ get_or marks i d ∷ [] → ArePicked P (take (i + 1) marks) next
+picked_step P marks found next i d within before is e =
+    subst (λ front. ArePicked P front next) (sym (take_more marks i d within)) (subst (λ fs. ArePicked P (take i marks ++ get_or marks i d ∷ []) fs) (sym e) (picked_more P (take i marks) found (get_or marks i d) before is))
+
+pub picked_skip : (P : Bound Mark → Type 0) (marks found next : List (Bound Mark)) (i : ℕ) (d : Bound Mark) → i < length marks → ArePicked P (take i marks) found → (P (get_or marks i d) → ⊥) → next ≡ found → ArePicked P (take (i + 1) marks) next
+picked_skip P marks found next i d within before none e =
+    subst (λ front. ArePicked P front next) (sym (take_more marks i d within)) (subst (λ fs. ArePicked P (take i marks ++ get_or marks i d ∷ []) fs) (sym e) (picked_less P (take i marks) found (get_or marks i d) before none))
