@@ -1,17 +1,17 @@
 -- Words that keep what rules ask of a place.
-use Rattle.std.proofs.Common.{◌≡◌, ◌↔◌, ℕ, ◌+◌, ◌<◌, ◌≤◌, Bool, true, false, List, ◌∷◌, ◌++◌, Some, length, sym, subst, ◌∙◌, inl, inr, arith}
+use Rattle.std.proofs.Common.{◌≡◌, ◌↔◌, ℕ, ◌+◌, ◌<◌, ◌≤◌, Bool, true, false, List, [], ◌∷◌, ◌++◌, Some, length, sym, subst, ◌∙◌, inl, inr, arith}
 use Rattle.std.specs.List.{Contains, slice_get}
 use Rattle.std.proofs.lemmas.Bool.{cases_lt}
 use Rattle.std.proofs.lemmas.Option.{slice_get_within}
-use Rattle.std.proofs.lemmas.List.Elements.{All-nil, All-cons, All-tail}
+use Rattle.std.proofs.lemmas.List.Elements.{All-tail}
 use Rattle.fsm_base.specs.declared.letters.Sym.{Sym}
 use Rattle.fsm_base.specs.declared.letters.Bound.{Bound}
 use Rattle.fsm_base.specs.declared.letters.Bound.TheVariants.{Inner}
 use Rattle.word_relations.specs.Words.{IsOver}
-use Rattle.word_relations.proofs.Places.{Contains-from_slice_get, same_at}
+use Rattle.word_relations.proofs.Places.{same_at}
 use Rattle.fsa.specs.Automaton.{Automaton}
 use Rattle.fsa.specs.Language as language
-use Rattle.fsa.specs.Complete.{Complete, AcceptsFrom, Accepts, stop, read}
+use Rattle.fsa.specs.Complete.{Complete, Accepts}
 use Rattle.lang_algebra.specs.Languages.{IsLang}
 use Rattle.lang_algebra.proofs.Made.{IsLang-same}
 use Rattle.replace_words.specs.declared.marks.Mark.{Mark}

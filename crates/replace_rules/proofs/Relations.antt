@@ -1,31 +1,28 @@
 -- What groups rewrite, the two sides of marked words of their places are.
-use Rattle.std.proofs.Common.{◌≡◌, ◌↔◌, ◌⊎◌, ℕ, ◌<◌, Bool, List, [], ◌∷◌, ◌++◌, Option, Some, None, All, length, refl, sym, ap, subst, inl, inr}
-use Rattle.std.specs.List.{Contains, slice_get, flat_map, filter_map}
-use Rattle.std.proofs.lemmas.Option.{slice_get_within}
-use Rattle.std.proofs.lemmas.List.Elements.{All-nil, All-cons, All-head, All-tail, All-append, All-map, All-weaker, All-contains, Contains-append_left, Contains-append_right, Contains-append_cases}
+use Rattle.std.proofs.Common.{◌≡◌, ◌↔◌, ◌⊎◌, ℕ, Bool, List, [], ◌∷◌, ◌++◌, Option, Some, None, length, refl, sym, ap, subst, inl, inr}
+use Rattle.std.specs.List.{Contains, slice_get, filter_map}
+use Rattle.std.proofs.lemmas.List.Elements.{All-weaker, Contains-append_left, Contains-append_right, Contains-append_cases}
 use Rattle.fsm_base.specs.declared.letters.Sym.{Sym}
 use Rattle.fsm_base.specs.declared.letters.Bound.{Bound}
-use Rattle.fsm_base.specs.declared.letters.Bound.TheVariants.{Edge, Inner}
+use Rattle.fsm_base.specs.declared.letters.Bound.TheVariants.{Edge}
 use Rattle.word_relations.specs.Words.{IsOver}
 use Rattle.word_relations.proofs.Members.{Contains-nil_cases, Contains-cons_cases, Contains-head, Contains-tail, Contains-map, Contains-map_cases}
-use Rattle.word_relations.proofs.Places.{Contains-from_slice_get}
 use Rattle.fsa.specs.Automaton.{Automaton}
 use Rattle.fsa.specs.Language as language
-use Rattle.fsa.specs.Complete.{Complete, AcceptsFrom, Accepts, stop, read}
+use Rattle.fsa.specs.Complete.{Complete, Accepts}
 use Rattle.lang_algebra.specs.Languages.{IsLang}
 use Rattle.expr_meaning.specs.Operators.{inner}
 use Rattle.expr_meaning.specs.Replacement.{Piece, copied, replaced, read_before, read_behind, IsPiece, IsRewritten}
 use Rattle.replace_words.specs.declared.marks.Mark.{Mark}
-use Rattle.replace_words.specs.declared.marks.Mark.TheVariants.{Copy, Up, Low, Same, Open, Close}
 use Rattle.replace_words.specs.Places.{HasNoEmptyCentre, HoldsBetween, ReplacesAt, AppliesAt, IsRewrittenAt}
-use Rattle.replace_words.specs.Marked.{ups, lows, sames, bracket, upper_of, lower_of, symbol_of, IsReplacement, IsBlock, IsWellMarked, IsKept}
+use Rattle.replace_words.specs.Marked.{upper_of, lower_of, symbol_of, IsWellMarked, IsKept}
 use Rattle.replace_words.proofs.Claimed.{rewritings_are_marked}
 use Rattle.replace_langs.specs.Letters.{IsMarkOf}
 use Rattle.replace_rules.specs.declared.rules.LangMap.{LangMap}
 use Rattle.replace_rules.specs.declared.rules.LangContext.{LangContext}
 use Rattle.replace_rules.specs.declared.rules.LangGroup.{LangGroup}
 use Rattle.replace_rules.proofs.OverMarks.{ArePartsOver, well_over}
-use Rattle.replace_rules.specs.Rules.{IsPut, HasCentre, HasMapping, HasContext, Allows, ReplacesBy, AppliesBy, IsMapOver, AreMapsOver}
+use Rattle.replace_rules.specs.Rules.{IsPut, HasCentre, HasMapping, HasContext, Allows, ReplacesBy, AppliesBy, AreMapsOver}
 use Rattle.replace_rules.specs.Places.{Place, choices, place_with, places_in, places_of, HasPlain, HasMarkup, LeftPart, RightPart, rules_by}
 
 -- the places of groups are those of each
