@@ -114,21 +114,3 @@ fn letter_of(up: Option<Sym>, low: Option<Sym>) -> Option<Pair>
     }
     Some(Pair { up, low })
 }
-
-/// The automaton with these edges, each of which lies between two of its states.
-pub fn automaton(
-    alloc: Global,
-    finals: Vec<bool>,
-    edges: &[Edge<Pair>],
-) -> Result<Fsa<Pair>, AllocError>
-    requires start { 0 < length finals.items }
-    requires within { (e : Edge Pair) → Contains edges.now e → (e.from < length finals.items) × (e.to < length finals.items) }
-    ensures finals { IfOk result (λ m. m.finals ≡ finals.items) }
-    ensures edges { IfOk result (λ m. (e : Edge Pair) → Contains m.edges e ↔ Contains edges.now e) }
-{
-    let mut m = Fsa::of_states(alloc, finals);
-    for edge in edges {
-        m.add_edge(*edge)?;
-    }
-    Ok(m)
-}
