@@ -1,6 +1,5 @@
--- Loops over the items of a node: what is left, and how many there are.
-use Rattle.std.proofs.Common.{◌≡◌, ◌+◌, ◌<◌, ◌≤◌, ℕ, zero, suc, List, [], ◌∷◌, length, map, drop, get_or, refl, sym, ap, ◌∙◌, arith}
-use lib.Seq.{drop-cons}
+-- Loops over the items of a node: how many there are, and one taken first.
+use Rattle.std.proofs.Common.{◌≡◌, List, [], ◌∷◌, length, map, refl, arith}
 use Rattle.regex_ast.specs.Terms.{term, terms_of, links_of, steps_by, mappings_of}
 use Rattle.regex_ast.specs.declared.expr.Atom.{Atom}
 use Rattle.regex_ast.specs.declared.expr.Expr.{Expr}
@@ -11,19 +10,6 @@ use Rattle.expr_kinds.specs.Atoms.{is_symbol, one, symbols}
 use Rattle.expr_kinds.specs.Forms.{form_in_links, form_in_steps, form_in_mappings}
 use Rattle.expr_kinds.specs.Weights.{count_of}
 use Rattle.expr_kinds.specs.declared.form.Form.{Form}
-
--- what is left of a list is the item at the place, and what is behind it
-pub left_behind : {X : Type 0} (xs : List X) (i : ℕ) (x : X) → i < length xs → x ≡ get_or xs i x → drop i xs ≡ x ∷ drop (i + 1) xs
-left_behind {X} xs i x below is = drop-cons xs i x below ∙ ap (λ (y : X). y ∷ drop (suc i) xs) (sym is) ∙ ap (λ (n : ℕ). x ∷ drop n xs) (one_more i)
-  where
-    one_more : (i : ℕ) → suc i ≡ i + 1
-    one_more i = omega arith
-
-pub none_left : {X : Type 0} (xs : List X) (i : ℕ) → length xs ≤ i → drop i xs ≡ []
-none_left [] zero h = refl
-none_left [] (suc i) h = refl
-none_left (x ∷ xs) zero h = absurd (omega arith)
-none_left (x ∷ xs) (suc i) h = none_left xs i (omega arith)
 
 pub count_is : {A : Type 0} (xs : List (Expr A)) → count_of (terms_of (map term xs)) ≡ length xs
 count_is [] = refl

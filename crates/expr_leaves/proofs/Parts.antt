@@ -1,5 +1,6 @@
 -- The leaves of the items of a list, item by item.
 use Rattle.std.proofs.Common.{◌≡◌, ◌+◌, ◌<◌, ℕ, List, [], ◌∷◌, ◌++◌, map, length, drop, get_or, refl, sym, ap, ◌∙◌, append_assoc, append-nil}
+use Rattle.word_relations.proofs.Behind.{left_behind}
 use Rattle.regex_ast.specs.Terms.{Term, term, terms_of, links_of, contexts_of, steps_by, mappings_of, groups_of, maps_of, contexts_in}
 use Rattle.regex_ast.specs.declared.expr.Expr.{Expr}
 use Rattle.regex_ast.specs.declared.expr.Context.{Context}
@@ -9,7 +10,6 @@ use Rattle.regex_ast.specs.declared.expr.Step.{Step, CrossWith, Then}
 use Rattle.regex_ast.specs.declared.expr.Mapping.{Mapping, Plain, Markup, Insert}
 use Rattle.expr_leaves.specs.Leaves.{leaves_in}
 use Rattle.expr_leaves.specs.Leaves.{leaves_in_each, leaves_in_links, leaves_in_contexts, leaves_in_steps, leaves_in_mappings, leaves_in_groups}
-use Rattle.expr_leaves.proofs.Behind.{left_behind}
 
 pub each_left : {A : Type 0} (parts : List (Expr A)) (i : ℕ) (part : Expr A) → i < length parts → part ≡ get_or parts i part
     → leaves_in_each (terms_of (map term (drop i parts))) ≡ leaves_in (term part) ++ leaves_in_each (terms_of (map term (drop (i + 1) parts)))

@@ -9,6 +9,7 @@ use Rattle.std.specs.Option.{option_map}
 use Rattle.fsm_base.specs.Symbols.{IsSymbol, IsTable, number_of, with_text}
 use Rattle.fsm_base.specs.declared.letters.Sym.{Sym}
 use Rattle.word_relations.specs.Words.{IsDistinct}
+use Rattle.word_relations.proofs.Behind.{left_behind}
 use Rattle.expr_leaves.specs.Mapped.{mapped}
 use Rattle.regex_ast.specs.Terms.{Term}
 use Rattle.regex_ast.specs.declared.expr.Atom.{Atom}
@@ -37,7 +38,6 @@ use Rattle.project_model.specs.declared.demands.Demand.{Demand}
 use Rattle.project_model.specs.declared.demands.Demand.TheVariants as demand
 use Rattle.project_model.specs.declared.plan_error.PlanError.{PlanError}
 use Rattle.project_model.specs.declared.plan_error.PlanError.TheVariants.{Refused, Memory}
-use Rattle.expr_leaves.proofs.Behind.{left_behind}
 use Rattle.project_model.proofs.Alphabets.{numbers_distinct, put}
 use Rattle.project_model.proofs.Built.{All-front}
 use Rattle.project_model.proofs.Demanded.{demand_fault}

@@ -1,9 +1,10 @@
 -- Brackets, token by token.
 use Rattle.std.proofs.Common.{◌≡◌, ◌≤◌, ◌<◌, ◌+◌, ◌-◌, ℕ, Bool, true, false, cond, ◌||◌, nat_lt, List, length, drop, get_or, refl, sym, ap, ◌∙◌, arith}
 use Rattle.std.proofs.lemmas.Bool.Decides.{nat_tests}
+use Rattle.std.proofs.lemmas.List.{drop_all}
+use Rattle.word_relations.proofs.Behind.{left_behind}
 use Rattle.regex_tokens.specs.declared.token.Token.{Token}
 use Rattle.regex_reader.specs.Files.{is_too_deep, open_round, open_behind, opens, closes}
-use Rattle.regex_reader.proofs.Rows.{left_behind, none_left}
 
 or_true : (a b : Bool) → a ≡ true → (a || b) ≡ true
 or_true a b e = rw e refl
@@ -28,7 +29,7 @@ deep_goes_on tokens i depth round t new below is round_is deep new_is so_far =
     ap (λ n. is_too_deep n (drop (i + 1) tokens)) new_is ∙ sym (or_false _ (is_too_deep (open_behind depth t) (drop (i + 1) tokens)) here) ∙ ap (is_too_deep depth) (sym (left_behind tokens i t below is)) ∙ so_far
 
 pub none_deep : (tokens : List Token) (i depth : ℕ) → length tokens ≤ i → is_too_deep depth (drop i tokens) ≡ is_too_deep 0 tokens → false ≡ is_too_deep 0 tokens
-none_deep tokens i depth below so_far = ap (is_too_deep depth) (sym (none_left tokens i below)) ∙ so_far
+none_deep tokens i depth below so_far = ap (is_too_deep depth) (sym (drop_all i tokens below)) ∙ so_far
 
 pub one_more_at_most : (depth : ℕ) (t : Token) → open_behind depth t ≤ depth + 1
 one_more_at_most depth t = by (opens t) (closes t)

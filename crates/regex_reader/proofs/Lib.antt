@@ -1,4 +1,3 @@
-pub mod Rows
 pub mod Found
 pub mod Depths
 pub mod Placed

@@ -1,11 +1,11 @@
 use Rattle.std.proofs.Common.{◌≡◌, ◌++◌, refl, ap, sym, ◌∙◌, arith, inl, inr, map, drop, nat_lt, length}
+use Rattle.std.proofs.lemmas.List.{drop_all}
 use Rattle.regex_ast.specs.Terms.{term, terms_of, contexts_of, steps_by, links_of, groups_of, mappings_of, only, rules}
 use Rattle.regex_ast.specs.declared.expr.Raw.{Raw}
 use Rattle.regex_ast.specs.declared.expr.Expr.TheViews.{out-RuleSet}
 use Rattle.regex_ast.proofs.Rows.{term-Concat, term-Chain, term-Ignore, term-Only, term-Steps}
 use Rattle.regex_reader.specs.Found.{found_in}
 use Rattle.regex_reader.specs.Tests.{at, nodes, each_of, each_context, each_step, each_link, each_group, each_mapping}
-use Rattle.regex_reader.proofs.Rows.{none_left}
 use Rattle.regex_ast.proofs.Sets.{term_rules, maps_of_is, contexts_in_is}
 use Rattle.regex_reader.proofs.Found.{finish, both, in_front, context_count_is, operand_term, step_term, parts_go_on, links_go_on, steps_go_on, contexts_go_on, groups_go_on, mappings_go_on}
 use Rattle.regex_reader.proofs.findings.+walk.Goals as goal
@@ -15,14 +15,14 @@ in_contexts-contexts-preserved t c =
     contexts_go_on c.args.contexts.now c.contexts.context-index c.context-item.result c.contexts.found _ _ _ _ (omega arith) c.context-item.is c.or-found.ensures c.or-both.ensures c.in_expression.ensures c.in_expression-in-contexts.ensures c.contexts.invariant
 
 pub in_contexts-returns : goal.in_contexts-returns
-in_contexts-returns t c = finish _ _ (each_context (contexts_of (drop c.contexts.context-index c.args.contexts.now))) (ap (λ z. each_context (contexts_of z)) (none_left c.args.contexts.now c.contexts.context-index (omega arith))) c.contexts.invariant
+in_contexts-returns t c = finish _ _ (each_context (contexts_of (drop c.contexts.context-index c.args.contexts.now))) (ap (λ z. each_context (contexts_of z)) (drop_all c.contexts.context-index c.args.contexts.now (omega arith))) c.contexts.invariant
 
 pub in_each-operands-preserved : goal.in_each-operands-preserved
 in_each-operands-preserved t c =
     parts_go_on c.args.inside c.args.operands.now c.operands.operand-index c.operand-item.result c.operands.found _ _ (omega arith) c.operand-item.is c.or-found.ensures c.in_expression.ensures c.operands.invariant
 
 pub in_each-returns : goal.in_each-returns
-in_each-returns t c = finish _ _ (each_of c.args.inside (terms_of (map term (drop c.operands.operand-index c.args.operands.now)))) (ap (λ z. each_of c.args.inside (terms_of (map term z))) (none_left c.args.operands.now c.operands.operand-index (omega arith))) c.operands.invariant
+in_each-returns t c = finish _ _ (each_of c.args.inside (terms_of (map term (drop c.operands.operand-index c.args.operands.now)))) (ap (λ z. each_of c.args.inside (terms_of (map term z))) (drop_all c.operands.operand-index c.args.operands.now (omega arith))) c.operands.invariant
 
 pub in_expression-returns-in-Ignore : goal.in_expression-returns-in-Ignore
 in_expression-returns-in-Ignore t c =
@@ -76,7 +76,7 @@ in_groups-groups-preserved t c =
     groups_go_on c.args.inside c.args.groups.now c.groups.group-index c.group-item.result c.groups.found _ _ _ _ (omega arith) c.group-item.is c.or-found.ensures c.or.ensures maps contexts c.groups.invariant
 
 pub in_groups-returns : goal.in_groups-returns
-in_groups-returns t c = finish _ _ (each_group c.args.inside (groups_of (drop c.groups.group-index c.args.groups.now))) (ap (λ z. each_group c.args.inside (groups_of z)) (none_left c.args.groups.now c.groups.group-index (omega arith))) c.groups.invariant
+in_groups-returns t c = finish _ _ (each_group c.args.inside (groups_of (drop c.groups.group-index c.args.groups.now))) (ap (λ z. each_group c.args.inside (groups_of z)) (drop_all c.groups.group-index c.args.groups.now (omega arith))) c.groups.invariant
 
 pub in_links-links-preserved : goal.in_links-links-preserved
 in_links-links-preserved t c =
@@ -84,14 +84,14 @@ in_links-links-preserved t c =
     links_go_on c.args.inside c.args.links.now c.links.link-index c.link-item.result (term c.in-Or.operand) c.links.found _ _ (omega arith) c.link-item.is is c.or-found.ensures c.in_expression.ensures c.links.invariant
 
 pub in_links-returns : goal.in_links-returns
-in_links-returns t c = finish _ _ (each_link c.args.inside (links_of (drop c.links.link-index c.args.links.now))) (ap (λ z. each_link c.args.inside (links_of z)) (none_left c.args.links.now c.links.link-index (omega arith))) c.links.invariant
+in_links-returns t c = finish _ _ (each_link c.args.inside (links_of (drop c.links.link-index c.args.links.now))) (ap (λ z. each_link c.args.inside (links_of z)) (drop_all c.links.link-index c.args.links.now (omega arith))) c.links.invariant
 
 pub in_mappings-mappings-preserved : goal.in_mappings-mappings-preserved
 in_mappings-mappings-preserved t c =
     mappings_go_on c.args.inside c.args.mappings.now c.mappings.mapping-index c.mapping-item.result c.mappings.found _ _ (omega arith) c.mapping-item.is c.or-found.ensures c.in_mapping.ensures c.mappings.invariant
 
 pub in_mappings-returns : goal.in_mappings-returns
-in_mappings-returns t c = finish _ _ (each_mapping c.args.inside (mappings_of (drop c.mappings.mapping-index c.args.mappings.now))) (ap (λ z. each_mapping c.args.inside (mappings_of z)) (none_left c.args.mappings.now c.mappings.mapping-index (omega arith))) c.mappings.invariant
+in_mappings-returns t c = finish _ _ (each_mapping c.args.inside (mappings_of (drop c.mappings.mapping-index c.args.mappings.now))) (ap (λ z. each_mapping c.args.inside (mappings_of z)) (drop_all c.mappings.mapping-index c.args.mappings.now (omega arith))) c.mappings.invariant
 
 pub in_steps-steps-preserved : goal.in_steps-steps-preserved
 in_steps-steps-preserved t c =
@@ -99,4 +99,4 @@ in_steps-steps-preserved t c =
     steps_go_on c.args.inside c.args.steps.now c.steps.step-index c.step-item.result (term c.in-CrossWith.operand) c.steps.found _ _ (omega arith) c.step-item.is is c.or-found.ensures c.in_expression.ensures c.steps.invariant
 
 pub in_steps-returns : goal.in_steps-returns
-in_steps-returns t c = finish _ _ (each_step c.args.inside (steps_by (drop c.steps.step-index c.args.steps.now))) (ap (λ z. each_step c.args.inside (steps_by z)) (none_left c.args.steps.now c.steps.step-index (omega arith))) c.steps.invariant
+in_steps-returns t c = finish _ _ (each_step c.args.inside (steps_by (drop c.steps.step-index c.args.steps.now))) (ap (λ z. each_step c.args.inside (steps_by z)) (drop_all c.steps.step-index c.args.steps.now (omega arith))) c.steps.invariant
