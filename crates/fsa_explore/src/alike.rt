@@ -3,7 +3,7 @@ ghost use Rattle.fsa_explore.specs.Alike.{AddsLetter, AreAlike, AreBothAlike, By
 ghost use Rattle.fsa_explore.specs.Explored.{IsExplored};
 
 use crate::lazy::{Explored, FoundLists, LazyAutomaton, explore};
-use crate::rows::EdgesByState;
+use crate::edges_by_state::EdgesByState;
 use crate::signatures::signature_of;
 use fsa::Dfa;
 use fsm_base::Letter;

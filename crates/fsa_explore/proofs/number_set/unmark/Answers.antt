@@ -3,7 +3,7 @@ use Rattle.std.proofs.lemmas.List.{length-set, get_or_default}
 use Rattle.std.proofs.lemmas.List.Elements.{Contains-get_or}
 use Rattle.std.proofs.lemmas.Option.{slice_get_within}
 use Rattle.fsa_explore.proofs.Marking.{unmarked_more, unmarked_all}
-use Rattle.fsa_explore.proofs.marked.unmark.Goals as goal
+use Rattle.fsa_explore.proofs.number_set.unmark.Goals as goal
 
 pub bounds-marks-number : goal.bounds-marks-number
 bounds-marks-number c =

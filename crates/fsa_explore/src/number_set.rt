@@ -44,7 +44,6 @@ impl NumberSet {
         ensures found { result.now ≡ self.now.found }
         ensures bounded { IsBounded self.now }
     {
-        let _ = &self.marks;
         self.found.as_slice()
     }
 
@@ -53,7 +52,6 @@ impl NumberSet {
         requires { number < self.now.bound }
         ensures { IsTrue result ↔ Contains self.now.found number }
     {
-        let _ = &self.found;
         self.marks[number]
     }
 

@@ -3,7 +3,7 @@ use Rattle.std.proofs.lemmas.List.{length-set}
 use Rattle.std.proofs.lemmas.Option.{slice_get_read}
 use Rattle.fsa_explore.proofs.Marking.{IsMarking-add}
 use Rattle.fsa_explore.proofs.Added.{Adds-one}
-use Rattle.fsa_explore.proofs.marked.NumberSet.add.Goals as goal
+use Rattle.fsa_explore.proofs.number_set.NumberSet.add.Goals as goal
 
 pub invariant_of-self-2 : goal.invariant_of-self-2
 invariant_of-self-2 c =

@@ -1,6 +1,6 @@
 use Rattle.std.proofs.Common.{◌≡◌, ℕ, Some, true, length, drop}
 use Rattle.std.specs.List.{slice_get, Contains}
-use Rattle.fsa_explore.proofs.marked.unmark.Given as goal
+use Rattle.fsa_explore.proofs.number_set.unmark.Given as goal
 
 abbrev pub invariant-loop-number : goal.invariant-loop-number
 invariant-loop-number l =
