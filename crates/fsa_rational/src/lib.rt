@@ -6,6 +6,7 @@
 //! - [`ignore`]: words with words of another language put in.
 //! - [`without_empty`]: the same language with no epsilon edge.
 //! - [`image`], [`preimage`]: the words that a table of letters gives, and the words for which it gives one.
+//! - [`same_states`], [`add_shifted`], [`add_epsilon`], [`leave_finals`]: the pieces that constructions are made of.
 #![tactic(auto)]
 
 mod extend;
@@ -16,6 +17,7 @@ mod reversal;
 mod rows;
 mod translate;
 
+pub use extend::{add_epsilon, add_shifted, leave_finals, same_states};
 pub use insertion::ignore;
 pub use join::{concat, star, union};
 pub use lettered::without_empty;
