@@ -1,9 +1,8 @@
-ghost use Rattle.std.specs.Prelude.{◌≡◌, ◌↔◌, ◌<◌, [], ◌∷◌, Some, None, IfOk, OnOk, List, Contains, Option, IsSortedByKey, IsPermutation, length};
-ghost use Rattle.std.specs.List.{filter_map};
+ghost use Rattle.std.specs.Prelude.{◌↔◌, ◌<◌, Some, None, IfOk, OnOk, List, Contains, Option, IsSortedByKey, length};
 ghost use Rattle.word_relations.specs.Words.{Translates};
 ghost use Rattle.fsa.specs.Automaton.{UsesLetter};
 ghost use Rattle.fsa.specs.Language.{Accepts};
-ghost use Rattle.fsa_rational.specs.Shapes.{Extends, ForEach, ComesFrom, ImageOf, PreimageOf, LoopsBelow, loop_at};
+ghost use Rattle.fsa_rational.specs.Shapes.{Extends, ComesFrom, ImageOf, PreimageOf, LoopsBelow, loop_at};
 
 use crate::extend::{add_epsilon, same_states};
 use crate::rows::{rows_at, sorted_rows};

@@ -1,4 +1,4 @@
-ghost use Rattle.std.specs.Prelude.{◌≡◌, ◌<◌, ◌↔◌, ℕ, List, [], ◌∷◌, Some, true, Contains, IfOk, OnOk, IsTrue, length, slice_get};
+ghost use Rattle.std.specs.Prelude.{◌≡◌, ◌<◌, ◌↔◌, ℕ, List, [], ◌∷◌, Some, true, Contains, IfOk, OnOk, IsTrue, slice_get};
 ghost use Rattle.fsm_base.specs.declared.letters.Pair.{Pair};
 ghost use Rattle.fsa.specs.declared.automaton.Edge.{Edge};
 ghost use Rattle.fst_compose.specs.Meeting.{letter_of};
@@ -7,7 +7,7 @@ ghost use Rattle.fst_compose.specs.Product.{AddsMoves, IsProduct};
 use crate::moves::{Move, moves};
 use crate::operand::Operand;
 use crate::pairs::PairTable;
-use fsa::{Edge, Fsa};
+use fsa::Edge;
 use fsm_base::{Pair, Sym};
 use std::alloc::{AllocError, Global};
 

@@ -1,4 +1,4 @@
-ghost use Rattle.std.specs.Prelude.{◌≡◌, ◌↔◌, IfOk, List};
+ghost use Rattle.std.specs.Prelude.{◌↔◌, IfOk, List};
 ghost use Rattle.fsm_base.specs.declared.letters.Sym.{Sym};
 ghost use Rattle.word_relations.specs.Relations.{IsRepetitionOfPairs};
 ghost use Rattle.fsa.specs.Automaton.{UsesLetter};
