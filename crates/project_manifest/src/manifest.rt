@@ -206,8 +206,11 @@ pub fn read_manifest(alloc: Global, text: &str) -> Result<Manifest, ReadError>
     ensures { IsManifestRead text.now result }
 {
     let said = all_said(alloc, text.as_bytes())?;
-    declared(alloc, &said)?.ok_or(ReadError::Fault {
-        line: 0,
-        why: Why::NotBuilt,
-    })
+    let Some(manifest) = declared(alloc, &said)? else {
+        return Err(ReadError::Fault {
+            line: 0,
+            why: Why::NotBuilt,
+        });
+    };
+    Ok(manifest)
 }
