@@ -8,7 +8,7 @@ pub returns-in_default : goal.returns-in_default
 returns-in_default c = (
   refl,
   refl,
-  λ m is. c.in_default.ensures m (subst (λ (s : List Saying). Declare s m) (sym (ap (map saying_of) c.deref.ensures.value ∙ c.in_ok-said.ensures ∙ ap statements_in c.as_bytes.ensures.value)) is),
+  λ m is. (rw c.in_default.is at c.in_ok-manifest.ensures) m (subst (λ (s : List Saying). Declare s m) (sym (ap (map saying_of) c.deref.ensures.value ∙ c.in_ok-said.ensures ∙ ap statements_in c.as_bytes.ensures.value)) is),
 )
 
 pub declared-requires : goal.declared-requires
