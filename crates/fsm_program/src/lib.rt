@@ -9,7 +9,6 @@
 #![tactic(auto)]
 
 mod answers;
-mod bytes;
 mod load;
 mod look_up;
 mod network;

@@ -1,7 +1,7 @@
 use Rattle.std.proofs.Common.{ℕ, ◌++◌, ◌∷◌, [], sym, ap, ◌∙◌}
 use Rattle.reply_meaning.specs.Replies.{without_last}
-use Rattle.edit_script.proofs.Returns.{last_dropped, last_kept, not_same}
-use Rattle.edit_script.proofs.words.without_return.Goals as goal
+use Rattle.reply_meaning.proofs.Returns.{last_dropped, last_kept, not_same}
+use Rattle.reply_meaning.proofs.line.without_return.Goals as goal
 
 pub returns-then-last-eq13 : goal.returns-then-last-eq13
 returns-then-last-eq13 c =

@@ -2,7 +2,7 @@ use Rattle.std.proofs.Common.{◌∷◌, ap, ◌∙◌}
 use Rattle.regex_ast.specs.declared.expr.Expr.{Expr}
 use Rattle.regex_ast.specs.declared.expr.Raw.{Raw}
 use Rattle.regex_parser.proofs.Terms.{term-ignoring, not_none}
-use Rattle.regex_parser.proofs.build.ignoring.Goals as goal
+use Rattle.regex_parser.proofs.build.ignore.Goals as goal
 
 pub returns : goal.returns
 returns c =

@@ -1,4 +1,4 @@
--- Lines with a carriage return at their end, or another byte.
+-- Bytes with a last one that is dropped, or another.
 use Rattle.std.proofs.Common.{◌≡◌, ℕ, ◌==◌, Bool, true, false, cond, List, [], ◌∷◌, ◌++◌, refl, ap, inl, inr}
 use Rattle.std.proofs.lemmas.Bool.Decides.{eqb_tells}
 use Rattle.reply_meaning.specs.Replies.{without_last}

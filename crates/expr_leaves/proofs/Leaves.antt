@@ -8,12 +8,11 @@ use Rattle.regex_ast.specs.declared.expr.Group.{Group}
 use Rattle.regex_ast.specs.declared.expr.Link.{Link, Or, And, Less}
 use Rattle.regex_ast.specs.declared.expr.Step.{Step, CrossWith, Then}
 use Rattle.regex_ast.specs.declared.expr.Mapping.{Mapping, Plain, Markup, Insert}
-use Rattle.expr_leaves.specs.Leaves.{leaves_in}
-use Rattle.expr_leaves.specs.Leaves.{leaves_in_each, leaves_in_links, leaves_in_contexts, leaves_in_steps, leaves_in_mappings, leaves_in_groups}
+use Rattle.expr_leaves.specs.Leaves.{leaves_in, leaves_in_each, leaves_in_links, leaves_in_contexts, leaves_in_steps, leaves_in_mappings, leaves_in_groups}
 
-pub each_left : {A : Type 0} (parts : List (Expr A)) (i : ℕ) (part : Expr A) → i < length parts → part ≡ get_or parts i part
-    → leaves_in_each (terms_of (map term (drop i parts))) ≡ leaves_in (term part) ++ leaves_in_each (terms_of (map term (drop (i + 1) parts)))
-each_left {A} parts i part below is = ap (λ (z : List (Expr A)). leaves_in_each (terms_of (map term z))) (left_behind parts i part below is)
+pub each_left : {A : Type 0} (operands : List (Expr A)) (i : ℕ) (operand : Expr A) → i < length operands → operand ≡ get_or operands i operand
+    → leaves_in_each (terms_of (map term (drop i operands))) ≡ leaves_in (term operand) ++ leaves_in_each (terms_of (map term (drop (i + 1) operands)))
+each_left {A} operands i operand below is = ap (λ (z : List (Expr A)). leaves_in_each (terms_of (map term z))) (left_behind operands i operand below is)
 
 -- the terms of operands
 abbrev pub operand_term : {A : Type 0} → Link A → Term A
