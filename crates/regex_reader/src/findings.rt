@@ -95,21 +95,27 @@ pub fn find_in_expression(expr: &Expr<Raw>, inside: bool) -> Findings
         Expr::Group(inner) => find_in_expression(inner, inside),
         Expr::Maybe(inner) => find_in_expression(inner, inside),
         Expr::NotOne(_, inner) => find_in_expression(inner, inside),
-        Expr::Cross(upper, lower) => find_in_expression(upper, inside).or(find_in_expression(lower, inside)),
+        Expr::Cross(upper, lower) => find_in_expression(upper, inside).or(find_in_expression(
+            lower, inside,
+        )),
         Expr::Suffixed(inner, suffixes) => {
             Findings::of_suffixes(suffixes).or(find_in_expression(inner, inside))
         }
         Expr::Prefixed(_, inner) => find_in_expression(inner, inside),
         Expr::Ignore(operands) => find_in_each(operands, inside),
         Expr::Concat(operands) => find_in_each(operands, inside),
-        Expr::Chain(first, links) => find_in_expression(first, inside).or(find_in_links(links, inside)),
+        Expr::Chain(first, links) => find_in_expression(first, inside).or(find_in_links(
+            links, inside,
+        )),
         Expr::Only(centre, contexts) => Findings::of_size(contexts.len() > MOST_IN_RULES).or(
             find_in_expression(centre, inside).or(find_in_contexts(contexts)),
         ),
         Expr::Rules(rules) => {
             Findings::of_size(are_large(&rules.groups)).or(find_in_groups(&rules.groups, inside))
         }
-        Expr::Steps(first, steps) => find_in_expression(first, inside).or(find_in_steps(steps, inside)),
+        Expr::Steps(first, steps) => find_in_expression(first, inside).or(find_in_steps(
+            steps, inside,
+        )),
     }
 }
 
@@ -148,7 +154,10 @@ fn find_in_contexts(contexts: &[Context<Raw>]) -> Findings
 {
     let mut found = Findings::none();
     'contexts: for context in contexts {
-        let both = find_in_expression(&context.left, true).or(find_in_expression(&context.right, true));
+        let both = find_in_expression(&context.left, true).or(find_in_expression(
+            &context.right,
+            true,
+        ));
         found = found.or(both);
     }
     found
@@ -177,7 +186,9 @@ fn find_in_groups(groups: &[Group<Raw>], inside: bool) -> Findings
 {
     let mut found = Findings::none();
     'groups: for group in groups {
-        found = found.or(find_in_mappings(&group.maps, inside).or(find_in_contexts(&group.contexts)));
+        found = found.or(find_in_mappings(&group.maps, inside).or(find_in_contexts(
+            &group.contexts,
+        )));
     }
     found
 }
@@ -207,9 +218,9 @@ fn find_in_mapping(mapping: &Mapping<Raw>, inside: bool) -> Findings
             centre,
             before,
             after,
-        } => find_in_expression(centre, inside).or(find_in_expression(before, inside).or(find_in_expression(
-            after, inside,
-        ))),
+        } => find_in_expression(centre, inside).or(find_in_expression(before, inside).or(
+            find_in_expression(after, inside),
+        )),
         Mapping::Insert { result: by } => find_in_expression(by, inside),
     }
 }

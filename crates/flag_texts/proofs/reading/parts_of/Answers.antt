@@ -21,8 +21,7 @@ pub returns-in-Some : goal.returns-in-Some
 returns-in-Some c =
     let either = subst (λ (text : List ℕ). IsFlag text ⊎ IsNegativeFlag text) c.as_bytes.ensures.value (c.is_flag.ensures.flag.0 c.if-not-is_flag.false) in
     let flag = is_no_negative c.args.text.now c.in_ok-between.field-0.now c.in_ok-letter.letter.now c.in_ok-letter.rest.now c.in_ok-kind.kind c.in_ok-between.ensures c.in_ok-letter.ensures.1 c.in_ok-kind.ensures either in
-    let parts = parts_both c.args.text.now flag c.in_ok-between.field-0.now c.in_ok-between.ensures c.in_ok-letter.letter.now c.in_ok-letter.rest.now c.in_ok-letter.ensures.0 c.in_ok-letter.ensures.1 c.in_ok-kind.kind c.in_ok-kind.ensures c.in-Some.feature.now c.in-Some.value.now c.in-Some.ensures.0 c.in-Some.ensures.1 in
-    (
+    let parts = parts_both c.args.text.now flag c.in_ok-between.field-0.now c.in_ok-between.ensures c.in_ok-letter.letter.now c.in_ok-letter.rest.now c.in_ok-letter.ensures.0 c.in_ok-letter.ensures.1 c.in_ok-kind.kind c.in_ok-kind.ensures c.in-Some.feature.now c.in-Some.value.now c.in-Some.ensures.0 c.in-Some.ensures.1 in (
       parts.0,
       spelled_both c.args.text.now c.in_ok-between.field-0.now c.in_ok-letter.letter.now c.in_ok-letter.rest.now c.in-Some.feature.now c.in-Some.value.now c.in_ok-kind.kind c.in_ok-between.ensures c.in_ok-letter.ensures.1 c.in_ok-kind.ensures c.in-Some.ensures.1,
       parts.1,
@@ -32,8 +31,7 @@ pub returns-in-None : goal.returns-in-None
 returns-in-None c =
     let either = subst (λ (text : List ℕ). IsFlag text ⊎ IsNegativeFlag text) c.as_bytes.ensures.value (c.is_flag.ensures.flag.0 c.if-not-is_flag.false) in
     let flag = is_no_negative c.args.text.now c.in_ok-between.field-0.now c.in_ok-letter.letter.now c.in_ok-letter.rest.now c.in_ok-kind.kind c.in_ok-between.ensures c.in_ok-letter.ensures.1 c.in_ok-kind.ensures either in
-    let parts = parts_alone c.args.text.now flag c.in_ok-between.field-0.now c.in_ok-between.ensures c.in_ok-letter.letter.now c.in_ok-letter.rest.now c.in_ok-letter.ensures.0 c.in_ok-letter.ensures.1 c.in_ok-kind.kind c.in_ok-kind.ensures c.in-None.ensures in
-    (
+    let parts = parts_alone c.args.text.now flag c.in_ok-between.field-0.now c.in_ok-between.ensures c.in_ok-letter.letter.now c.in_ok-letter.rest.now c.in_ok-letter.ensures.0 c.in_ok-letter.ensures.1 c.in_ok-kind.kind c.in_ok-kind.ensures c.in-None.ensures in (
       parts.0,
       spelled_alone c.args.text.now c.in_ok-between.field-0.now c.in_ok-letter.letter.now c.in_ok-letter.rest.now c.in_ok-kind.kind c.in_ok-between.ensures c.in_ok-letter.ensures.1 c.in_ok-kind.ensures,
       parts.1,
