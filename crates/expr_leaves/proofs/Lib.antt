@@ -1,3 +1,3 @@
 pub mod Behind
-mod Leaves
+mod LeafLists
 mod Sets
