@@ -1,11 +1,11 @@
 -- The weight that one pass tells is the expression's, as far as weights are told apart.
-use Rattle.std.proofs.Common.{◌≡◌, ℕ, Bool, ◌+◌, ◌-◌, ◌*◌, zero, suc, List, [], ◌∷◌, length, refl, sym, ap, ◌∙◌, arith}
+use Rattle.std.proofs.Common.{◌≡◌, ℕ, Bool, false, ◌+◌, ◌-◌, ◌*◌, zero, suc, List, [], ◌∷◌, length, refl, sym, ap, ◌∙◌, arith}
 use Rattle.regex_ast.specs.declared.expr.Suffix.{Suffix}
 use Rattle.regex_ast.specs.declared.expr.Suffix.TheVariants.{Star, Plus, Power, Upper, Lower, Inverse, Reverse}
 use Rattle.regex_ast.specs.Terms.{Term, Terms, Links, Contexts, Steps, Mappings, Groups, empty, any, edge, atom, letters, group, maybe, not_one, cross, suffixed, prefixed, ignore, concat, chain, only, rules, steps, no_term, then_term, no_link, or, and, less, no_context, between, no_step, cross_with, then, no_mapping, plain, markup, insert, no_group, then_group}
 use Rattle.expr_kinds.specs.Kinds.{Leaves}
 use Rattle.expr_kinds.specs.Weights.{most_weight, weight_behind, suffixed_weight, count_of, weight_of, weight_of_each, weight_of_links, weight_of_steps, weight_of_contexts, weight_of_mappings, weight_of_groups}
-use Rattle.expr_kinds.specs.Forms.{capped, as_language, heavier, beside, behind, with_each, with_kind, nothing, form_in, form_in_each, form_in_links, form_in_steps, form_in_contexts, form_in_mappings, form_in_groups}
+use Rattle.expr_kinds.specs.Forms.{capped, as_language, built_if, heavier, beside, behind, with_each, with_kind, nothing, form_in, form_in_each, form_in_links, form_in_steps, form_in_contexts, form_in_mappings, form_in_groups}
 use Rattle.expr_kinds.specs.declared.form.Form.{Form}
 use Rattle.expr_kinds.specs.declared.form.Kind.TheVariants.{Relation}
 
@@ -120,7 +120,7 @@ mutual
       (two_is _ _ _ _ is (two_is _ _ _ _ (weight_is leaves leaf built c) (two_is _ _ _ _ (weight_is leaves leaf built m) (weight_is leaves leaf built r))))
       ∙ regrouped b (weight_of leaf c + (weight_of leaf m + weight_of leaf r)) (weight_of_mappings leaf maps) _ (omega arith)
   mappings_weight leaves leaf built before b (insert r maps) is =
-      mappings_weight leaves leaf built (beside before (form_in leaves leaf built r)) (b + weight_of leaf r) maps (two_is _ _ _ _ is (weight_is leaves leaf built r))
+      mappings_weight leaves leaf built (built_if (beside before (form_in leaves leaf built r)) false) (b + weight_of leaf r) maps (two_is _ _ _ _ is (weight_is leaves leaf built r))
       ∙ regrouped b (weight_of leaf r) (weight_of_mappings leaf maps) _ refl
 
   groups_weight : {A : Type 0} (leaves : Leaves A) (leaf : A → ℕ) (built : A → Bool) (before : Form) (b : ℕ) (groups : Groups A) → before.weight ≡ capped b → (form_in_groups leaves leaf built before groups).weight ≡ capped (b + weight_of_groups leaf groups)

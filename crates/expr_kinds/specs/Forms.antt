@@ -71,7 +71,7 @@ abbrev mutual
   form_in leaves leaf built (concat es) = heavier (form_in_each leaves leaf built nothing es) (count_of es - 1)
   form_in leaves leaf built (chain e links) = form_in_links leaves leaf built (form_in leaves leaf built e) links
   form_in leaves leaf built (only e contexts) = heavier (as_language (form_in_contexts leaves leaf built (form_in leaves leaf built e) contexts)) 1
-  form_in leaves leaf built (rules optional groups) = with_kind (heavier (as_language (built_if (form_in_groups leaves leaf built nothing groups) false)) 1) Relation
+  form_in leaves leaf built (rules optional groups) = with_kind (heavier (as_language (form_in_groups leaves leaf built nothing groups)) 1) Relation
   form_in leaves leaf built (steps e more) = form_in_steps leaves leaf built (form_in leaves leaf built e) more
 
   -- what was told before with what the items tell
@@ -98,7 +98,7 @@ abbrev mutual
   form_in_mappings leaves leaf built before no_mapping = before
   form_in_mappings leaves leaf built before (plain c r maps) = form_in_mappings leaves leaf built (beside before (beside (form_in leaves leaf built c) (form_in leaves leaf built r))) maps
   form_in_mappings leaves leaf built before (markup c b a maps) = form_in_mappings leaves leaf built (beside before (beside (form_in leaves leaf built c) (beside (form_in leaves leaf built b) (form_in leaves leaf built a)))) maps
-  form_in_mappings leaves leaf built before (insert r maps) = form_in_mappings leaves leaf built (beside before (form_in leaves leaf built r)) maps
+  form_in_mappings leaves leaf built before (insert r maps) = form_in_mappings leaves leaf built (built_if (beside before (form_in leaves leaf built r)) false) maps
 
   pub form_in_groups : {A : Type 0} → Leaves A → (A → ℕ) → (A → Bool) → Form → Groups A → Form
   form_in_groups leaves leaf built before no_group = before

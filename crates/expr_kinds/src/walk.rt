@@ -90,7 +90,6 @@ fn in_expression(expr: &Expr<Atom>) -> Form
             .as_language()
             .heavier(1),
         Expr::Rules(rules) => in_groups(&rules.groups)
-            .built_if(false)
             .as_language()
             .heavier(1)
             .with_kind(Kind::Relation),
@@ -216,6 +215,6 @@ fn in_mapping(form: Form, mapping: &Mapping<Atom>) -> Form
         } => form.beside(in_expression(centre).beside(in_expression(before).beside(in_expression(
             after,
         )))),
-        Mapping::Insert { result: by } => form.beside(in_expression(by)),
+        Mapping::Insert { result: by } => form.beside(in_expression(by)).built_if(false),
     }
 }
