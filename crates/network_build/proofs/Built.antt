@@ -5,7 +5,7 @@ use Rattle.std.proofs.lemmas.List.Sums.{AllPass-from_list_all, list_all-from_All
 use Rattle.std.specs.List.{list_all}
 use Rattle.regex_ast.specs.Terms.{Term, Terms, Links, Contexts, Steps}
 use Rattle.regex_ast.specs.Terms.{empty, any, edge, atom, letters, group, maybe, not_one, cross, suffixed, prefixed, ignore, concat, chain, only, rules, steps, no_term, then_term, no_link, or, and, less, no_context, between, no_step, cross_with, then}
-use Rattle.expr_kinds.specs.Built.{IsBuilt, AreBuilt, LinksAreBuilt, ContextsAreBuilt, StepsAreBuilt, IsBuiltBy, AreBuiltBy, LinksAreBuiltBy, ContextsAreBuiltBy, StepsAreBuiltBy}
+use Rattle.expr_kinds.specs.Built.{IsBuiltBy, AreBuiltBy, LinksAreBuiltBy, ContextsAreBuiltBy, StepsAreBuiltBy}
 use Rattle.expr_leaves.specs.Leaves.{leaves_in, leaves_in_each, leaves_in_links, leaves_in_contexts, leaves_in_steps}
 use Rattle.expr_leaves.proofs.Behind.{flat_map-alone}
 
@@ -19,7 +19,7 @@ module _ {A : Type 0} (spells : A → Bool) where
 
   mutual
     -- each leaf of an expression that is built passes
-    pub leaves_pass : (e : Term A) → IsBuilt spells e → All Passes (leaves_in e)
+    pub leaves_pass : (e : Term A) → IsBuiltBy spells spells e → All Passes (leaves_in e)
     leaves_pass empty h = All-nil Passes
     leaves_pass any h = All-nil Passes
     leaves_pass edge h = All-nil Passes
@@ -38,23 +38,23 @@ module _ {A : Type 0} (spells : A → Bool) where
     leaves_pass (rules optional groups) h = absurd h
     leaves_pass (steps e more) h = All-append Passes (leaves_in e) (leaves_in_steps more) (leaves_pass e h.0) (steps_pass more h.1)
 
-    each_passes : (es : Terms A) → AreBuilt spells es → All Passes (leaves_in_each es)
+    each_passes : (es : Terms A) → AreBuiltBy spells spells es → All Passes (leaves_in_each es)
     each_passes no_term h = All-nil Passes
     each_passes (then_term e es) h = All-append Passes (leaves_in e) (leaves_in_each es) (leaves_pass e h.0) (each_passes es h.1)
 
-    links_pass : (links : Links A) → LinksAreBuilt spells links → All Passes (leaves_in_links links)
+    links_pass : (links : Links A) → LinksAreBuiltBy spells spells links → All Passes (leaves_in_links links)
     links_pass no_link h = All-nil Passes
     links_pass (or e links) h = All-append Passes (leaves_in e) (leaves_in_links links) (leaves_pass e h.0) (links_pass links h.1)
     links_pass (and e links) h = All-append Passes (leaves_in e) (leaves_in_links links) (leaves_pass e h.0) (links_pass links h.1)
     links_pass (less e links) h = All-append Passes (leaves_in e) (leaves_in_links links) (leaves_pass e h.0) (links_pass links h.1)
 
-    contexts_pass : (contexts : Contexts A) → ContextsAreBuilt spells contexts → All Passes (leaves_in_contexts contexts)
+    contexts_pass : (contexts : Contexts A) → ContextsAreBuiltBy spells spells contexts → All Passes (leaves_in_contexts contexts)
     contexts_pass no_context h = All-nil Passes
     contexts_pass (between l r contexts) h =
         let both = All-append Passes (leaves_in l) (leaves_in r) (leaves_pass l h.0) (leaves_pass r h.1) in
         All-append Passes (leaves_in l ++ leaves_in r) (leaves_in_contexts contexts) both (contexts_pass contexts h.2)
 
-    steps_pass : (more : Steps A) → StepsAreBuilt spells more → All Passes (leaves_in_steps more)
+    steps_pass : (more : Steps A) → StepsAreBuiltBy spells spells more → All Passes (leaves_in_steps more)
     steps_pass no_step h = All-nil Passes
     steps_pass (cross_with e more) h = All-append Passes (leaves_in e) (leaves_in_steps more) (leaves_pass e h.0) (steps_pass more h.1)
     steps_pass (then e more) h = All-append Passes (leaves_in e) (leaves_in_steps more) (leaves_pass e h.0) (steps_pass more h.1)
@@ -123,7 +123,7 @@ module _ {A : Type 0} (spells letter passes held : A → Bool) where
     steps_by (then e more) h s = both (leaves_in e) (leaves_in_steps more) (built_by e h.0) (steps_by more h.1) s
 
 -- one test in place of two, of which the second passes no more than the first
-pub built_alone : {A : Type 0} (spells letter : A → Bool) → ((a : A) → IsTrue (letter a) → IsTrue (spells a)) → (e : Term A) → IsBuiltBy spells letter e → IsBuilt spells e
+pub built_alone : {A : Type 0} (spells letter : A → Bool) → ((a : A) → IsTrue (letter a) → IsTrue (spells a)) → (e : Term A) → IsBuiltBy spells letter e → IsBuiltBy spells spells e
 built_alone spells letter fewer e h = built_by spells letter spells spells e h (λ a at p. p, λ a at p. fewer a p)
 
 -- where leaves that pass a test each time pass another one, what is built each time is built by that
@@ -133,7 +133,7 @@ module _ {A : Type 0} (one one_letter two two_letter passes : A → Bool) (leaf 
   letters_both all h = list_all-from_AllPass passes all (All-weaker (λ a. IsTrue (one_letter a)) (λ a. IsTrue (passes a)) letter all (AllPass-from_list_all one_letter all h))
 
   mutual
-    pub built_both : (e : Term A) → IsBuiltBy one one_letter e → IsBuiltBy two two_letter e → IsBuilt passes e
+    pub built_both : (e : Term A) → IsBuiltBy one one_letter e → IsBuiltBy two two_letter e → IsBuiltBy passes passes e
     built_both empty h g = tt
     built_both any h g = tt
     built_both edge h g = tt
@@ -152,21 +152,21 @@ module _ {A : Type 0} (one one_letter two two_letter passes : A → Bool) (leaf 
     built_both (rules optional groups) h g = absurd h
     built_both (steps e more) h g = (built_both e h.0 g.0, steps_both more h.1 g.1)
 
-    each_both : (es : Terms A) → AreBuiltBy one one_letter es → AreBuiltBy two two_letter es → AreBuilt passes es
+    each_both : (es : Terms A) → AreBuiltBy one one_letter es → AreBuiltBy two two_letter es → AreBuiltBy passes passes es
     each_both no_term h g = tt
     each_both (then_term e es) h g = (built_both e h.0 g.0, each_both es h.1 g.1)
 
-    links_both : (links : Links A) → LinksAreBuiltBy one one_letter links → LinksAreBuiltBy two two_letter links → LinksAreBuilt passes links
+    links_both : (links : Links A) → LinksAreBuiltBy one one_letter links → LinksAreBuiltBy two two_letter links → LinksAreBuiltBy passes passes links
     links_both no_link h g = tt
     links_both (or e links) h g = (built_both e h.0 g.0, links_both links h.1 g.1)
     links_both (and e links) h g = (built_both e h.0 g.0, links_both links h.1 g.1)
     links_both (less e links) h g = (built_both e h.0 g.0, links_both links h.1 g.1)
 
-    contexts_both : (contexts : Contexts A) → ContextsAreBuiltBy one one_letter contexts → ContextsAreBuiltBy two two_letter contexts → ContextsAreBuilt passes contexts
+    contexts_both : (contexts : Contexts A) → ContextsAreBuiltBy one one_letter contexts → ContextsAreBuiltBy two two_letter contexts → ContextsAreBuiltBy passes passes contexts
     contexts_both no_context h g = tt
     contexts_both (between l r contexts) h g = (built_both l h.0 g.0, built_both r h.1 g.1, contexts_both contexts h.2 g.2)
 
-    steps_both : (more : Steps A) → StepsAreBuiltBy one one_letter more → StepsAreBuiltBy two two_letter more → StepsAreBuilt passes more
+    steps_both : (more : Steps A) → StepsAreBuiltBy one one_letter more → StepsAreBuiltBy two two_letter more → StepsAreBuiltBy passes passes more
     steps_both no_step h g = tt
     steps_both (cross_with e more) h g = (built_both e h.0 g.0, steps_both more h.1 g.1)
     steps_both (then e more) h g = (built_both e h.0 g.0, steps_both more h.1 g.1)

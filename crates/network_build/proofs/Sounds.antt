@@ -20,6 +20,7 @@ use Rattle.lookup.specs.Answering.{IsOverAlphabet}
 use Rattle.regex_ast.specs.declared.expr.Atom.{Atom}
 use Rattle.regex_ast.specs.declared.expr.Atom.TheVariants.{Sym, Name}
 use Rattle.regex_ast.specs.Terms.{Term}
+use Rattle.expr_kinds.proofs.Ruleless.{with_rules}
 use Rattle.expr_kinds.specs.Atoms.{is_symbol_of}
 use Rattle.expr_meaning.specs.Meaning.{Relates}
 use Rattle.expr_meaning.specs.Operators.{inner}
@@ -28,7 +29,7 @@ use Rattle.expr_leaves.specs.Leaves.{leaves_in, seen}
 use Rattle.network_algebra.specs.Networks.{IsNetwork, PairsOf, UsesSymbols, all_letters}
 use Rattle.network_algebra.specs.declared.network.Network.{Network}
 use Rattle.network_algebra.specs.declared.network.Network.TheVariants.{Words, Pairs}
-use Rattle.network_expr.specs.Built.{IsBuiltOver, IsMeant}
+use Rattle.network_expr.specs.Built.{IsBuiltOver, IsMeant, IsPlainOver}
 use Rattle.network_expr.specs.Parts.{IsGround, is_leaf_of, stands}
 use Rattle.network_expr.specs.declared.parts.Part.{Part}
 use Rattle.network_build.specs.Networks.{IsNetworkOf, MayUse, PartsUse, UsesSymbol}
@@ -60,8 +61,12 @@ letter_is_leaf : (parts : List Part) (alphabet : List Symbol) (a : Atom) → IsT
 letter_is_leaf parts alphabet (Sym s) h = h
 letter_is_leaf parts alphabet (Name name) h = absurd (never h)
 
+-- what has no replacement is built whatever is asked of centres
+pub plain_is_built : (parts : List Part) (alphabet : List Symbol) (e : Term Atom) → IsPlainOver parts alphabet e → IsBuiltOver parts alphabet e
+plain_is_built parts alphabet e h = with_rules (is_leaf_of parts alphabet) (is_symbol_of alphabet) _ _ e h
+
 -- a symbol that stands in an expression that is built is of the alphabet
-stands_within : (parts : List Part) (alphabet : List Symbol) (e : Term Atom) → IsBuiltOver parts alphabet e → (s : Symbol) → Contains (leaves_in e) (Sym s) → Contains alphabet s
+stands_within : (parts : List Part) (alphabet : List Symbol) (e : Term Atom) → IsPlainOver parts alphabet e → (s : Symbol) → Contains (leaves_in e) (Sym s) → Contains alphabet s
 stands_within parts alphabet e built s at =
     let alone = built_alone (is_leaf_of parts alphabet) (is_symbol_of alphabet) (letter_is_leaf parts alphabet) e built in
     symbol_held alphabet s (All-contains (λ (x : Atom). IsTrue (is_leaf_of parts alphabet x)) (leaves_in e) (Sym s) (leaves_pass (is_leaf_of parts alphabet) e alone) at)
@@ -108,7 +113,7 @@ module _ (parts : List Part) (alphabet own : List Symbol) (e : Term Atom) (mine 
         (λ part among. network_within own part.network.now (λ s used. (mine s).1 (inr (part, among, used)))) parts (All-contains_itself parts);
   }
 
-  pub built_over_own : IsBuiltOver parts alphabet e → IsBuiltOver parts own e
+  pub built_over_own : IsPlainOver parts alphabet e → IsPlainOver parts own e
   built_over_own built =
       built_by (is_leaf_of parts alphabet) (is_symbol_of alphabet) (is_leaf_of parts own) (is_symbol_of own) e built (leaf, letter)
     where
@@ -121,7 +126,7 @@ module _ (parts : List Part) (alphabet own : List Symbol) (e : Term Atom) (mine 
       letter (Name name) at h = absurd (never h)
 
   -- the own symbols are of the alphabet
-  pub own_within : IsGround alphabet parts → IsBuiltOver parts alphabet e → (s : Symbol) → Contains own s → Contains alphabet s
+  pub own_within : IsGround alphabet parts → IsPlainOver parts alphabet e → (s : Symbol) → Contains own s → Contains alphabet s
   own_within ground built s at = elim ((mine s).0 at) as (λ _. Contains alphabet s) [
     | inl stood ↦ stands_within parts alphabet e built s stood
     | inr (part, among, used) ↦ network_has alphabet part.network.now (All-contains (λ (p : Part). IsNetwork alphabet p.network.now) parts part ground.over among) s used

@@ -2,7 +2,7 @@ ghost use Rattle.std.specs.Prelude.{◌≡◌, IfOk, false, true};
 ghost use Rattle.regex_ast.specs.Terms.{term};
 ghost use Rattle.expr_kinds.specs.Kinds.{Fits};
 ghost use Rattle.expr_leaves.specs.Alphabet.{uses_alphabet};
-ghost use Rattle.network_expr.specs.Built.{IsBuiltOver};
+ghost use Rattle.network_expr.specs.Built.{IsPlainOver};
 ghost use Rattle.network_expr.specs.Parts.{IsGround, kinds};
 ghost use Rattle.network_build.specs.Networks.{IsNetworkOf};
 
@@ -23,7 +23,7 @@ pub fn network_over(
     expr: &Expr<Atom>,
 ) -> Result<Network, AllocError>
     requires ground { IsGround alphabet.now parts.now }
-    requires built { IsBuiltOver parts.now alphabet.now (term expr.now) }
+    requires built { IsPlainOver parts.now alphabet.now (term expr.now) }
     requires fits { Fits (kinds parts.now) (term expr.now) }
     ensures { IfOk result (IsNetworkOf parts.now alphabet.now (term expr.now)) }
 {
@@ -42,7 +42,7 @@ fn over_alphabet(
     expr: &Expr<Atom>,
 ) -> Result<Network, AllocError>
     requires ground { IsGround alphabet.now parts.now }
-    requires built { IsBuiltOver parts.now alphabet.now (term expr.now) }
+    requires built { IsPlainOver parts.now alphabet.now (term expr.now) }
     requires fits { Fits (kinds parts.now) (term expr.now) }
     requires uses { uses_alphabet (term expr.now) ≡ true }
     ensures { IfOk result (IsNetworkOf parts.now alphabet.now (term expr.now)) }
@@ -58,7 +58,7 @@ fn over_own_symbols(
     expr: &Expr<Atom>,
 ) -> Result<Network, AllocError>
     requires ground { IsGround alphabet.now parts.now }
-    requires built { IsBuiltOver parts.now alphabet.now (term expr.now) }
+    requires built { IsPlainOver parts.now alphabet.now (term expr.now) }
     requires fits { Fits (kinds parts.now) (term expr.now) }
     requires free { uses_alphabet (term expr.now) ≡ false }
     ensures { IfOk result (IsNetworkOf parts.now alphabet.now (term expr.now)) }

@@ -1,7 +1,7 @@
 ghost use Rattle.std.specs.Prelude.{IfOk};
 ghost use Rattle.fsm_base.specs.Alphabet.{symbols_of};
 ghost use Rattle.expr_kinds.specs.Kinds.{Fits};
-ghost use Rattle.network_expr.specs.Built.{IsBuiltOver};
+ghost use Rattle.network_expr.specs.Built.{IsPlainOver};
 ghost use Rattle.network_expr.specs.Parts.{IsGround, kinds};
 ghost use Rattle.project_model.specs.Plans.{body_term};
 ghost use Rattle.network_build.specs.Networks.{IsNetworkOf};
@@ -22,7 +22,7 @@ fn network_of_body(
     body: &Body,
 ) -> Result<Network, AllocError>
     requires ground { IsGround alphabet.now parts.now }
-    requires built { IsBuiltOver parts.now alphabet.now (body_term body.now) }
+    requires built { IsPlainOver parts.now alphabet.now (body_term body.now) }
     requires fits { Fits (kinds parts.now) (body_term body.now) }
     ensures { IfOk result (IsNetworkOf parts.now alphabet.now (body_term body.now)) }
 {
@@ -40,7 +40,7 @@ pub fn build(
     parts: &[Part],
 ) -> Result<Network, BuildError>
     requires ground { IsGround (symbols_of alphabet.now) parts.now }
-    requires built { IsBuiltOver parts.now (symbols_of alphabet.now) (body_term definition.now.body) }
+    requires built { IsPlainOver parts.now (symbols_of alphabet.now) (body_term definition.now.body) }
     requires fits { Fits (kinds parts.now) (body_term definition.now.body) }
     ensures { IfOk result (IsNetworkOf parts.now (symbols_of alphabet.now) (body_term definition.now.body)) }
 {

@@ -1,5 +1,5 @@
 use Rattle.std.proofs.Common.{subst, sym}
-use Rattle.network_expr.specs.Built.{IsBuiltOver}
+use Rattle.network_expr.specs.Built.{IsPlainOver}
 use Rattle.network_expr.specs.Parts.{IsGround}
 use Rattle.project_model.specs.Plans.{body_term}
 use Rattle.network_build.specs.Networks.{IsNetworkOf}

@@ -23,7 +23,8 @@ use Rattle.network_expr.specs.Parts.{kinds, stands}
 use Rattle.network_expr.specs.Built.{AreBuiltOver, ContextsAreBuiltOver, IsBuiltOver, IsChoice, IsMeant, LinksAreBuiltOver, StepsAreBuiltOver}
 use Rattle.network_expr.proofs.Weights.{weight, each_halves, links_halves, contexts_halves, steps_halves as steps_lighter}
 use Rattle.network_expr.proofs.Rows.{each_built, each_fits, each_language, chain_built, chain_fits, choice_fits, contexts_built, contexts_fit, steps_built, steps_fit, no_item, one_item, halves_joined, terms_joined, some_terms}
-use Rattle.network_expr.proofs.Meant.{IsChosen, IsChained, IsStepped, AreIn, reduced_for, alone_chosen, or_chained, chain_for, chain_halves, chain_choice, choice_halves, none_chosen, none_accepted, steps_for, steps_halves, then_stepped, context_one, context_halves, no_contexts, only_meant, words_meant, meant_words, letters_meant, colon_language, maybe_meant, same_meant, turn_alone, turns_meant, suffixed_for, prefixed_meant, not_one_meant, ignore_row, ignore_one, ignore_halves, each_kind_language, empty_only, given_one, given_two}
+use Rattle.network_expr.proofs.Meant.{IsChosen, IsChained, IsStepped, AreIn, reduced_for, alone_chosen, chain_for, chain_halves, chain_choice, choice_halves, none_chosen, none_accepted, steps_for, steps_halves, then_stepped, context_one, context_halves, no_contexts, only_meant, words_meant, meant_words, letters_meant, colon_language, maybe_meant, same_meant, turn_alone, turns_meant, prefixed_meant, not_one_meant, ignore_row, ignore_one, ignore_halves, each_kind_language, empty_only, given_one, given_two}
+use Rattle.network_affixes.proofs.Suffixed.{suffixed_for}
 use Rattle.network_expr.proofs.build.+build.Goals as goal
 
 pub union_operands-union_operands-requires : goal.union_operands-union_operands-requires
@@ -277,23 +278,6 @@ in_ignoring-returns-in_ok-first-in_default-clause-words t c =
     let whole = c.args.operands.now in
     let is = halves_joined front back whole (length whole / 2) c.split_at.ensures.front c.split_at.ensures.back in
     IfOk-weaker _ _ _ (λ m. ignore_halves c.args.parts.now c.args.alphabet.now (map term front) (map term back) (map term whole) c.args.before c.in_ok-first-in_default.first m (terms_joined front back whole is) c.in_ok-first-in_default.ensures.words) c.in_ignoring-in_default.ensures.words
-
-pub in_link-returns-in_ok-either-in-Or-clause-letters : goal.in_link-returns-in_ok-either-in-Or-clause-letters
-in_link-returns-in_ok-either-in-Or-clause-letters t c =
-    let A = c.args.alphabet.now in
-    let either = c.in_ok-either-in-Or.either in
-    let letters = given_two A c.args.before c.in_ok-network_of-in-Or.field-0 either c.requires.before c.in_ok-network_of-in-Or.ensures.letters c.in_ok-either-in-Or.ensures.letters in
-    IfOk-weaker _ _ _ (λ r. given_one A either r letters) c.reduced.ensures.letters
-
-pub in_link-returns-in_ok-either-in-Or-clause-meaning : goal.in_link-returns-in_ok-either-in-Or-clause-meaning
-in_link-returns-in_ok-either-in-Or-clause-meaning t c =
-    let A = c.args.alphabet.now in
-    let before = c.args.before in
-    let either = c.in_ok-either-in-Or.either in
-    let links = or (term c.in-Or.operand) no_link in
-    let chained = or_chained c.args.parts.now A before c.in_ok-network_of-in-Or.field-0 either (term c.in-Or.operand) c.in_ok-network_of-in-Or.ensures.meaning c.in_ok-either-in-Or.ensures.meaning in
-    subst (λ (z : Link Atom). IfOk c.reduced.result (IsChained c.args.parts.now A before (z ∷ []))) (sym c.in-Or.is)
-    (IfOk-weaker _ _ _ (λ r. reduced_for (kind_of_chain (kinds c.args.parts.now) (kind_of_network before) links) (InChain (stands c.args.parts.now) A (WordsOf before) links) (RelatesChain (stands c.args.parts.now) A (WordsOf before) (PairsOf before) links) either r chained) c.reduced.ensures.meaning)
 
 pub in_step-returns-in_ok-network-in-Then-clause-meaning : goal.in_step-returns-in_ok-network-in-Then-clause-meaning
 in_step-returns-in_ok-network-in-Then-clause-meaning t c =

@@ -1,9 +1,9 @@
 use Rattle.std.proofs.Common.{List, take}
 use Rattle.fsm_base.specs.declared.letters.Sym.{Sym}
 use Rattle.network_algebra.specs.Networks.{IsNetwork}
-use Rattle.network_expr.specs.Suffixes.{IsSettled}
-use Rattle.network_expr.proofs.Repeats.{AreBehind}
-use Rattle.network_expr.proofs.suffixes.apply_suffixes.Given as goal
+use Rattle.network_affixes.specs.Suffixes.{IsSettled}
+use Rattle.network_affixes.proofs.Repeats.{AreBehind}
+use Rattle.network_affixes.proofs.suffixes.apply_suffixes.Given as goal
 
 -- the network of the suffixes so far
 abbrev pub invariant-suffixes : goal.invariant-suffixes

@@ -71,17 +71,13 @@ module _ {L : Type 0} where
   relates_split (x ∷ xs) ys R = relates_split xs ys (RelatesSuffixed x R)
 
   -- prefixes
-  prefix_same : (alphabet : List L) (prefix : Prefix) (P Q : List (Bound L) → Type 0) → SameWords P Q → SameWords (IsPrefixed alphabet prefix P) (IsPrefixed alphabet prefix Q)
+  pub prefix_same : (alphabet : List L) (prefix : Prefix) (P Q : List (Bound L) → Type 0) → SameWords P Q → SameWords (IsPrefixed alphabet prefix P) (IsPrefixed alphabet prefix Q)
   prefix_same alphabet Not P Q f w = (λ h. (h.0, λ q. h.1 ((f w).1 q)), λ h. (h.0, λ p. h.1 ((f w).0 p)))
   prefix_same alphabet Part P Q f w = (λ (over, (x, y, z, is, p)). (over, (x, y, z, is, (f y).0 p)), λ (over, (x, y, z, is, q)). (over, (x, y, z, is, (f y).1 q)))
 
   pub prefixes_same : (alphabet : List L) (prefixes : List Prefix) (P Q : List (Bound L) → Type 0) → SameWords P Q → SameWords (ArePrefixed alphabet prefixes P) (ArePrefixed alphabet prefixes Q)
   prefixes_same alphabet [] P Q f = f
   prefixes_same alphabet (x ∷ xs) P Q f = prefix_same alphabet x (ArePrefixed alphabet xs P) (ArePrefixed alphabet xs Q) (prefixes_same alphabet xs P Q f)
-
-  pub prefixes_split : (alphabet : List L) (xs ys : List Prefix) (P : List (Bound L) → Type 0) → SameWords (ArePrefixed alphabet (xs ++ ys) P) (ArePrefixed alphabet xs (ArePrefixed alphabet ys P))
-  prefixes_split alphabet [] ys P = λ w. (λ h. h, λ h. h)
-  prefixes_split alphabet (x ∷ xs) ys P = prefix_same alphabet x (ArePrefixed alphabet (xs ++ ys) P) (ArePrefixed alphabet xs (ArePrefixed alphabet ys P)) (prefixes_split alphabet xs ys P)
 
   pub not_one_same : (alphabet : List L) (n : ℕ) (P Q : List (Bound L) → Type 0) → SameWords P Q → SameWords (IsNotOne alphabet n P) (IsNotOne alphabet n Q)
   not_one_same alphabet zero P Q f = f
@@ -106,10 +102,3 @@ not_one_more alphabet n P Q R before step =
 
 pub not_one_all : {L : Type 0} (alphabet : List L) (n m : ℕ) (P Q : List (Bound L) → Type 0) → n ≡ m → SameWords Q (IsNotOne alphabet n P) → SameWords Q (IsNotOne alphabet m P)
 not_one_all alphabet n m P Q is h = subst (λ k. SameWords Q (IsNotOne alphabet k P)) is h
-
-pub prefixes_halves : {L : Type 0} (alphabet : List L) (xs ys whole : List Prefix) (P Q R : List (Bound L) → Type 0) → xs ++ ys ≡ whole → SameWords Q (ArePrefixed alphabet ys P) → SameWords R (ArePrefixed alphabet xs Q) → SameWords R (ArePrefixed alphabet whole P)
-prefixes_halves alphabet xs ys whole P Q R is f g =
-    subst (λ (z : List Prefix). SameWords R (ArePrefixed alphabet z P)) is
-    (words_then R (ArePrefixed alphabet xs Q) (ArePrefixed alphabet (xs ++ ys) P) g
-    (words_then (ArePrefixed alphabet xs Q) (ArePrefixed alphabet xs (ArePrefixed alphabet ys P)) (ArePrefixed alphabet (xs ++ ys) P) (prefixes_same alphabet xs Q (ArePrefixed alphabet ys P) f)
-    (words_back (ArePrefixed alphabet (xs ++ ys) P) (ArePrefixed alphabet xs (ArePrefixed alphabet ys P)) (prefixes_split alphabet xs ys P))))

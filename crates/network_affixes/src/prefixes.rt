@@ -1,4 +1,4 @@
-ghost use Rattle.std.specs.Prelude.{◌↔◌, IfOk, List};
+ghost use Rattle.std.specs.Prelude.{◌≡◌, ◌↔◌, IfOk, IsTrue, List, Some};
 ghost use Rattle.fsm_base.specs.declared.letters.Bound.{Bound};
 ghost use Rattle.fsm_base.specs.declared.letters.Sym.{Sym};
 ghost use Rattle.word_relations.specs.Words.{IsDistinct};
@@ -12,28 +12,36 @@ use network_sets::{apply_prefix, not_one};
 use regex_ast::Prefix;
 use std::alloc::{AllocError, Global};
 
-/// A language with prefixes, of which the last stands at it. They are taken by halves, so that a long row is no deep
-/// recursion.
+/// Whether a prefix makes nothing new before the last one: `$` before `$`.
+fn makes_nothing_new(prefix: Prefix, last: Option<Prefix>) -> bool
+    ensures { IsTrue result → (prefix ≡ Prefix.Contains) × (last ≡ Some Prefix.Contains) }
+{
+    matches!((prefix, last), (Prefix::Contains, Some(Prefix::Contains)))
+}
+
+/// A language with prefixes, of which the last stands at it.
 pub fn apply_prefixes(
     alloc: Global,
     alphabet: &[Sym],
     prefixes: &[Prefix],
-    words: Fsa<Bound<Sym>>,
+    mut words: Fsa<Bound<Sym>>,
 ) -> Result<Fsa<Bound<Sym>>, AllocError>
     requires distinct { IsDistinct alphabet.now }
     requires only { UsesOnly (all_letters alphabet.now) words }
     ensures letters { IfOk result (UsesOnly (all_letters alphabet.now)) }
     ensures words { IfOk result (λ m. (w : List (Bound Sym)) → Accepts m w ↔ ArePrefixed alphabet.now prefixes.now (Accepts words) w) }
 {
-    match prefixes {
-        [] => Ok(words),
-        [prefix] => apply_prefix(alloc, alphabet, *prefix, &words),
-        _ => {
-            let (front, back) = prefixes.split_at(prefixes.len() / 2);
-            let inner = apply_prefixes(alloc, alphabet, back, words)?;
-            apply_prefixes(alloc, alphabet, front, inner)
+    let mut rest = prefixes;
+    let mut last = None;
+    'prefixes: while let Some((prefix, front)) = rest.split_last() {
+        rest = front;
+        if makes_nothing_new(*prefix, last) {
+            continue;
         }
+        words = apply_prefix(alloc, alphabet, *prefix, &words)?;
+        last = Some(*prefix);
     }
+    Ok(words)
 }
 
 /// A language with so many backslashes.

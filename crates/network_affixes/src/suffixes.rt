@@ -1,8 +1,8 @@
-ghost use Rattle.std.specs.Prelude.{◌≡◌, IfOk, IsTrue, List, Some};
+ghost use Rattle.std.specs.Prelude.{IfOk, IsTrue, List};
 ghost use Rattle.fsm_base.specs.declared.letters.Sym.{Sym};
 ghost use Rattle.expr_kinds.specs.Kinds.{kind_behind, with_suffixes};
 ghost use Rattle.expr_meaning.specs.Operators.{AreSuffixed, IsSuffixed, RelateSuffixed, RelatesSuffixed};
-ghost use Rattle.network_expr.specs.Suffixes.{IsBehind, IsSettled, Repeats};
+ghost use Rattle.network_affixes.specs.Suffixes.{MakesNothingNew};
 ghost use Rattle.network_algebra.specs.Networks.{IsFor, IsNetwork, PairsOf, WordsOf, kind_of_network};
 
 use network_algebra::{Network, Times, inverse, lower, repeat, reverse, upper};
@@ -25,36 +25,20 @@ fn apply_suffix(alloc: Global, network: Network, suffix: Suffix) -> Result<Netwo
     }
 }
 
-/// Whether a suffix makes nothing new behind the last one.
-fn is_repeat(last: Option<Suffix>, suffix: Suffix) -> bool
-    ensures { IsTrue result → (last ≡ Some suffix) × Repeats suffix }
+/// Whether a suffix makes nothing new behind the last one that did.
+fn makes_nothing_new(last: Option<Suffix>, suffix: Suffix) -> bool
+    ensures { IsTrue result → MakesNothingNew last suffix }
 {
     matches!(
         (last, suffix),
-        (Some(Suffix::Star), Suffix::Star)
+        (_, Suffix::Power(1))
+            | (Some(Suffix::Star), Suffix::Star | Suffix::Plus)
             | (Some(Suffix::Plus), Suffix::Plus)
-            | (Some(Suffix::Upper), Suffix::Upper)
-            | (Some(Suffix::Lower), Suffix::Lower)
+            | (
+                Some(Suffix::Upper | Suffix::Lower),
+                Suffix::Upper | Suffix::Lower
+            )
     )
-}
-
-/// A network with one suffix more behind the last one.
-fn behind_last(
-    alloc: Global,
-    network: Network,
-    last: Option<Suffix>,
-    suffix: Suffix,
-) -> Result<Network, AllocError>
-    requires { IsSettled last network }
-    ensures letters { IfOk result (λ n. (symbols : List Sym) → IsNetwork symbols network → IsNetwork symbols n) }
-    ensures meaning { IfOk result (IsBehind network suffix) }
-    ensures settled { IfOk result (IsSettled (Some suffix)) }
-{
-    if is_repeat(last, suffix) {
-        Ok(network)
-    } else {
-        apply_suffix(alloc, network, suffix)
-    }
 }
 
 /// A network with suffixes, from left to right.
@@ -68,7 +52,10 @@ pub fn apply_suffixes(
 {
     let mut last = None;
     'suffixes: for suffix in suffixes {
-        network = behind_last(alloc, network, last, *suffix)?;
+        if makes_nothing_new(last, *suffix) {
+            continue;
+        }
+        network = apply_suffix(alloc, network, *suffix)?;
         last = Some(*suffix);
     }
     Ok(network)

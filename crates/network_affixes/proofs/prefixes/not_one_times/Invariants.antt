@@ -1,8 +1,8 @@
 use Rattle.fsa.specs.Language.{Accepts}
 use Rattle.expr_meaning.specs.Operators.{IsNotOne}
 use Rattle.network_algebra.specs.Networks.{UsesOnly, all_letters}
-use Rattle.network_expr.proofs.Alike.{SameWords}
-use Rattle.network_expr.proofs.prefixes.not_one_times.Given as goal
+use Rattle.network_affixes.proofs.Alike.{SameWords}
+use Rattle.network_affixes.proofs.prefixes.not_one_times.Given as goal
 
 -- so many backslashes are done
 abbrev pub invariant-times : goal.invariant-times
