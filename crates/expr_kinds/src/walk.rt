@@ -23,14 +23,7 @@ pub fn form_of(names: &[Form], expr: &Expr<Atom>) -> Form
 }
 
 /// What a leaf is.
-#[tactic(
-    auto,
-    unfolding(
-        crate::specs::Atoms::is_known_at,
-        crate::specs::Atoms::kinds_at,
-        crate::specs::Atoms::weights_at
-    )
-)]
+#[tactic(auto, unfolding(crate::specs::Atoms::is_known_at, crate::specs::Atoms::kinds_at, crate::specs::Atoms::weights_at))]
 fn of_atom(names: &[Form], atom: Atom) -> Form
     ensures { result ≡ built_if (of_leaf (kinds_at names.now atom) (weights_at names.now atom)) (is_known_at names.now atom) }
 {
