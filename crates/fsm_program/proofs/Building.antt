@@ -1,9 +1,9 @@
 -- The networks of a project's definitions are built of one another.
 use Rattle.std.proofs.Common.{◌≡◌, ◌<◌, ◌≤◌, ◌+◌, ◌++◌, ℕ, Bool, true, false, cond, nat_lt, List, [], ◌∷◌, length, take, get_or, map, AllPairs, Contains, Option, Some, None, is_some, IsTrue, slice_get, refl, sym, ap, subst, ◌∙◌, inl, inr, arith}
-use Rattle.std.proofs.Math.ListN.{set}
+use Rattle.std.proofs.Math.ListN.{replicate, set}
 use Rattle.std.proofs.lemmas.Bool.{cases_eq}
 use Rattle.std.proofs.lemmas.Bool.Decides.{nat_tests}
-use Rattle.std.proofs.lemmas.List.{length-map, length-set, take_all, take_more}
+use Rattle.std.proofs.lemmas.List.{get_or-replicate, length-map, length-replicate, length-set, take_all, take_more}
 use Rattle.std.proofs.lemmas.List.Elements.{All-contains, All-contains_itself, All-weaker, Contains-append_left, Contains-append_right, Contains-push, Contains-push_cases, Contains-get_or}
 use Rattle.std.proofs.lemmas.List.Quantifiers.{all_pairs_push}
 use Rattle.std.proofs.lemmas.Option.{slice_get-get_or, slice_get-map, slice_get_within, same_Some}
@@ -37,7 +37,7 @@ use Rattle.project_model.specs.Plans.{IsPlan, IsSoundOver, body_term}
 use Rattle.project_model.specs.Referring.{place_in, places_in, references_of}
 use Rattle.project_model.specs.declared.definition.Definition.{Definition}
 use Rattle.project_model.proofs.Gathering.{listed_is}
-use Rattle.fsm_program.specs.Building.{AreBuilt, AreNamesAmong, ArePartsOf, HasParts, IsBuiltAt, IsThere}
+use Rattle.fsm_program.specs.Building.{AreBuilt, AreNamesAmong, ArePartsOf, HasParts, HasPut, IsBuiltAt, IsThere}
 use Rattle.fsm_program.specs.Loaded.{LoadedView, plan_in}
 use Rattle.fsm_program.proofs.Parts.{part_found, part_there}
 use Rattle.fsm_program.proofs.Shown.{name_spelled_here}
@@ -188,6 +188,16 @@ module _ (before : List Atom) (leaf : Atom) (names : List (Option ℕ)) (are : A
               slice_get-set_other names p q (Some p) apart
               ∙ are.all q (omega (arith, inside, length-set names p (Some p))) (other_leaf (Name q) h (λ same. apart (sym (same_name q (sym is ∙ same)))))
 
+-- each item of a list of one item many times
+replicate_same : {X : Type 0} (n : ℕ) (x : X) (p : ℕ) (y : X) → slice_get (replicate n x) p ≡ Some y → x ≡ y
+replicate_same {X} n x p y at =
+    let within = slice_get_within (replicate n x) p y at in
+    let inside : p < n = omega (arith, within, length-replicate n x) in
+    same_Some x y (ap (λ (z : X). Some z) (sym (get_or-replicate n p x x inside)) ∙ sym (slice_get-get_or (replicate n x) p x within) ∙ at)
+
+pub no_names : (n p name : ℕ) → slice_get (replicate n None) p ≡ Some (Some name) → ⊥
+no_names n p name at = let no : None ≡ Some name = replicate_same n None p (Some name) at in cc
+
 -- no leaf so far
 pub names_none : (names : List (Option ℕ)) → ((p name : ℕ) → slice_get names p ≡ Some (Some name) → ⊥) → AreNamesAmong [] names
 names_none names none = record {
@@ -239,6 +249,23 @@ module _ (names : List (Option ℕ)) (built : List (Option Network)) where
       | inr apart ↦ so_far.all place (omega (arith, within, apart)) named there
     ];
   }
+
+  clash_network : (n : Network) → ◌≡◌ {A = Option (Option Network)} (Some None) (Some (Some n)) → ⊥
+  clash_network n e = cc
+
+  clash_name : (k : ℕ) → ◌≡◌ {A = Option (Option ℕ)} (Some None) (Some (Some k)) → ⊥
+  clash_name k e = cc
+
+  -- the next place
+  pub parts_next : (i : ℕ) (parts new : List Part) (name : Option ℕ) (network : Option Network) → slice_get names i ≡ Some name → slice_get built i ≡ Some network
+      → ((place k : ℕ) → slice_get names place ≡ Some (Some k) → k ≡ place) → HasPut name network parts new → PartsSoFar names built i parts → PartsSoFar names built (i + 1) new
+  parts_next i parts new (Some k) (Some n) at_name at_built own (part, is_name, is_network, is) so_far =
+      subst (PartsSoFar names built (i + 1)) (sym is)
+      (parts_more i parts part (is_name ∙ own i k at_name) (at_built ∙ ap (λ (m : Network). Some (Some m)) (sym is_network)) so_far)
+  parts_next i parts new (Some k) None at_name at_built own is so_far =
+      subst (PartsSoFar names built (i + 1)) (sym is) (parts_past i parts (λ named (n, there). clash_network n (sym at_built ∙ there)) so_far)
+  parts_next i parts new None network at_name at_built own is so_far =
+      subst (PartsSoFar names built (i + 1)) (sym is) (parts_past i parts (λ named there. clash_name i (sym at_name ∙ named)) so_far)
 
   pub parts_all : (i : ℕ) (parts : List Part) → length names ≤ i → PartsSoFar names built i parts → ArePartsOf names built parts
   parts_all i parts past so_far = record {

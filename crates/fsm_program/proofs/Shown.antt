@@ -242,10 +242,8 @@ module _ (said : Said) (loaded : LoadedView) (from : IsLoadedFrom said loaded) w
             subst (λ (x : List ℕ). IsSpelled loaded.alphabet (PairsOf n) (means x)) (same_Some w.name name (sym name_here ∙ at_name)) (record {
               over = λ upper lower h. here.over upper lower ((relation upper lower).0 h);
               same = λ u v. (
-                let unfold = names_unfold (project_in said) from.sound.acyclic from.sound.closed w.name u v in (
-                  λ r. there u v (unfold.0 r),
-                  λ r. unfold.1 (back u v r),
-                )
+                λ r. there u v ((names_unfold (project_in said) from.sound.acyclic from.sound.closed w.name u v).0 r),
+                λ r. (names_unfold (project_in said) from.sound.acyclic from.sound.closed w.name u v).1 (back u v r),
               );
             })
 

@@ -1,5 +1,5 @@
 -- The networks of a project's definitions, each built of those of the names in it.
-use Rattle.std.specs.Prelude.{◌≡◌, ◌<◌, ◌++◌, ℕ, List, [], ◌∷◌, length, AllPairs, Contains, Option, Some, slice_get}
+use Rattle.std.specs.Prelude.{◌≡◌, ◌<◌, ◌++◌, ℕ, List, [], ◌∷◌, length, AllPairs, Contains, Option, Some, None, slice_get}
 use Rattle.fsm_base.specs.Alphabet.{symbols_of}
 use Rattle.regex_ast.specs.declared.expr.Atom.{Atom}
 use Rattle.regex_ast.specs.declared.expr.Atom.TheVariants.{Name}
@@ -39,6 +39,12 @@ HasParts loaded built place = (other : ℕ) → Refers (references_of loaded.def
 pub record AreNamesAmong (leaves : List Atom) (names : List (Option ℕ)) : Type 0 where
   pub own : (place name : ℕ) → slice_get names place ≡ Some (Some name) → name ≡ place
   pub all : (place : ℕ) → place < length names → Contains leaves (Name place) → slice_get names place ≡ Some (Some place)
+
+-- the part of a name that has a network was put behind the others; without name or network they stay
+abbrev pub HasPut : Option ℕ → Option Network → List Part → List Part → Type 0
+HasPut (Some name) (Some n) old new = (part : Part) × (part.name ≡ name) × (part.network.now ≡ n) × (new ≡ old ++ part ∷ [])
+HasPut (Some name) None old new = new ≡ old
+HasPut None network old new = new ≡ old
 
 -- the parts of these names that have networks, in the order of their places
 pub record ArePartsOf (names : List (Option ℕ)) (built : List (Option Network)) (parts : List Part) : Type 0 where

@@ -1,10 +1,10 @@
-ghost use Rattle.std.specs.Prelude.{◌≡◌, ◌<◌, ◌++◌, ◌∷◌, [], ℕ, List, None, Option, Some, Contains, IfOk, length, slice_get};
+ghost use Rattle.std.specs.Prelude.{◌≡◌, ◌<◌, ◌++◌, ◌∷◌, [], ℕ, List, None, Option, Some, Contains, IfOk, OnOk, length, slice_get};
 ghost use Rattle.regex_ast.specs.declared.expr.Atom.{Atom as Leaf};
 ghost use Rattle.regex_ast.specs.Terms.{term};
 ghost use Rattle.expr_leaves.specs.Leaves.{leaves_in, seen};
 ghost use Rattle.network_algebra.specs.declared.network.Network.{Network as NetworkOf};
 ghost use Rattle.project_model.specs.Plans.{body_term};
-ghost use Rattle.fsm_program.specs.Building.{AreBuilt, AreNamesAmong, ArePartsOf, HasParts, IsBuiltAt};
+ghost use Rattle.fsm_program.specs.Building.{AreBuilt, AreNamesAmong, ArePartsOf, HasParts, HasPut, IsBuiltAt};
 
 use crate::project::Project;
 use expr_leaves::leaves;
@@ -43,6 +43,20 @@ fn names_among(
     Ok(names)
 }
 
+/// Puts the part of a name behind others, where there is a name and it has a network.
+fn add_part<'a>(
+    name: Option<u32>,
+    network: &'a Option<Network>,
+    parts: &mut Vec<Part<'a>>,
+) -> Result<(), AllocError>
+    ensures { OnOk result (HasPut name network.now parts.old.items parts.new.items) }
+{
+    if let (Some(name), Some(network)) = (name, network) {
+        parts.push(Part { name, network })?;
+    }
+    Ok(())
+}
+
 /// The parts of names that have networks, in the order of their places.
 fn parts_at<'a>(
     alloc: Global,
@@ -54,14 +68,8 @@ fn parts_at<'a>(
     ensures { IfOk result (λ parts. ArePartsOf names.now built.now parts.items) }
 {
     let mut parts = Vec::new(alloc);
-    'names: for (place, name) in names.iter().enumerate() {
-        let (Some(name), Some(network)) = (name, &built[place]) else {
-            continue;
-        };
-        parts.push(Part {
-            name: *name,
-            network,
-        })?;
+    'places: for place in 0..names.len() {
+        add_part(names[place], &built[place], &mut parts)?;
     }
     Ok(parts)
 }
@@ -102,7 +110,9 @@ fn built_of(
     requires parts { HasParts project.now built.now place }
     ensures { IfOk result (IsBuiltAt project.now place) }
 {
-    let definition = &project.plan().definitions()[place];
+    let plan = project.plan();
+    let all = plan.definitions();
+    let definition = &all[place];
     let parts = parts_of(alloc, &definition.body, built)?;
     match build(alloc, definition, project.alphabet(), &parts) {
         Ok(network) => Ok(network),
@@ -128,8 +138,10 @@ pub fn network_at(alloc: Global, project: &Project, place: usize) -> Result<Netw
     requires { place < length project.now.definitions }
     ensures { IfOk result (IsBuiltAt project.now place) }
 {
-    let mut built = none_built(alloc, project.plan().definitions().len())?;
-    'order: for next in project.plan().order() {
+    let plan = project.plan();
+    let order = plan.order();
+    let mut built = none_built(alloc, plan.definitions().len())?;
+    'order: for next in order {
         let network = built_of(alloc, project, *next, &built)?;
         if *next == place {
             return Ok(network);

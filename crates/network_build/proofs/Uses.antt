@@ -96,27 +96,24 @@ module _ {X : Type 0} (Gives : X → Symbol → Type 0) where
   pub given_none : (first : List Symbol) → AreGiven first first []
   given_none first s = (λ at. inl at, λ h. elim h as (λ _. Contains first s) [ inl at ↦ at | inr (x, among, gives) ↦ absurd (Contains-nil_cases x among) ])
 
-  pub given_more : (first old new : List Symbol) (xs : List X) (i : ℕ) (x : X) → i < length xs → x ≡ get_or xs i x
+  pub given_more : (first old new : List Symbol) (xs : List X) (i : ℕ) (x : X) → take (i + 1) xs ≡ take i xs ++ x ∷ []
       → ((s : Symbol) → Contains new s ↔ (Contains old s ⊎ Gives x s)) → AreGiven first old (take i xs) → AreGiven first new (take (i + 1) xs)
-  given_more first old new xs i x below is added so_far s = (
+  given_more first old new xs i x front added so_far s = (
     λ at. elim ((added s).0 at) as (λ _. Contains first s ⊎ Given (take (i + 1) xs) s) [
       | inl o ↦ elim ((so_far s).0 o) as (λ _. Contains first s ⊎ Given (take (i + 1) xs) s) [
-          | inl f ↦ inl f
-          | inr (y, among, gives) ↦ inr (y, subst (λ (ys : List X). Contains ys y) (sym front) (Contains-append_left (take i xs) (x ∷ []) y among), gives)
-        ]
+        | inl f ↦ inl f
+        | inr (y, among, gives) ↦ inr (y, subst (λ (ys : List X). Contains ys y) (sym front) (Contains-append_left (take i xs) (x ∷ []) y among), gives)
+      ]
       | inr gives ↦ inr (x, subst (λ (ys : List X). Contains ys x) (sym front) (Contains-push (take i xs) x), gives)
     ],
     λ h. elim h as (λ _. Contains new s) [
       | inl f ↦ (added s).1 (inl ((so_far s).1 (inl f)))
       | inr (y, among, gives) ↦ elim (Contains-push_cases (take i xs) x y (subst (λ (ys : List X). Contains ys y) front among)) as (λ _. Contains new s) [
-          | inl before ↦ (added s).1 (inl ((so_far s).1 (inr (y, before, gives))))
-          | inr same ↦ (added s).1 (inr (subst (λ (z : X). Gives z s) (sym same) gives))
-        ]
+        | inl before ↦ (added s).1 (inl ((so_far s).1 (inr (y, before, gives))))
+        | inr same ↦ (added s).1 (inr (subst (λ (z : X). Gives z s) (sym same) gives))
+      ]
     ],
   )
-    where
-      front : take (i + 1) xs ≡ take i xs ++ x ∷ []
-      front = take_more xs i x below ∙ ap (λ (y : X). take i xs ++ y ∷ []) (sym is)
 
 -- what an edge reads
 abbrev pub Reads : Edge (Bound Symbol) → Symbol → Type 0

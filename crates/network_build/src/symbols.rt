@@ -73,10 +73,7 @@ fn add_words(edges: &[Edge<Bound<Sym>>], symbols: &mut IndexSet<Sym>) -> Result<
 }
 
 /// Adds the symbol that a letter is, if it's one.
-fn add_letter(
-    letter: Option<Bound<Sym>>,
-    symbols: &mut IndexSet<Sym>,
-) -> Result<(), AllocError>
+fn add_letter(letter: Option<Bound<Sym>>, symbols: &mut IndexSet<Sym>) -> Result<(), AllocError>
     ensures { OnOk result ((s : Symbol) → Contains symbols.new.keys s ↔ (Contains symbols.old.keys s ⊎ (letter ≡ Some (Bound.Inner s)))) }
 {
     if let Some(Bound::Inner(symbol)) = letter {

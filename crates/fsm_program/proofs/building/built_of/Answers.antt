@@ -1,17 +1,14 @@
-use Rattle.std.proofs.Common.{◌≡◌, Some, get_or, refl, slice_get, sym, subst}
+use Rattle.std.proofs.Common.{◌≡◌, ◌<◌, ◌∙◌, List, Some, length, refl, slice_get, subst, sym}
 use Rattle.std.proofs.lemmas.Option.{slice_get_read}
-use Rattle.project_model.specs.Plans.{body_term}
+use Rattle.project_model.specs.declared.definition.Definition.{Definition}
 use Rattle.fsm_program.proofs.Building.{built_at, built_over, fits, ground}
 use Rattle.fsm_program.proofs.building.built_of.Goals as goal
 
-pub build-requires-clause-ground : goal.build-requires-clause-ground
-build-requires-clause-ground c = ?
+pub bounds-all-place : goal.bounds-all-place
+bounds-all-place c = subst (λ (ds : List Definition). c.args.place < length ds) (sym (c.definitions-all.ensures.definitions ∙ c.plan-plan.ensures.definitions)) c.requires.place
 
-pub build-requires-clause-built : goal.build-requires-clause-built
-build-requires-clause-built c = ?
-
-pub build-requires-clause-fits : goal.build-requires-clause-fits
-build-requires-clause-fits c = ?
-
-pub returns-in-Ok : goal.returns-in-Ok
-returns-in-Ok c = ?
+pub offset_bounds-all-place : goal.offset_bounds-all-place
+offset_bounds-all-place c =
+    let below : c.args.place < length c.definitions-all.result.now =
+    subst (λ (ds : List Definition). c.args.place < length ds) (sym (c.definitions-all.ensures.definitions ∙ c.plan-plan.ensures.definitions)) c.requires.place in
+    search rules
