@@ -1,4 +1,4 @@
-mod Letters
+pub mod Letters
 mod MarkedStrings
 mod ContextPlaces
 mod KeptStrings
