@@ -143,11 +143,11 @@ pub data Says : State → Result (Grammar Raw) FaultAt → Type 0 where
       → section ≢ in_rules → leads (within section) p.token ≡ None → may_begin (within section) p.token ≡ true → is_open section p more ≡ true → Verdict (names_of g) section (tokens_of (p ∷ more)) (Err why)
       → Says (record { stage = within section; grammar = g; rest = p ∷ more; ending = Whole }) (fault_at p.line why)
   read : (section : Section) (g : Grammar Raw) (p : Placed) (more rest : List Placed) (ending : Ending) (s : Statement) (answer : Result (Grammar Raw) FaultAt)
-      → leads (within section) p.token ≡ None → may_begin (within section) p.token ≡ true → IsOne section (p ∷ more) rest → (rest ≢ []) ⊎ (ending ≡ Whole) ⊎ (section ≢ in_rules)
+      → leads (within section) p.token ≡ None → may_begin (within section) p.token ≡ true → IsOne section (p ∷ more) rest → (rest ≢ []) ⊎ ((ending ≡ Whole) ⊎ (section ≢ in_rules))
       → Verdict (names_of g) section (tokens_of (p ∷ more)) (Ok s) → Says (record { stage = stage_behind section; grammar = with_statement g s; rest = rest; ending = ending }) answer
       → Says (record { stage = within section; grammar = g; rest = p ∷ (more ++ rest); ending = ending }) answer
   refused : (section : Section) (g : Grammar Raw) (p : Placed) (more rest : List Placed) (ending : Ending) (why : Why)
-      → leads (within section) p.token ≡ None → may_begin (within section) p.token ≡ true → IsOne section (p ∷ more) rest → (rest ≢ []) ⊎ (ending ≡ Whole) ⊎ (section ≢ in_rules)
+      → leads (within section) p.token ≡ None → may_begin (within section) p.token ≡ true → IsOne section (p ∷ more) rest → (rest ≢ []) ⊎ ((ending ≡ Whole) ⊎ (section ≢ in_rules))
       → Verdict (names_of g) section (tokens_of (p ∷ more)) (Err why) → Says (record { stage = within section; grammar = g; rest = p ∷ (more ++ rest); ending = ending }) (fault_at p.line why)
 
 abbrev pub nothing_read : List Placed → Ending → State
