@@ -5,10 +5,13 @@ use Rattle.std.proofs.lemmas.List.Elements.{Contains-push_cases}
 use Rattle.fsm_base.specs.declared.letters.Sym.{Sym}
 use Rattle.fsm_base.specs.declared.letters.Pair.{Pair}
 use Rattle.word_relations.specs.Words.{IsDistinct}
-use Rattle.word_relations.proofs.Members.{Contains-nil_cases, Contains-cons_cases}
+use Rattle.word_relations.proofs.Members.{Contains-nil_cases, Contains-cons_cases, Contains-map_cases}
 use Rattle.word_relations.proofs.Places.{slice_get-append_cases, Contains-from_slice_get}
 use Rattle.fsa.specs.Automaton.{Automaton, UsesLetter}
-use Rattle.network_algebra.specs.Networks.{UsesOnly}
+use Rattle.fsm_base.specs.declared.letters.Bound.TheVariants.{Edge, Inner}
+use Rattle.expr_meaning.specs.Operators.{inner}
+use Rattle.network_algebra.specs.Networks.{UsesOnly, all_letters}
+use Rattle.network_sets.proofs.Inside.{distinct_map, distinct_more as distinct_behind}
 use Rattle.lookup.specs.Answering.{IsOverAlphabet}
 use Rattle.grammar_trials.specs.Pairs.{IsPairOver}
 
@@ -50,3 +53,16 @@ joined_only letters a b m used first second x h = elim (used x h) as (λ _. Cont
 
 pub found_only : {L : Type 0} (letters found : List L) (m : Automaton L) → ((x : L) → Contains found x → Contains letters x) → ((x : L) → UsesLetter m x → Contains found x) → UsesOnly letters m
 found_only letters found m among used x h = among x (used x h)
+
+-- the letters of contexts are distinct where the pairs are
+all_apart : (x y : Pair) → Inner x ≡ Inner y → x ≡ y
+all_apart x y e = cc
+
+no_edge : (pairs : List Pair) → Contains (inner pairs) Edge → ⊥
+no_edge pairs h = let r = Contains-map_cases Inner pairs Edge h in apart r.0 r.2
+  where
+    apart : (x : Pair) → Inner x ≡ Edge → ⊥
+    apart x e = cc
+
+pub all_distinct : (pairs : List Pair) → IsDistinct pairs → IsDistinct (all_letters pairs)
+all_distinct pairs distinct = distinct_behind Edge (inner pairs) (no_edge pairs) (distinct_map Inner all_apart pairs distinct)

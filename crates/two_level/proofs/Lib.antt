@@ -1,4 +1,4 @@
-pub mod Letters
+mod Letters
 mod MarkedStrings
 mod ContextPlaces
 mod KeptStrings

@@ -1,5 +1,5 @@
 use Rattle.std.proofs.Common.{◌∙◌}
-use Rattle.two_level.proofs.Letters.{all_distinct}
+use Rattle.grammar_trials.proofs.Lists.{all_distinct}
 use Rattle.grammar_trials.proofs.rule.context_of.Goals as goal
 
 pub of-requires-clause-distinct : goal.of-requires-clause-distinct
