@@ -1,7 +1,8 @@
 ghost use Rattle.std.specs.Prelude.{◌≡◌};
-ghost use Rattle.twolc_grammar.specs.Tokens.{spelling};
+ghost use Rattle.twolc_tokens.specs.Spelling.{spelling};
 
 use fsm_base::Text;
+use regex_tokens::Ending;
 
 /// A token that is spelled in one way.
 #[derive(Clone, Copy, Debug, PartialEq, Eq)]
@@ -63,6 +64,24 @@ pub enum Token {
     Quoted(Text),
     /// An atom `X`, `X:`, `:Y`, `X:Y` or `:`, as it is written.
     Atom(Text),
+}
+
+/// A token and where it stands.
+#[derive(Debug, Drop)]
+pub struct Placed {
+    /// The token.
+    pub token: Token,
+    /// The line in which it begins, counted from 1.
+    pub line: u32,
+}
+
+/// The tokens of a text up to its end, or up to the first place where none begins.
+#[derive(Debug, Drop)]
+pub struct Tokens {
+    /// The tokens, in their order.
+    pub tokens: Vec<Placed>,
+    /// How they end.
+    pub ending: Ending,
 }
 
 impl Operator {
