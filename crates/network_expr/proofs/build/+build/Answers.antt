@@ -20,11 +20,13 @@ use Rattle.network_sets.proofs.Inside.{over_left, over_right, inside_all}
 use Rattle.network_sets.proofs.Splits.{both_only}
 use Rattle.network_sets.proofs.Restrictions.{edge_only}
 use Rattle.network_expr.specs.Parts.{kinds, stands}
-use Rattle.network_expr.specs.Built.{AreBuiltOver, ContextsAreBuiltOver, IsBuiltOver, IsChoice, IsMeant, LinksAreBuiltOver, StepsAreBuiltOver}
+use Rattle.network_expr.specs.Built.{AreBuiltOver, ContextsAreBuiltOver, IsBuiltOver, IsChoice, IsMeant, IsNarrowing, LinksAreBuiltOver, StepsAreBuiltOver}
 use Rattle.network_expr.proofs.Weights.{weight, each_halves, links_halves, contexts_halves, steps_halves as steps_lighter}
 use Rattle.network_expr.proofs.Rows.{each_built, each_fits, each_language, chain_built, chain_fits, choice_fits, contexts_built, contexts_fit, steps_built, steps_fit, no_item, one_item, halves_joined, terms_joined, some_terms}
 use Rattle.network_expr.proofs.Meant.{IsChosen, IsChained, IsStepped, AreIn, reduced_for, alone_chosen, chain_for, chain_halves, chain_choice, choice_halves, none_chosen, none_accepted, steps_for, steps_halves, then_stepped, context_one, context_halves, no_contexts, only_meant, words_meant, meant_words, letters_meant, colon_language, maybe_meant, same_meant, turn_alone, turns_meant, prefixed_meant, not_one_meant, ignore_row, ignore_one, ignore_halves, each_kind_language, empty_only, given_one, given_two}
 use Rattle.network_affixes.proofs.Suffixed.{suffixed_for}
+use Rattle.network_expr.proofs.Narrowed.{fails, two_links, before_narrowing, halves_fit, narrowed_halves, narrowed_meant, narrowed_only}
+use Rattle.expr_kinds.proofs.Sets.{term_rules}
 use Rattle.network_expr.proofs.build.+build.Goals as goal
 
 pub union_operands-union_operands-requires : goal.union_operands-union_operands-requires
@@ -143,24 +145,26 @@ in_chain-in_chain-requires t c =
     let back = c.split_at.result.1.now in
     let whole = c.args.links.now in
     let is = halves_joined front back whole (length whole / 2) c.split_at.ensures.front c.split_at.ensures.back in
-    let light = links_halves front back whole is (omega arith) (omega arith) in
+    let two = two_links whole (omega arith) (fails (All IsChoice whole) c.are_choices.result c.are_choices.ensures c.if-are_choices.false) (fails (All IsNarrowing whole) c.are_narrowing.result c.are_narrowing.ensures c.if-are_narrowing.false) in
+    let light = links_halves front back whole is (omega (arith, two)) (omega (arith, two)) in
     let built = chain_built c.args.parts.now A front back (subst (λ (z : List (Link Atom)). LinksAreBuiltOver c.args.parts.now A (links_of z)) (sym is) c.requires.built) in
     let fits = chain_fits c.args.parts.now front back K (subst (λ (z : List (Link Atom)). ChainFits (kinds c.args.parts.now) K (links_of z)) (sym is) c.requires.fits) in
     (omega (arith, c.decreases, light.0), (c.requires.ground, (c.requires.before, (built.0, fits.0))))
 
-pub in_chain-in_chain-requires-in_default-2 : goal.in_chain-in_chain-requires-in_default-2
-in_chain-in_chain-requires-in_default-2 t c =
+pub in_chain-in_chain-requires-in_default-3 : goal.in_chain-in_chain-requires-in_default-3
+in_chain-in_chain-requires-in_default-3 t c =
     let A = c.args.alphabet.now in
     let K = kind_of_network c.args.before in
     let front = c.split_at.result.0.now in
     let back = c.split_at.result.1.now in
     let whole = c.args.links.now in
     let is = halves_joined front back whole (length whole / 2) c.split_at.ensures.front c.split_at.ensures.back in
-    let light = links_halves front back whole is (omega arith) (omega arith) in
+    let two = two_links whole (omega arith) (fails (All IsChoice whole) c.are_choices.result c.are_choices.ensures c.if-are_choices.false) (fails (All IsNarrowing whole) c.are_narrowing.result c.are_narrowing.ensures c.if-are_narrowing.false) in
+    let light = links_halves front back whole is (omega (arith, two)) (omega (arith, two)) in
     let built = chain_built c.args.parts.now A front back (subst (λ (z : List (Link Atom)). LinksAreBuiltOver c.args.parts.now A (links_of z)) (sym is) c.requires.built) in
     let fits = chain_fits c.args.parts.now front back K (subst (λ (z : List (Link Atom)). ChainFits (kinds c.args.parts.now) K (links_of z)) (sym is) c.requires.fits) in
-    let kind = c.in_ok-first-in_default-2.ensures.meaning.kind_is in
-    (omega (arith, c.decreases, light.1), (c.requires.ground, (c.in_ok-first-in_default-2.ensures.letters, (built.1, subst (λ k. ChainFits (kinds c.args.parts.now) k (links_of back)) (sym kind) fits.1))))
+    let kind = c.in_ok-first-in_default-3.ensures.meaning.kind_is in
+    (omega (arith, c.decreases, light.1), (c.requires.ground, (c.in_ok-first-in_default-3.ensures.letters, (built.1, subst (λ k. ChainFits (kinds c.args.parts.now) k (links_of back)) (sym kind) fits.1))))
 
 pub in_chain-returns-in_ok-either-in_default-clause-letters : goal.in_chain-returns-in_ok-either-in_default-clause-letters
 in_chain-returns-in_ok-either-in_default-clause-letters t c =
@@ -179,15 +183,28 @@ in_chain-returns-in_ok-either-in_default-clause-meaning t c =
     let chained = chain_choice c.args.parts.now A before c.in_ok-union_operands-in_default.field-0 either links all c.in_ok-union_operands-in_default.ensures.meaning c.in_ok-either-in_default.ensures.meaning in
     IfOk-weaker _ _ _ (λ r. reduced_for (kind_of_chain (kinds c.args.parts.now) (kind_of_network before) (links_of links)) (InChain (stands c.args.parts.now) A (WordsOf before) (links_of links)) (RelatesChain (stands c.args.parts.now) A (WordsOf before) (PairsOf before) (links_of links)) either r chained) c.reduced.ensures.meaning
 
-pub in_chain-returns-in_ok-first-in_default-2-clause-meaning : goal.in_chain-returns-in_ok-first-in_default-2-clause-meaning
-in_chain-returns-in_ok-first-in_default-2-clause-meaning t c =
+pub in_chain-returns-in_ok-first-in_default-3-clause-meaning : goal.in_chain-returns-in_ok-first-in_default-3-clause-meaning
+in_chain-returns-in_ok-first-in_default-3-clause-meaning t c =
     let K = kind_of_network c.args.before in
     let front = c.split_at.result.0.now in
     let back = c.split_at.result.1.now in
     let whole = c.args.links.now in
     let is = halves_joined front back whole (length whole / 2) c.split_at.ensures.front c.split_at.ensures.back in
     let fits = chain_fits c.args.parts.now front back K (subst (λ (z : List (Link Atom)). ChainFits (kinds c.args.parts.now) K (links_of z)) (sym is) c.requires.fits) in
-    IfOk-weaker _ _ _ (λ r. chain_halves c.args.parts.now c.args.alphabet.now c.args.before c.in_ok-first-in_default-2.first r front back whole is fits.1 c.in_ok-first-in_default-2.ensures.meaning) c.in_chain-in_default-2.ensures.meaning
+    IfOk-weaker _ _ _ (λ r. chain_halves c.args.parts.now c.args.alphabet.now c.args.before c.in_ok-first-in_default-3.first r front back whole is fits.1 c.in_ok-first-in_default-3.ensures.meaning) c.in_chain-in_default-3.ensures.meaning
+
+pub in_chain-into_words-requires : goal.in_chain-into_words-requires
+in_chain-into_words-requires t c =
+    before_narrowing c.args.parts.now c.args.links.now (omega arith) (c.are_narrowing.ensures.0 c.if-are_narrowing.true) (kind_of_network c.args.before) c.requires.fits
+
+pub in_chain-returns-in_ok-to_fsa-in_default-2-clause-letters : goal.in_chain-returns-in_ok-to_fsa-in_default-2-clause-letters
+in_chain-returns-in_ok-to_fsa-in_default-2-clause-letters t c =
+    narrowed_only (all_letters c.args.alphabet.now) c.in_ok-kept-in_default-2.kept c.in_ok-to_fsa-in_default-2.field-0 c.in_ok-kept-in_default-2.ensures.over c.in_ok-to_fsa-in_default-2.ensures.letters
+
+pub in_chain-returns-in_ok-to_fsa-in_default-2-clause-meaning : goal.in_chain-returns-in_ok-to_fsa-in_default-2-clause-meaning
+in_chain-returns-in_ok-to_fsa-in_default-2-clause-meaning t c =
+    narrowed_meant c.args.parts.now c.args.alphabet.now c.args.before c.into_words.result c.in_ok-to_fsa-in_default-2.field-0 c.in_ok-words-in_default-2.words c.in_ok-kept-in_default-2.kept c.args.links.now
+    (c.are_narrowing.ensures.0 c.if-are_narrowing.true) c.into_words.ensures c.requires.fits c.in_ok-words-in_default-2.ensures.words c.in_ok-kept-in_default-2.ensures.words c.in_ok-to_fsa-in_default-2.ensures.language
 
 pub in_contexts-in_contexts-requires : goal.in_contexts-in_contexts-requires
 in_contexts-in_contexts-requires t c =
@@ -435,6 +452,17 @@ network_of-in_steps-requires t c =
     let kind = rw c.deref-in-Steps.ensures at c.in_ok-network_of-in-Steps.ensures.meaning.kind_is in
     (rw slice (omega (arith, c.decreases, ap weight is)), (c.requires.ground, (c.in_ok-network_of-in-Steps.ensures.letters, (rw slice built.1, rw slice (subst (λ k. StepsFit (kinds c.args.parts.now) k (steps_by c.in-Steps.steps.items)) (sym kind) fits.1)))))
 
+pub network_of-replaced-requires : goal.network_of-replaced-requires
+network_of-replaced-requires t c =
+    let is = ap term c.in-Rules.is ∙ term_rules c.in-Rules.rules in
+    let slice = c.deref-in-Rules.ensures.value in
+    (rw slice (omega (arith, c.decreases, ap weight is)), (c.requires.ground, (rw slice (subst (λ e. IsBuiltOver c.args.parts.now c.args.alphabet.now e) is c.requires.built), rw slice (subst (λ e. Fits (kinds c.args.parts.now) e) is c.requires.fits))))
+
+pub network_of-returns-in-Rules-clause-meaning : goal.network_of-returns-in-Rules-clause-meaning
+network_of-returns-in-Rules-clause-meaning t c =
+    let is = ap term c.in-Rules.is ∙ term_rules c.in-Rules.rules in
+    subst (λ e. IfOk c.replaced.result (IsMeant c.args.parts.now c.args.alphabet.now e)) (sym is) (rw c.deref-in-Rules.ensures.value at c.replaced.ensures.meaning)
+
 pub network_of-returns-in_ok-word-in-Empty-clause-letters : goal.network_of-returns-in_ok-word-in-Empty-clause-letters
 network_of-returns-in_ok-word-in-Empty-clause-letters t c = empty_only (all_letters c.args.alphabet.now) c.in_ok-word-in-Empty.field-0 c.in_ok-word-in-Empty.ensures.letters
 
@@ -556,3 +584,37 @@ perhaps-returns-clause-meaning t c =
 
 pub words_of-returns-clause-words : goal.words_of-returns-clause-words
 words_of-returns-clause-words t c = meant_words c.args.parts.now c.args.alphabet.now (term c.args.expr.now) c.in_ok-network_of.field-0 c.into_words.result c.requires.language c.into_words.ensures c.in_ok-network_of.ensures.meaning
+
+pub narrowed-narrowed-requires : goal.narrowed-narrowed-requires
+narrowed-narrowed-requires t c =
+    let A = c.args.alphabet.now in
+    let front = c.split_at.result.0.now in
+    let back = c.split_at.result.1.now in
+    let whole = c.args.links.now in
+    let is = halves_joined front back whole (length whole / 2) c.split_at.ensures.front c.split_at.ensures.back in
+    let light = links_halves front back whole is (omega arith) (omega arith) in
+    let built = chain_built c.args.parts.now A front back (subst (λ (z : List (Link Atom)). LinksAreBuiltOver c.args.parts.now A (links_of z)) (sym is) c.requires.built) in
+    let fits = chain_fits c.args.parts.now front back Language (subst (λ (z : List (Link Atom)). ChainFits (kinds c.args.parts.now) Language (links_of z)) (sym is) c.requires.fits) in
+    (omega (arith, c.decreases, light.0), (c.requires.ground, (c.requires.letters, (over_left IsNarrowing front back (subst (All IsNarrowing) (sym is) c.requires.narrowing), (built.0, fits.0)))))
+
+pub narrowed-narrowed-requires-in_default : goal.narrowed-narrowed-requires-in_default
+narrowed-narrowed-requires-in_default t c =
+    let A = c.args.alphabet.now in
+    let front = c.split_at.result.0.now in
+    let back = c.split_at.result.1.now in
+    let whole = c.args.links.now in
+    let is = halves_joined front back whole (length whole / 2) c.split_at.ensures.front c.split_at.ensures.back in
+    let light = links_halves front back whole is (omega arith) (omega arith) in
+    let built = chain_built c.args.parts.now A front back (subst (λ (z : List (Link Atom)). LinksAreBuiltOver c.args.parts.now A (links_of z)) (sym is) c.requires.built) in
+    let fits = chain_fits c.args.parts.now front back Language (subst (λ (z : List (Link Atom)). ChainFits (kinds c.args.parts.now) Language (links_of z)) (sym is) c.requires.fits) in
+    let all = subst (All IsNarrowing) (sym is) c.requires.narrowing in
+    (omega (arith, c.decreases, light.1), (c.requires.ground, (c.in_ok-first-in_default.ensures.over, (over_right IsNarrowing front back all, (built.1, halves_fit c.args.parts.now front back (over_left IsNarrowing front back all) fits.0 fits.1)))))
+
+pub narrowed-returns-in_ok-first-in_default : goal.narrowed-returns-in_ok-first-in_default
+narrowed-returns-in_ok-first-in_default t c =
+    let A = c.args.alphabet.now in
+    let front = c.split_at.result.0.now in
+    let back = c.split_at.result.1.now in
+    let whole = c.args.links.now in
+    let is = halves_joined front back whole (length whole / 2) c.split_at.ensures.front c.split_at.ensures.back in
+    IfOk-weaker _ _ _ (λ r. narrowed_halves c.args.parts.now A (all_letters A) c.args.before c.in_ok-first-in_default.first r front back whole is c.in_ok-first-in_default.ensures) c.narrowed-in_default.ensures
