@@ -32,7 +32,7 @@ use Rattle.network_expr.proofs.Rows.{chain_words, chain_words_split}
 
 -- a test that fails
 pub fails : (P : Type 0) (b : Bool) → IsTrue b ↔ P → b ≡ false → ¬ P
-fails P b is no p = let never : true ≡ false = sym (is.1 p) ∙ no in cc
+fails P b is other p = let never : true ≡ false = sym (is.1 p) ∙ other in cc
 
 -- a row that is neither of `|` alone nor of the other two has two operands or more
 pub two_links : (xs : List (Link Atom)) → 1 ≤ length xs → ¬ All IsChoice xs → ¬ All IsNarrowing xs → 2 ≤ length xs
