@@ -1,4 +1,4 @@
-use Rattle.std.proofs.Common.{◌↔◌, ◌∷◌, [], ◌/◌, List, IfOk, All, length, map, refl, sym, ap, subst, ◌∙◌, arith}
+use Rattle.std.proofs.Common.{◌↔◌, ◌+◌, ◌∷◌, [], ◌/◌, List, take, IfOk, All, length, map, refl, sym, ap, subst, ◌∙◌, arith}
 use Rattle.std.proofs.lemmas.Result.{IfOk-weaker}
 use Rattle.fsm_base.specs.declared.letters.Bound.{Bound}
 use Rattle.fsm_base.specs.declared.letters.Sym.{Sym}
@@ -8,9 +8,10 @@ use Rattle.regex_ast.specs.declared.expr.Expr.{Expr}
 use Rattle.regex_ast.specs.declared.expr.Link.{Link}
 use Rattle.regex_ast.specs.declared.expr.Step.{Step}
 use Rattle.regex_ast.specs.declared.expr.Context.{Context}
-use Rattle.regex_ast.specs.Terms.{term, terms_of, links_of, contexts_of, steps_by, concat, ignore, maybe, no_term, no_link, or}
+use Rattle.regex_ast.specs.declared.expr.Mapping.{Mapping}
+use Rattle.regex_ast.specs.Terms.{term, terms_of, links_of, contexts_of, steps_by, mappings_of, concat, ignore, maybe, no_term, no_link, or}
 use Rattle.regex_ast.proofs.Rows.{term-Concat, term-Ignore, term-Chain, term-Only, term-Steps}
-use Rattle.expr_kinds.specs.Kinds.{ChainFits, ContextsFit, EachFits, EachFitsAsLanguage, Fits, StepsFit, kind_of, kind_of_chain}
+use Rattle.expr_kinds.specs.Kinds.{ChainFits, ContextsFit, EachFits, EachFitsAsLanguage, Fits, MappingsFit, StepsFit, kind_of, kind_of_chain}
 use Rattle.expr_kinds.specs.declared.form.Kind.TheVariants.{Language}
 use Rattle.expr_meaning.specs.Meaning.{In, InChain, InIgnoring, Relates, RelatesChain}
 use Rattle.network_algebra.specs.Networks.{all_letters, kind_of_network, WordsOf, PairsOf}
@@ -20,13 +21,18 @@ use Rattle.network_sets.proofs.Inside.{over_left, over_right, inside_all}
 use Rattle.network_sets.proofs.Splits.{both_only}
 use Rattle.network_sets.proofs.Restrictions.{edge_only}
 use Rattle.network_expr.specs.Parts.{kinds, stands}
-use Rattle.network_expr.specs.Built.{AreBuiltOver, ContextsAreBuiltOver, IsBuiltOver, IsChoice, IsMeant, IsNarrowing, LinksAreBuiltOver, StepsAreBuiltOver}
-use Rattle.network_expr.proofs.Weights.{weight, each_halves, links_halves, contexts_halves, steps_halves as steps_lighter}
+use Rattle.network_expr.specs.Built.{AreBuiltOver, ContextsAreBuiltOver, IsBuiltOver, IsChoice, IsMeant, IsNarrowing, LinksAreBuiltOver, MappingsAreBuiltOver, StepsAreBuiltOver}
+use Rattle.network_expr.proofs.Weights.{weight, weight_contexts, weight_mappings, each_halves, links_halves, contexts_halves, steps_halves as steps_lighter}
 use Rattle.network_expr.proofs.Rows.{each_built, each_fits, each_language, chain_built, chain_fits, choice_fits, contexts_built, contexts_fit, steps_built, steps_fit, no_item, one_item, halves_joined, terms_joined, some_terms}
-use Rattle.network_expr.proofs.Meant.{IsChosen, IsChained, IsStepped, AreIn, reduced_for, alone_chosen, chain_for, chain_halves, chain_choice, choice_halves, none_chosen, none_accepted, steps_for, steps_halves, then_stepped, context_one, context_halves, no_contexts, only_meant, words_meant, meant_words, letters_meant, colon_language, maybe_meant, same_meant, turn_alone, turns_meant, prefixed_meant, not_one_meant, ignore_row, ignore_one, ignore_halves, each_kind_language, empty_only, given_one, given_two}
+use Rattle.network_expr.proofs.Meant.{IsChosen, IsChained, IsStepped, AreIn, reduced_for, alone_chosen, chain_for, chain_halves, chain_choice, choice_halves, none_chosen, none_accepted, steps_for, steps_halves, then_stepped, context_one, context_halves, no_contexts, only_meant, words_meant, meant_words, letters_meant, colon_language, maybe_meant, same_meant, turn_alone, turns_meant, prefixed_meant, not_one_meant, ignore_row, ignore_one, ignore_halves, each_kind_language, language_meant, empty_only, given_one, given_two}
 use Rattle.network_affixes.proofs.Suffixed.{suffixed_for}
 use Rattle.network_expr.proofs.Narrowed.{fails, two_links, before_narrowing, halves_fit, narrowed_halves, narrowed_meant, narrowed_only}
 use Rattle.expr_kinds.proofs.Sets.{term_rules}
+use Rattle.network_expr.proofs.Ruled.{MapsReady, ContextsReady, map_ready, context_ready}
+use Rattle.network_rules.specs.Rules.{AreMaps, AreContexts}
+use Rattle.network_rules.proofs.Rows.{maps_more, contexts_more}
+use Rattle.replace_rules.specs.declared.rules.LangMap.{LangMap}
+use Rattle.replace_rules.specs.declared.rules.LangContext.{LangContext}
 use Rattle.network_expr.proofs.build.+build.Goals as goal
 
 pub union_operands-union_operands-requires : goal.union_operands-union_operands-requires
@@ -618,3 +624,88 @@ narrowed-returns-in_ok-first-in_default t c =
     let whole = c.args.links.now in
     let is = halves_joined front back whole (length whole / 2) c.split_at.ensures.front c.split_at.ensures.back in
     IfOk-weaker _ _ _ (λ r. narrowed_halves c.args.parts.now A (all_letters A) c.args.before c.in_ok-first-in_default.first r front back whole is c.in_ok-first-in_default.ensures) c.narrowed-in_default.ensures
+
+pub lang_contexts-words_of-requires : goal.lang_contexts-words_of-requires
+lang_contexts-words_of-requires t c =
+    let P = c.args.parts.now in
+    let A = c.args.alphabet.now in
+    let whole = c.args.contexts.now in
+    let item = c.context-item.result in
+    let most = weight_contexts (contexts_of whole) in
+    let all : ContextsReady P A whole most = record { built = c.requires.built; fits = c.requires.fits; light = omega arith } in
+    let ready = subst (λ (z : Context Atom). ContextsReady P A (z ∷ []) most) (sym c.context-item.is) (context_ready P A whole most c.contexts.context-index item c.contexts-test.true all) in
+    let light = ready.light in
+    (omega (arith, c.decreases, light), (c.requires.ground, (ready.built.0, (ready.fits.1, ready.fits.0))))
+
+pub lang_contexts-words_of-requires-in-contexts : goal.lang_contexts-words_of-requires-in-contexts
+lang_contexts-words_of-requires-in-contexts t c =
+    let P = c.args.parts.now in
+    let A = c.args.alphabet.now in
+    let whole = c.args.contexts.now in
+    let item = c.context-item.result in
+    let most = weight_contexts (contexts_of whole) in
+    let all : ContextsReady P A whole most = record { built = c.requires.built; fits = c.requires.fits; light = omega arith } in
+    let ready = subst (λ (z : Context Atom). ContextsReady P A (z ∷ []) most) (sym c.context-item.is) (context_ready P A whole most c.contexts.context-index item c.contexts-test.true all) in
+    let light = ready.light in
+    (omega (arith, c.decreases, light), (c.requires.ground, (ready.built.1, (ready.fits.3, ready.fits.2))))
+
+pub lang_contexts-contexts-preserved : goal.lang_contexts-contexts-preserved
+lang_contexts-contexts-preserved t c =
+    let P = c.args.parts.now in
+    let A = c.args.alphabet.now in
+    let whole = c.args.contexts.now in
+    let item = c.context-item.result in
+    let left = c.in_ok-language.field-0 in
+    let right = c.in_ok-language-2.field-0 in
+    let lang : LangContext = record { left = left; right = right } in
+    let here : AreContexts (stands P) A (contexts_of (item ∷ [])) (lang ∷ []) = (language_meant P A (term item.left) c.in_ok-left.left left c.in_ok-left.ensures.words c.in_ok-language.ensures, language_meant P A (term item.right) c.in_ok-right.right right c.in_ok-right.ensures.words c.in_ok-language-2.ensures, tt) in
+    let one = subst (λ (z : Context Atom). AreContexts (stands P) A (contexts_of (z ∷ [])) (lang ∷ [])) c.context-item.is here in
+    subst (λ (z : List LangContext). AreContexts (stands P) A (contexts_of (take (c.contexts.context-index + 1) whole)) z) (sym c.in_ok-push.ensures.items)
+    (contexts_more (stands P) A whole c.contexts.context-index item c.contexts.langs.items lang c.contexts-test.true c.contexts.invariant one)
+
+pub lang_map-part_language-requires-in-Plain : goal.lang_map-part_language-requires-in-Plain
+lang_map-part_language-requires-in-Plain t c =
+    let is = c.in-Plain.is in
+    let built = subst (λ (z : Mapping Atom). MappingsAreBuiltOver c.args.parts.now c.args.alphabet.now (mappings_of (z ∷ []))) is c.requires.built in
+    let fits = subst (λ (z : Mapping Atom). MappingsFit (kinds c.args.parts.now) (mappings_of (z ∷ []))) is c.requires.fits in
+    let weighs = ap (λ (z : Mapping Atom). weight_mappings (mappings_of (z ∷ []))) is in
+    (omega (arith, c.decreases, weighs), (c.requires.ground, (built.2, (fits.3, fits.2))))
+
+pub lang_map-part_language-requires-in-Markup-2 : goal.lang_map-part_language-requires-in-Markup-2
+lang_map-part_language-requires-in-Markup-2 t c =
+    let is = c.in-Markup.is in
+    let built = subst (λ (z : Mapping Atom). MappingsAreBuiltOver c.args.parts.now c.args.alphabet.now (mappings_of (z ∷ []))) is c.requires.built in
+    let fits = subst (λ (z : Mapping Atom). MappingsFit (kinds c.args.parts.now) (mappings_of (z ∷ []))) is c.requires.fits in
+    let weighs = ap (λ (z : Mapping Atom). weight_mappings (mappings_of (z ∷ []))) is in
+    (omega (arith, c.decreases, weighs), (c.requires.ground, (built.2, (fits.3, fits.2))))
+
+pub lang_map-part_language-requires-in-Markup-3 : goal.lang_map-part_language-requires-in-Markup-3
+lang_map-part_language-requires-in-Markup-3 t c =
+    let is = c.in-Markup.is in
+    let built = subst (λ (z : Mapping Atom). MappingsAreBuiltOver c.args.parts.now c.args.alphabet.now (mappings_of (z ∷ []))) is c.requires.built in
+    let fits = subst (λ (z : Mapping Atom). MappingsFit (kinds c.args.parts.now) (mappings_of (z ∷ []))) is c.requires.fits in
+    let weighs = ap (λ (z : Mapping Atom). weight_mappings (mappings_of (z ∷ []))) is in
+    (omega (arith, c.decreases, weighs), (c.requires.ground, (built.3, (fits.5, fits.4))))
+
+pub lang_maps-lang_map-requires : goal.lang_maps-lang_map-requires
+lang_maps-lang_map-requires t c =
+    let P = c.args.parts.now in
+    let A = c.args.alphabet.now in
+    let whole = c.args.maps.now in
+    let item = c.map-item.result in
+    let most = weight_mappings (mappings_of whole) in
+    let all : MapsReady P A whole most = record { built = c.requires.built; fits = c.requires.fits; light = omega arith } in
+    let ready = subst (λ (z : Mapping Atom). MapsReady P A (z ∷ []) most) (sym c.map-item.is) (map_ready P A whole most c.maps.map-index item c.maps-test.true all) in
+    let light = ready.light in
+    (omega (arith, c.decreases, light), (c.requires.ground, (ready.built, ready.fits)))
+
+pub lang_maps-maps-preserved : goal.lang_maps-maps-preserved
+lang_maps-maps-preserved t c =
+    let P = c.args.parts.now in
+    let A = c.args.alphabet.now in
+    let whole = c.args.maps.now in
+    let item = c.map-item.result in
+    let lang = c.in_ok-lang_map.field-0 in
+    let one = subst (λ (z : Mapping Atom). AreMaps (stands P) A (mappings_of (z ∷ [])) (lang ∷ [])) c.map-item.is c.in_ok-lang_map.ensures in
+    subst (λ (z : List LangMap). AreMaps (stands P) A (mappings_of (take (c.maps.map-index + 1) whole)) z) (sym c.in_ok-push.ensures.items)
+    (maps_more (stands P) A whole c.maps.map-index item c.maps.langs.items lang c.maps-test.true c.maps.invariant one)
