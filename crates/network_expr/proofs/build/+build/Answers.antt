@@ -8,8 +8,10 @@ use Rattle.regex_ast.specs.declared.expr.Expr.{Expr}
 use Rattle.regex_ast.specs.declared.expr.Link.{Link}
 use Rattle.regex_ast.specs.declared.expr.Step.{Step}
 use Rattle.regex_ast.specs.declared.expr.Context.{Context}
+use Rattle.regex_ast.specs.declared.expr.Expr.TheViews.{out-Group}
+use Rattle.regex_ast.specs.declared.expr.Group.{Group}
 use Rattle.regex_ast.specs.declared.expr.Mapping.{Mapping}
-use Rattle.regex_ast.specs.Terms.{term, terms_of, links_of, contexts_of, steps_by, mappings_of, concat, ignore, maybe, no_term, no_link, or}
+use Rattle.regex_ast.specs.Terms.{term, terms_of, links_of, contexts_of, steps_by, mappings_of, groups_of, concat, ignore, maybe, no_term, no_link, or}
 use Rattle.regex_ast.proofs.Rows.{term-Concat, term-Ignore, term-Chain, term-Only, term-Steps}
 use Rattle.expr_kinds.specs.Kinds.{ChainFits, ContextsFit, EachFits, EachFitsAsLanguage, Fits, MappingsFit, StepsFit, kind_of, kind_of_chain}
 use Rattle.expr_kinds.specs.declared.form.Kind.TheVariants.{Language}
@@ -22,17 +24,19 @@ use Rattle.network_sets.proofs.Splits.{both_only}
 use Rattle.network_sets.proofs.Restrictions.{edge_only}
 use Rattle.network_expr.specs.Parts.{kinds, stands}
 use Rattle.network_expr.specs.Built.{AreBuiltOver, ContextsAreBuiltOver, IsBuiltOver, IsChoice, IsMeant, IsNarrowing, LinksAreBuiltOver, MappingsAreBuiltOver, StepsAreBuiltOver}
-use Rattle.network_expr.proofs.Weights.{weight, weight_contexts, weight_mappings, each_halves, links_halves, contexts_halves, steps_halves as steps_lighter}
+use Rattle.network_expr.proofs.Weights.{weight, weight_contexts, weight_mappings, weight_groups, each_halves, links_halves, contexts_halves, steps_halves as steps_lighter}
 use Rattle.network_expr.proofs.Rows.{each_built, each_fits, each_language, chain_built, chain_fits, choice_fits, contexts_built, contexts_fit, steps_built, steps_fit, no_item, one_item, halves_joined, terms_joined, some_terms}
 use Rattle.network_expr.proofs.Meant.{IsChosen, IsChained, IsStepped, AreIn, reduced_for, alone_chosen, chain_for, chain_halves, chain_choice, choice_halves, none_chosen, none_accepted, steps_for, steps_halves, then_stepped, context_one, context_halves, no_contexts, only_meant, words_meant, meant_words, letters_meant, colon_language, maybe_meant, same_meant, turn_alone, turns_meant, prefixed_meant, not_one_meant, ignore_row, ignore_one, ignore_halves, each_kind_language, language_meant, empty_only, given_one, given_two}
 use Rattle.network_affixes.proofs.Suffixed.{suffixed_for}
 use Rattle.network_expr.proofs.Narrowed.{fails, two_links, before_narrowing, halves_fit, narrowed_halves, narrowed_meant, narrowed_only}
-use Rattle.expr_kinds.proofs.Sets.{term_rules}
-use Rattle.network_expr.proofs.Ruled.{MapsReady, ContextsReady, map_ready, context_ready}
-use Rattle.network_rules.specs.Rules.{AreMaps, AreContexts}
-use Rattle.network_rules.proofs.Rows.{maps_more, contexts_more}
+use Rattle.expr_kinds.proofs.Sets.{term_rules, maps_of_is, contexts_in_is}
+use Rattle.network_expr.proofs.Ruled.{MapsReady, ContextsReady, GroupsReady, map_ready, context_ready, group_ready, side_of_is, take_whole, rules_meant}
+use Rattle.network_rules.specs.Rules.{AreMaps, AreContexts, AreGroups}
+use Rattle.network_rules.proofs.Rows.{maps_more, contexts_more, groups_more}
+use Rattle.network_rules.proofs.Meaning.{groups_over}
 use Rattle.replace_rules.specs.declared.rules.LangMap.{LangMap}
 use Rattle.replace_rules.specs.declared.rules.LangContext.{LangContext}
+use Rattle.replace_rules.specs.declared.rules.LangGroup.{LangGroup}
 use Rattle.network_expr.proofs.build.+build.Goals as goal
 
 pub union_operands-union_operands-requires : goal.union_operands-union_operands-requires
@@ -709,3 +713,63 @@ lang_maps-maps-preserved t c =
     let one = subst (λ (z : Mapping Atom). AreMaps (stands P) A (mappings_of (z ∷ [])) (lang ∷ [])) c.map-item.is c.in_ok-lang_map.ensures in
     subst (λ (z : List LangMap). AreMaps (stands P) A (mappings_of (take (c.maps.map-index + 1) whole)) z) (sym c.in_ok-push.ensures.items)
     (maps_more (stands P) A whole c.maps.map-index item c.maps.langs.items lang c.maps-test.true c.maps.invariant one)
+
+pub replaced-lang_maps-requires : goal.replaced-lang_maps-requires
+replaced-lang_maps-requires t c =
+    let P = c.args.parts.now in
+    let A = c.args.alphabet.now in
+    let whole = c.args.groups.now in
+    let item = c.group-item.result in
+    let most = weight_groups (groups_of whole) in
+    let all : GroupsReady P A whole most = record { built = c.requires.built; fits = c.requires.fits; light = omega arith } in
+    let ready = subst (λ (z : Group Atom). GroupsReady P A (z ∷ []) most) (sym c.group-item.is) (group_ready P A whole most c.groups.group-index item c.groups-test.true all) in
+    let light = ready.light in
+    let same = c.deref.ensures.value ∙ sym (maps_of_is item) in
+    let weighs = ap (λ (z : List (Mapping Atom)). weight_mappings (mappings_of z)) same in
+    (omega (arith, c.decreases, light, weighs), (c.requires.ground, (subst (λ (z : List (Mapping Atom)). MappingsAreBuiltOver P A (mappings_of z)) (sym same) ready.built.0, subst (λ (z : List (Mapping Atom)). MappingsFit (kinds P) (mappings_of z)) (sym same) ready.fits.0)))
+
+pub replaced-lang_contexts-requires : goal.replaced-lang_contexts-requires
+replaced-lang_contexts-requires t c =
+    let P = c.args.parts.now in
+    let A = c.args.alphabet.now in
+    let whole = c.args.groups.now in
+    let item = c.group-item.result in
+    let most = weight_groups (groups_of whole) in
+    let all : GroupsReady P A whole most = record { built = c.requires.built; fits = c.requires.fits; light = omega arith } in
+    let ready = subst (λ (z : Group Atom). GroupsReady P A (z ∷ []) most) (sym c.group-item.is) (group_ready P A whole most c.groups.group-index item c.groups-test.true all) in
+    let light = ready.light in
+    let same = c.deref-in-groups.ensures.value ∙ sym (contexts_in_is item) in
+    let weighs = ap (λ (z : List (Context Atom)). weight_contexts (contexts_of z)) same in
+    (omega (arith, c.decreases, light, weighs), (c.requires.ground, (subst (λ (z : List (Context Atom)). ContextsAreBuiltOver P A (contexts_of z)) (sym same) ready.built.1, subst (λ (z : List (Context Atom)). ContextsFit (kinds P) (contexts_of z)) (sym same) ready.fits.1)))
+
+pub replaced-groups-preserved : goal.replaced-groups-preserved
+replaced-groups-preserved t c =
+    let P = c.args.parts.now in
+    let A = c.args.alphabet.now in
+    let whole = c.args.groups.now in
+    let item = c.group-item.result in
+    let maps = subst (λ (z : List (Mapping Atom)). AreMaps (stands P) A (mappings_of z) c.in_ok-maps.maps.items) (c.deref.ensures.value ∙ sym (maps_of_is item)) c.in_ok-maps.ensures in
+    let contexts = subst (λ (z : List (Context Atom)). AreContexts (stands P) A (contexts_of z) c.in_ok-contexts.contexts.items) (c.deref-in-groups.ensures.value ∙ sym (contexts_in_is item)) c.in_ok-contexts.ensures in
+    let lang : LangGroup = record { maps = c.in_ok-maps.maps; side = (out-Group Atom item).side; contexts = c.in_ok-contexts.contexts } in
+    let here : AreGroups (stands P) A (groups_of (item ∷ [])) (lang ∷ []) = (maps, sym (side_of_is item), contexts, tt) in
+    let one = subst (λ (z : Group Atom). AreGroups (stands P) A (groups_of (z ∷ [])) (lang ∷ [])) c.group-item.is here in
+    subst (λ (z : List LangGroup). AreGroups (stands P) A (groups_of (take (c.groups.group-index + 1) whole)) z) (sym c.in_ok-push.ensures.items)
+    (groups_more (stands P) A whole c.groups.group-index item c.groups.langs.items lang c.groups-test.true c.groups.invariant one)
+
+pub replaced-replace-requires-clause-over : goal.replaced-replace-requires-clause-over
+replaced-replace-requires-clause-over t c =
+    let P = c.args.parts.now in
+    let A = c.args.alphabet.now in
+    let whole = c.args.groups.now in
+    let so_far = subst (λ (z : List (Group Atom)). AreGroups (stands P) A (groups_of z) c.groups.langs.items) (take_whole whole c.groups.group-index c.groups-test.false) c.groups.invariant in
+    let are = subst (λ (z : List LangGroup). AreGroups (stands P) A (groups_of whole) z) (sym c.deref-2.ensures.value) so_far in
+    groups_over (stands P) A (groups_of whole) c.deref-2.result.now are
+
+pub replaced-returns-clause-meaning : goal.replaced-returns-clause-meaning
+replaced-returns-clause-meaning t c =
+    let P = c.args.parts.now in
+    let A = c.args.alphabet.now in
+    let whole = c.args.groups.now in
+    let so_far = subst (λ (z : List (Group Atom)). AreGroups (stands P) A (groups_of z) c.groups.langs.items) (take_whole whole c.groups.group-index c.groups-test.false) c.groups.invariant in
+    let are = subst (λ (z : List LangGroup). AreGroups (stands P) A (groups_of whole) z) (sym c.deref-2.ensures.value) so_far in
+    rules_meant P A c.args.optional whole c.deref-2.result.now c.in_ok-replace.field-0 are c.in_ok-replace.ensures.relation
