@@ -1,10 +1,11 @@
 -- Rows of `&` and `-`, of which each operand makes a language smaller.
-use Rattle.std.proofs.Common.{◌≡◌, ◌↔◌, ◌<◌, ◌≤◌, List, [], ◌∷◌, ◌++◌, All, length, arith, refl, sym, ap, subst, ◌∙◌}
+use Rattle.std.proofs.Common.{◌≡◌, ◌↔◌, ◌<◌, ◌≤◌, Bool, true, false, IsTrue, List, [], ◌∷◌, ◌++◌, All, length, arith, refl, sym, ap, subst, ◌∙◌}
+use Rattle.std.specs.List.{Contains}
 use Rattle.std.proofs.lemmas.List.Elements.{All-nil, All-cons, All-head, All-tail}
 use Rattle.fsm_base.specs.declared.letters.Bound.{Bound}
 use Rattle.fsm_base.specs.declared.letters.Sym.{Sym}
 use Rattle.word_relations.specs.Relations.{AreSame}
-use Rattle.fsa.specs.Automaton.{Automaton}
+use Rattle.fsa.specs.Automaton.{Automaton, UsesLetter}
 use Rattle.fsa.specs.Complete.{Complete}
 use Rattle.fsa.specs.Complete as complete
 use Rattle.fsa.specs.Language.{Accepts}
@@ -18,7 +19,7 @@ use Rattle.expr_kinds.specs.declared.form.Kind.{Kind}
 use Rattle.expr_kinds.specs.declared.form.Kind.TheVariants.{Language}
 use Rattle.expr_meaning.specs.Meaning.{In, InChain, RelatesChain}
 use Rattle.expr_meaning.specs.Operators.{IsItself}
-use Rattle.network_algebra.specs.Networks.{IsFor, kind_of_network}
+use Rattle.network_algebra.specs.Networks.{IsFor, UsesOnly, kind_of_network}
 use Rattle.network_algebra.specs.declared.network.Network.{Network}
 use Rattle.network_algebra.specs.declared.network.Network.TheVariants.{Words}
 use Rattle.network_algebra.proofs.Meanings.{words_for}
@@ -28,6 +29,10 @@ use Rattle.network_expr.specs.declared.parts.Part.{Part}
 use Rattle.network_affixes.proofs.Alike.{SameWords, words_back, words_then}
 use Rattle.network_expr.proofs.Meant.{IsChained}
 use Rattle.network_expr.proofs.Rows.{chain_words, chain_words_split}
+
+-- a test that fails
+pub fails : (P : Type 0) (b : Bool) → IsTrue b ↔ P → b ≡ false → ¬ P
+fails P b is other p = let never : true ≡ false = sym (is.1 p) ∙ other in cc
 
 -- a row that is neither of `|` alone nor of the other two has two operands or more
 pub two_links : (xs : List (Link Atom)) → 1 ≤ length xs → ¬ All IsChoice xs → ¬ All IsNarrowing xs → 2 ≤ length xs
@@ -103,3 +108,7 @@ module _ (parts : List Part) where
         (words_then (InChain (stands parts) alphabet (complete.Accepts first) (links_of ys)) (InChain (stands parts) alphabet Front (links_of ys)) (InChain (stands parts) alphabet P (links_of (xs ++ ys)))
         (chain_words parts alphabet (links_of ys) (complete.Accepts first) Front front.words)
         (words_back (InChain (stands parts) alphabet P (links_of (xs ++ ys))) (InChain (stands parts) alphabet Front (links_of ys)) (chain_words_split parts alphabet xs ys P))) back)
+
+-- the letters of what is left
+pub narrowed_only : (letters : List (Bound Sym)) (kept : Complete (Bound Sym)) (m : Automaton (Bound Sym)) → kept.letters ≡ letters → ((x : Bound Sym) → UsesLetter m x → Contains kept.letters x) → UsesOnly letters m
+narrowed_only letters kept m over used x h = subst (λ (z : List (Bound Sym)). Contains z x) over (used x h)

@@ -1,5 +1,5 @@
 -- Rules one by one: each is built, fits, and weighs no more than all.
-use Rattle.std.proofs.Common.{◌≡◌, ◌<◌, ◌≤◌, ◌+◌, ℕ, zero, suc, Bool, List, [], ◌∷◌, length, get_or, arith, refl}
+use Rattle.std.proofs.Common.{◌≡◌, ◌<◌, ◌≤◌, ◌+◌, ℕ, zero, suc, Bool, List, [], ◌∷◌, length, take, get_or, arith, refl, sym, ap}
 use Rattle.fsm_base.specs.declared.letters.Sym.{Sym}
 use Rattle.fsm_base.specs.declared.letters.Pair.{Pair}
 use Rattle.word_relations.specs.Relations.{AreSame}
@@ -10,7 +10,8 @@ use Rattle.regex_ast.specs.declared.expr.Atom.{Atom}
 use Rattle.regex_ast.specs.declared.expr.Context.{Context}
 use Rattle.regex_ast.specs.declared.expr.Group.{Group}
 use Rattle.regex_ast.specs.declared.expr.Mapping.{Mapping, Plain, Markup, Insert}
-use Rattle.regex_ast.specs.Terms.{rules, mappings_of, contexts_of, groups_of}
+use Rattle.regex_ast.specs.declared.expr.Expr.TheViews.{out-Group, roll-Group, roll-out-Group}
+use Rattle.regex_ast.specs.Terms.{rules, side_of, mappings_of, contexts_of, groups_of}
 use Rattle.expr_kinds.specs.Kinds.{MappingsFit, ContextsFit, GroupsFit}
 use Rattle.expr_meaning.specs.Meaning.{In, Relates}
 use Rattle.expr_meaning.specs.Replacement.{IsRewritten}
@@ -25,6 +26,17 @@ use Rattle.network_expr.specs.Built.{IsMeant, MappingsAreBuiltOver, ContextsAreB
 use Rattle.network_expr.specs.Parts.{kinds, stands}
 use Rattle.network_expr.specs.declared.parts.Part.{Part}
 use Rattle.network_expr.proofs.Weights.{weight_mappings, weight_contexts, weight_groups}
+
+-- the sides on which the contexts of a group are read
+pub side_of_is : {A : Type 0} (g : Group A) → side_of g ≡ (out-Group A g).side
+unfolding roll-Group denote.Hole.Carrier.roll
+side_of_is {A} g = ap (λ (s : Group A). side_of s) (sym (roll-out-Group A g))
+
+pub take_whole : {X : Type 0} (xs : List X) (n : ℕ) → length xs ≤ n → take n xs ≡ xs
+take_whole [] zero all = refl
+take_whole [] (suc n) all = refl
+take_whole (x ∷ xs) zero all = absurd (omega arith)
+take_whole (x ∷ xs) (suc n) all = ap (λ ys. x ∷ ys) (take_whole xs n (omega arith))
 
 module _ (parts : List Part) (alphabet : List Sym) where
   -- what is asked of rules, where they weigh at most so much
