@@ -15,7 +15,7 @@ use Rattle.lexc_forms.specs.Fronts.{HasNoFront, IsLongestFront, HasNoFlag, IsFla
 use Rattle.lexc_forms.specs.Forms.{IsWhole, symbol, flag, IsLongestPiece, HasNoPiece, symbol_of, is_nothing, alone, CutsInto, ended, longest, one}
 
 -- a flag by its parts is a flag
-flag_of_parts : (text : List ℕ) (f : FlagOp) → IsFlagOf text f → IsFlag text
+pub flag_of_parts : (text : List ℕ) (f : FlagOp) → IsFlagOf text f → IsFlag text
 flag_of_parts text f is = by f.value is.value is.spelled
   where
     by : (value : Option (List ℕ)) → MayHave f.kind value → text ≡ 64 ∷ letter_of f.kind ∷ 46 ∷ f.feature ++ ending_of value → IsFlag text
