@@ -20,15 +20,15 @@ use Rattle.lexc_forms.specs.declared.letters.Letter.TheVariants.{Plain}
 use Rattle.lexc_tokens.specs.Tokens.{Follows, NoneFollows, behind_blanks}
 use Rattle.lexc_tokens.specs.declared.token.Token.{Token}
 use Rattle.lexc_tokens.specs.declared.token.Token.TheVariants.{Word as word, Semicolon as semicolon}
-use Rattle.lexc_reader.specs.Limits.{most_entries, most_features}
-use Rattle.lexc_reader.specs.Lexicons.{EntryAt, LexiconAt, Known, nothing_known, with_symbol, with_lexicon, with_entry, lexicons_of, features_in, without_lines}
-use Rattle.lexc_reader.specs.Entries.{fault_at, hash, EntrySays}
-use Rattle.lexc_reader.specs.declared.statements.Keyword.{Keyword}
-use Rattle.lexc_reader.specs.declared.statements.Keyword.TheVariants as keyword
-use Rattle.lexc_reader.specs.declared.statements.Stage.{Stage}
-use Rattle.lexc_reader.specs.declared.statements.Stage.TheVariants.{Beginning, InSymbols, InLexicon}
-use Rattle.lexc_reader.specs.declared.statements.Ending.{Ending}
-use Rattle.lexc_reader.specs.declared.statements.Ending.TheVariants.{Ended, Unended, Broken}
+use Rattle.lexc_grammar.specs.Limits.{most_entries, most_features}
+use Rattle.lexc_grammar.specs.Lexicons.{EntryAt, LexiconAt, Known, nothing_known, with_symbol, with_lexicon, with_entry, lexicons_of, features_in, without_lines}
+use Rattle.lexc_grammar.specs.Entries.{fault_at, hash, EntrySays}
+use Rattle.lexc_grammar.specs.declared.statements.Keyword.{Keyword}
+use Rattle.lexc_grammar.specs.declared.statements.Keyword.TheVariants as keyword
+use Rattle.lexc_grammar.specs.declared.statements.Stage.{Stage}
+use Rattle.lexc_grammar.specs.declared.statements.Stage.TheVariants.{Beginning, InSymbols, InLexicon}
+use Rattle.lexc_grammar.specs.declared.statements.Ending.{Ending}
+use Rattle.lexc_grammar.specs.declared.statements.Ending.TheVariants.{Ended, Unended, Broken}
 
 -- how keywords are spelled, without escapes
 abbrev pub spelling : Keyword → List Letter

@@ -1,4 +1,4 @@
-ghost use Rattle.lexc_reader.specs.Files.{OneSpelling};
+ghost use Rattle.lexc_grammar.specs.Files.{OneSpelling};
 
 /// No two keywords are spelled alike.
 pub fn one_spelling()

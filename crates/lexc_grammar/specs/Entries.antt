@@ -15,9 +15,9 @@ use Rattle.lexc_forms.specs.declared.letters.Letter.{Letter}
 use Rattle.lexc_forms.specs.declared.letters.Letter.TheVariants.{Plain, Escaped}
 use Rattle.lexc_tokens.specs.declared.token.Token.{Token}
 use Rattle.lexc_tokens.specs.declared.token.Token.TheVariants.{Word as word, Semicolon as semicolon, Expression as expression}
-use Rattle.lexc_reader.specs.Lexicons.{form_of}
-use Rattle.lexc_reader.specs.declared.statements.Ending.{Ending}
-use Rattle.lexc_reader.specs.declared.statements.Ending.TheVariants.{Ended, Unended, Broken}
+use Rattle.lexc_grammar.specs.Lexicons.{form_of}
+use Rattle.lexc_grammar.specs.declared.statements.Ending.{Ending}
+use Rattle.lexc_grammar.specs.declared.statements.Ending.TheVariants.{Ended, Unended, Broken}
 
 abbrev pub fault_at : {T : Type 0} → ℕ → Why → Result T FaultAt
 fault_at line reason = Err (record { line = line; why = reason })
