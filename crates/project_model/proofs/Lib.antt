@@ -9,7 +9,10 @@ pub mod Alphabets
 mod Leaves
 mod Adding
 pub mod Expressions
+mod Told
+mod Referring
 mod Demanded
+mod Forming
 mod Sound
 mod Projecting
 mod Reading
