@@ -2,7 +2,7 @@
 use Rattle.std.proofs.Common.{◌≡◌, ◌↔◌, ℕ, Bool, List, [], ◌∷◌, Some, None, length, refl, sym, ap, subst, ◌∙◌, inl, inr}
 use Rattle.std.specs.Prelude.{map}
 use Rattle.std.specs.List.{Contains, slice_get, filter_map}
-use Rattle.std.proofs.lemmas.List.Elements.{All-weaker}
+use Rattle.std.proofs.lemmas.List.Elements.{All-weaker, All-contains_itself}
 use Rattle.fsm_base.specs.declared.letters.Sym.{Sym}
 use Rattle.fsm_base.specs.declared.letters.Bound.{Bound}
 use Rattle.regex_ast.specs.declared.expr.Side.{Side}
@@ -26,6 +26,16 @@ use Rattle.replace_rules.specs.Rules.{AllowsAt, InsertsBy, AsksBy}
 use Rattle.replace_rules.specs.Places.{Place, IsInsertion, choices, place_with, rules_by}
 use Rattle.replace_rules.proofs.OverMarks.{ArePartsOver, well_over}
 use Rattle.replace_rules.proofs.Relations.{chosen_there, chosen_back, rewritten_more}
+
+-- the mapping of these two languages is an insertion
+pub insertion_made : (symbols letters : List Sym) (put centre result : Complete Sym) (empty words : Automaton Sym) → IsOver symbols put.letters → letters ≡ put.letters → ((v : List Sym) → language.Accepts empty v ↔ (v ≡ [])) → ((v : List Sym) → language.Accepts words v ↔ Accepts put v)
+    → IsLang symbols (language.Accepts empty) centre → IsLang letters (language.Accepts words) result → IsInsertion symbols put (record { centre = centre; result = result; after = None })
+insertion_made symbols letters put centre result empty words over same empty_is words_are centre_is result_is = record {
+  plain = refl;
+  centre = λ c. (λ h. (empty_is c).0 ((centre_is.words c).0 h), λ none. (centre_is.words c).1 ((empty_is c).1 none));
+  words = λ r. (λ h. (words_are r).0 ((result_is.words r).0 h), λ h. (result_is.words r).1 ((words_are r).1 h));
+  over = (subst (IsOver symbols) (sym centre_is.over) (All-contains_itself symbols), subst (IsOver symbols) (sym (result_is.over ∙ same)) over);
+}
 
 module _ (symbols : List Sym) (put : Complete Sym) (m : LangMap) (is : IsInsertion symbols put m) (side : Side) (contexts : List LangContext) where
   abbrev places : List Place

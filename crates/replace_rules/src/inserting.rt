@@ -43,9 +43,7 @@ pub fn insert(
     ensures symbols { IfOk result (UsesSymbols syms.now) }
     ensures relation { IfOk result (λ m. AreSame (IsRelated m) (IsRewritten syms.now (InsertsBy put.now side contexts.now) (AsksBy side contexts.now) optional)) }
 {
-    let mapping = insertion(alloc, syms, put)?;
-    let mut maps = Vec::new(alloc);
-    maps.push(mapping)?;
+    let maps = [insertion(alloc, syms, put)?];
     let mut places = Vec::new(alloc);
     add_places(&mut places, &maps, side, contexts)?;
     let marks = every_mark(alloc, syms, places.len())?;
@@ -58,8 +56,10 @@ fn insertion(alloc: Global, syms: &[Sym], put: &Lang<Sym>) -> Result<LangMap, Al
     requires over { IsOver syms.now put.now.letters }
     ensures { IfOk result (IsInsertion syms.now put.now) }
 {
-    let centre = Lang::of(alloc, syms, &word(alloc, &[])?)?;
-    let result = Lang::of(alloc, put.letters(), &put.to_fsa(alloc)?)?;
+    let empty = word(alloc, &[])?;
+    let words = put.to_fsa(alloc)?;
+    let centre = Lang::of(alloc, syms, &empty)?;
+    let result = Lang::of(alloc, put.letters(), &words)?;
     Ok(LangMap {
         centre,
         result,

@@ -130,19 +130,24 @@ fn map_of(alloc: Global, symbols: &Symbols, text: &str) -> Result<Option<LangMap
     if centre.has_empty() {
         return Ok(None);
     }
-    let (before, after) = put.split_once("...").unwrap_or((put, ""));
+    let (before, _) = put.split_once("...").unwrap_or((put, ""));
     let result = language_of(alloc, symbols, before)?;
-    let after = language_of(alloc, symbols, after)?;
-    let after = if put.contains("...") {
-        Some(after)
-    } else {
-        None
-    };
+    let after = after_of(alloc, symbols, put)?;
     Ok(Some(LangMap {
         centre,
         result,
         after,
     }))
+}
+
+/// What a mapping puts behind its centre, where it is markup.
+fn after_of(alloc: Global, symbols: &Symbols, put: &str) -> Result<Option<Lang<Sym>>, AllocError>
+    ensures { IfOk result (λ found. IfSome found (λ lang. lang.letters ≡ symbols_of symbols.now.alphabet)) }
+{
+    match put.split_once("...") {
+        Some((_, after)) => Ok(Some(language_of(alloc, symbols, after)?)),
+        None => Ok(None),
+    }
 }
 
 /// The words of a part that are without the edge.
