@@ -43,7 +43,9 @@ pub fn insert(
     ensures symbols { IfOk result (UsesSymbols syms.now) }
     ensures relation { IfOk result (λ m. AreSame (IsRelated m) (IsRewritten syms.now (InsertsBy put.now side contexts.now) (AsksBy side contexts.now) optional)) }
 {
-    let maps = [insertion(alloc, syms, put)?];
+    let mapping = insertion(alloc, syms, put)?;
+    let mut maps = Vec::new(alloc);
+    maps.push(mapping)?;
     let mut places = Vec::new(alloc);
     add_places(&mut places, &maps, side, contexts)?;
     let marks = every_mark(alloc, syms, places.len())?;
