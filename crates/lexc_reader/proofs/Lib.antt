@@ -1,0 +1,4 @@
+pub mod Newlines
+pub mod Steps
+pub mod Features
+pub mod Closings
