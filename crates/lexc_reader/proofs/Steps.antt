@@ -14,7 +14,7 @@ use Rattle.lexc_tokens.specs.Steps.{IsNext}
 use Rattle.lexc_tokens.specs.Tokens.{Follows, NoneFollows, Stands, IsWord, letter_front, behind_blanks, inner_len}
 use Rattle.lexc_tokens.specs.declared.expressions.Inside.TheVariants.{Nothing}
 use Rattle.lexc_tokens.specs.declared.scanning.Found.{Found}
-use Rattle.lexc_tokens.specs.declared.scanning.Next.TheVariants as next
+use Rattle.lexc_tokens.specs.declared.scanning.Next.TheVariants as what
 use Rattle.lexc_tokens.specs.declared.token.Token.{Token}
 use Rattle.lexc_tokens.specs.declared.token.Token.TheVariants.{Word as word, Semicolon as semicolon, Expression as expression}
 use Rattle.lexc_grammar.specs.Entries.{fault_at, hash, EntrySays}
@@ -35,16 +35,16 @@ use Rattle.lexc_reader.proofs.Newlines.{newlines_encoded, newlines_front}
 
 -- What comes next.
 
-pub found_of : (opening : Bool) (line : ℕ) (text : List ℕ) (found : Found) → IsNext opening line text (next.Found found) → IsFound opening text found
+pub found_of : (opening : Bool) (line : ℕ) (text : List ℕ) (found : Found) → IsNext opening line text (what.Found found) → IsFound opening text found
 found_of opening line text found is = record { some = is.0; within = is.1; follows = is.2; line_is = is.3 ∙ sym is.4 }
 
-pub same_lines : (opening : Bool) (line : ℕ) (text : List ℕ) (found : Found) → IsNext opening line text (next.Found found) → lines_of text found ≡ line + newlines text
+pub same_lines : (opening : Bool) (line : ℕ) (text : List ℕ) (found : Found) → IsNext opening line text (what.Found found) → lines_of text found ≡ line + newlines text
 same_lines opening line text found is = is.4
 
 pub line_back : (at lines : ℕ) (text : List ℕ) → at + newlines (behind_blanks text) ≡ lines → line_of lines text ≡ at
 line_back at lines text is = omega (arith, is)
 
-pub none_next : (line at : ℕ) (stage : Stage) (known : Known) (text : List ℕ) → IsNext (opens stage) line text (next.NoToken (record { line = at })) → Says (line + newlines text) stage known text (fault_at at why.Token)
+pub none_next : (line at : ℕ) (stage : Stage) (known : Known) (text : List ℕ) → IsNext (opens stage) line text (what.NoToken at) → Says (line + newlines text) stage known text (fault_at at why.Token)
 none_next line at stage known text is =
     subst (λ (n : ℕ). Says (line + newlines text) stage known text (fault_at n why.Token)) (line_back at (line + newlines text) text is.1) (no_token stage known text is.0)
 
@@ -132,11 +132,11 @@ module _ (text : List ℕ) (found : Found) where
     pub name_unended : behind_blanks behind ≡ [] → Says (lines_of text found) stage known text (fault_at found.line why.Statement)
     name_unended none = fault_here stage known is why.Statement (no_name stage known text behind header (inl none))
 
-    pub name_broken : (at : ℕ) → IsNext false found.behind behind (next.NoToken (record { line = at })) → Says (lines_of text found) stage known text (fault_at at why.Token)
+    pub name_broken : (at : ℕ) → IsNext false found.behind behind (what.NoToken at) → Says (lines_of text found) stage known text (fault_at at why.Token)
     name_broken at none =
         subst (λ (n : ℕ). Says (lines_of text found) stage known text (fault_at n why.Token)) (line_back at (lines_of text found) behind (none.1 ∙ lines_are)) (no_token_for_name stage known text behind header none.0)
 
-    module _ (name : Found) (named : IsNext false found.behind behind (next.Found name)) where
+    module _ (name : Found) (named : IsNext false found.behind behind (what.Found name)) where
       pub name_is_none : ((letters : List Letter) → name.token ≡ word letters → letters ≡ hash) → Says (lines_of text found) stage known text (fault_at found.line why.Statement)
       name_is_none none = by name.token refl
         where

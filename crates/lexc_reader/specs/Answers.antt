@@ -33,9 +33,9 @@ IsAdded known line form next new (Some reason) = limit_of known form ≡ Some re
 
 -- lexicons, a fault, or want of memory, where this says what they may be
 abbrev pub IsAnswer : (Result (List LexiconAt) FaultAt → Type 0) → Result (Vec (LexiconOf Raw) Global) ReadError → Type 0
-IsAnswer Says (Ok lexicons) = Says (Ok (map lexicon_of lexicons.items))
-IsAnswer Says (Err (Fault line reason)) = Says (fault_at line reason)
-IsAnswer Says (Err (Memory refused)) = ⊤
+IsAnswer MayBe (Ok lexicons) = MayBe (Ok (map lexicon_of lexicons.items))
+IsAnswer MayBe (Err (Fault line reason)) = MayBe (fault_at line reason)
+IsAnswer MayBe (Err (Memory refused)) = ⊤
 
 -- the lexicons of the text, or its first fault
 abbrev pub IsRead : List ℕ → Result (Vec (LexiconOf Raw) Global) ReadError → Type 0
