@@ -26,8 +26,16 @@ module _ (lines : ℕ) (first : Token) (text : List ℕ) where
       all = is ∙ ap (λ (z : List Token). z ++ token ∷ []) so_far.all;
       goes_on = λ more ending rest has.
           subst (λ (z : List Token). HasTokens lines false text z ending rest) (sym (append_assoc so_far.others (token ∷ []) more))
-          (so_far.goes_on (token ∷ more) ending rest (no_end, (drop n here, (subst (λ (z : List ℕ). Follows false z token (drop n here)) here_is follows,
-                subst (λ (z : List ℕ). HasTokens lines false z more ending rest) (sym (drop-drop n len text) ∙ ap (drop n) (sym here_is)) has))));
+          (so_far.goes_on (token ∷ more) ending rest (
+            no_end,
+            (
+              drop n here,
+              (
+                subst (λ (z : List ℕ). Follows false z token (drop n here)) here_is follows,
+                subst (λ (z : List ℕ). HasTokens lines false z more ending rest) (sym (drop-drop n len text) ∙ ap (drop n) (sym here_is)) has,
+              ),
+            ),
+          ));
     }
 
     ended_by : (ending : Ending) (rest : List ℕ) → HasTokens lines false (drop len text) [] ending rest → HasTokens lines false text so_far.others ending rest

@@ -5,10 +5,10 @@ ghost use Rattle.lexc_grammar.specs.Entries.{fault_at, with_expression, with_for
 ghost use Rattle.lexc_grammar.specs.Lexicons.{form_of};
 ghost use Rattle.lexc_grammar.specs.declared.statements.Ending.TheVariants as endings;
 
-use lexc_grammar::Ending;
 use crate::words::next_of;
 use fsm_base::Text;
 use lexc_forms::{DeclaredSymbols, Letter, read_form};
+use lexc_grammar::Ending;
 use lexc_tokens::Token;
 use regex_ast::{Expr, Form, Raw, ReadError, Why};
 use regex_reader::read_expr;

@@ -35,21 +35,21 @@ module _ (names : List (List ℕ)) where
     pub known_here : unknown_next names (entry_of entry).entry.next ≡ false → first_unknown names (map entry_of (drop (i + 1) entries)) ≡ first_unknown names (map entry_of (drop i entries))
     known_here is = sym (ap (first_unknown names) split ∙ known_cons (entry_of entry) (map entry_of (drop (i + 1) entries)) is)
 
-  first_in : (as bs : List EntryAt) (line : ℕ) → first_unknown names as ≡ Some line → first_unknown names (as ++ bs) ≡ Some line
-  first_in [] bs line is = absurd cc
-  first_in (a ∷ as) bs line is = by (unknown_next names a.entry.next) is
+  first_in : (front back : List EntryAt) (line : ℕ) → first_unknown names front ≡ Some line → first_unknown names (front ++ back) ≡ Some line
+  first_in [] back line is = absurd cc
+  first_in (e ∷ front) back line is = by (unknown_next names e.entry.next) is
     where
-      by : (b : Bool) → cond b (Some a.line) (first_unknown names as) ≡ Some line → cond b (Some a.line) (first_unknown names (as ++ bs)) ≡ Some line
-      by true e = e
-      by false e = first_in as bs line e
+      by : (b : Bool) → cond b (Some e.line) (first_unknown names front) ≡ Some line → cond b (Some e.line) (first_unknown names (front ++ back)) ≡ Some line
+      by true found = found
+      by false found = first_in front back line found
 
-  none_in : (as bs : List EntryAt) → first_unknown names as ≡ None → first_unknown names (as ++ bs) ≡ first_unknown names bs
-  none_in [] bs is = refl
-  none_in (a ∷ as) bs is = by (unknown_next names a.entry.next) is
+  none_in : (front back : List EntryAt) → first_unknown names front ≡ None → first_unknown names (front ++ back) ≡ first_unknown names back
+  none_in [] back is = refl
+  none_in (e ∷ front) back is = by (unknown_next names e.entry.next) is
     where
-      by : (b : Bool) → cond b (Some a.line) (first_unknown names as) ≡ None → cond b (Some a.line) (first_unknown names (as ++ bs)) ≡ first_unknown names bs
-      by true e = absurd cc
-      by false e = none_in as bs e
+      by : (b : Bool) → cond b (Some e.line) (first_unknown names front) ≡ None → cond b (Some e.line) (first_unknown names (front ++ back)) ≡ first_unknown names back
+      by true found = absurd cc
+      by false found = none_in front back found
 
   module _ (lexicons : List (Lexicon Raw)) (i : ℕ) (lexicon : Lexicon Raw) (below : i < length lexicons) (here : lexicon ≡ get_or lexicons i lexicon) where
     split_lexicons : entries_of (drop i lexicons) ≡ map entry_of lexicon.entries.items ++ entries_of (drop (i + 1) lexicons)

@@ -27,9 +27,9 @@ module _ (side : List (Piece Raw)) (i : ℕ) (below : i < length side) (table : 
   pub symbol_more : (leaf : Raw) → Symbol leaf ≡ get_or side i (Symbol leaf) → with_texts table (features_of (drop (i + 1) side)) ≡ with_texts table (features_of (drop i side))
   symbol_more leaf here = ap (λ (ps : List (Piece Raw)). with_texts table (features_of ps)) (sym (left_behind side i (Symbol leaf) below here))
 
-with_both : (table as bs : List (List ℕ)) → with_texts table (as ++ bs) ≡ with_texts (with_texts table as) bs
-with_both table [] bs = refl
-with_both table (a ∷ as) bs = with_both (with_text a table) as bs
+with_both : (table front back : List (List ℕ)) → with_texts table (front ++ back) ≡ with_texts (with_texts table front) back
+with_both table [] back = refl
+with_both table (text ∷ front) back = with_both (with_text text table) front back
 
 pub both_sides : (table middle new : List (List ℕ)) (upper lower : List (Piece Raw)) → middle ≡ with_texts table (features_of upper) → new ≡ with_texts middle (features_of lower) → new ≡ with_texts table (flat_map feature_in (map piece_of upper ++ map piece_of lower))
 both_sides table middle new upper lower first second =

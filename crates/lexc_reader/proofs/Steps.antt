@@ -140,13 +140,13 @@ module _ (text : List ℕ) (found : Found) where
       pub name_is_none : ((letters : List Letter) → name.token ≡ word letters → letters ≡ hash) → Says (lines_of text found) stage known text (fault_at found.line why.Statement)
       name_is_none none = by name.token refl
         where
-          as : (token : Token) → name.token ≡ token → Follows false behind token (drop name.len behind)
-          as token e = subst (λ (t : Token). Follows false behind t (drop name.len behind)) e named.2
+          follows_by : (token : Token) → name.token ≡ token → Follows false behind token (drop name.len behind)
+          follows_by token e = subst (λ (t : Token). Follows false behind t (drop name.len behind)) e named.2
 
           by : (token : Token) → name.token ≡ token → Says (lines_of text found) stage known text (fault_at found.line why.Statement)
-          by (word letters) e = fault_here stage known is why.Statement (no_name stage known text behind header (inr (drop name.len behind, inr (as (word hash) (e ∙ ap word (none letters e))))))
-          by semicolon e = fault_here stage known is why.Statement (no_name stage known text behind header (inr (drop name.len behind, inl (as semicolon e))))
-          by (expression x) e = let follows : Follows false behind (expression x) (drop name.len behind) = as (expression x) e in let clash : false ≡ true = follows.0 in cc
+          by (word letters) e = fault_here stage known is why.Statement (no_name stage known text behind header (inr (drop name.len behind, inr (follows_by (word hash) (e ∙ ap word (none letters e))))))
+          by semicolon e = fault_here stage known is why.Statement (no_name stage known text behind header (inr (drop name.len behind, inl (follows_by semicolon e))))
+          by (expression x) e = let follows : Follows false behind (expression x) (drop name.len behind) = follows_by (expression x) e in let clash : false ≡ true = follows.0 in cc
 
       module _ (letters : List Letter) (name_is : name.token ≡ word letters) (no_hash : letters ≢ hash) where
         name_follows : Follows false behind (word letters) (drop name.len behind)
@@ -165,7 +165,7 @@ module _ (text : List ℕ) (found : Found) where
               goes_on = λ answer says.
                   lexicon stage known text behind (drop name.len behind) letters answer header name_follows no_hash absent
                   (subst (λ (k : Known). Says (lines_of text found) InLexicon k (drop name.len behind) answer) (new_is ∙ ap (λ (n : ℕ). with_lexicon known n (text_of letters)) (sym (line_back found.line (lines_of text found) text is.line_is)))
-                      (subst (λ (z : List ℕ). Says (lines_of text found) InLexicon new z answer) (sym rest_is) says));
+                  (subst (λ (z : List ℕ). Says (lines_of text found) InLexicon new z answer) (sym rest_is) says));
             }
 
   -- Entries.
@@ -235,5 +235,5 @@ module _ (text : List ℕ) (found : Found) where
               goes_on = λ answer more.
                   entry known text rest all.tokens.items form next answer some_text no_word has_all says_all added.0
                   (subst (λ (k : Known). Says (lines_of text found) InLexicon k rest answer) (added.1 ∙ ap (λ (n : ℕ). with_entry known n form next) (sym (line_back found.line (lines_of text found) text is.line_is)))
-                      (subst (λ (z : List ℕ). Says (lines_of text found) InLexicon new z answer) (sym rest_is) more));
+                  (subst (λ (z : List ℕ). Says (lines_of text found) InLexicon new z answer) (sym rest_is) more));
             }

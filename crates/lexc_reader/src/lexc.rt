@@ -45,9 +45,13 @@ pub fn read_lexc(alloc: Global, text: &str) -> Result<Vec<Lexicon<Raw>>, ReadErr
     let mut stage = Stage::Beginning;
     let mut len = 0;
     let mut line = 1;
-    'statements: while let Some(step) =
-        read_statement(alloc, &mut state, stage, characters.split_at(len).1, line)?
-    {
+    'statements: while let Some(step) = read_statement(
+        alloc,
+        &mut state,
+        stage,
+        characters.split_at(len).1,
+        line,
+    )? {
         stage = step.stage;
         len += step.len;
         line = step.line;
