@@ -1,5 +1,6 @@
 -- The loop over contexts.
-use Rattle.std.proofs.Common.{◌≡◌, ◌==◌, ℕ, true, false, List, [], ◌∷◌, ◌++◌, length, Option, None, Some, refl, sym, ap, subst, ◌∙◌}
+use Rattle.std.proofs.Common.{◌≡◌, ◌==◌, ◌<◌, ℕ, true, false, List, [], ◌∷◌, ◌++◌, length, Option, None, Some, refl, sym, ap, subst, ◌∙◌, arith, length-append}
+use Rattle.std.proofs.lemmas.List.{length-map}
 use Rattle.std.specs.List.{list_all}
 use Rattle.regex_ast.specs.Terms.{Term, Contexts, no_context, between}
 use Rattle.regex_ast.specs.declared.expr.Context.{Context}
@@ -102,3 +103,8 @@ views_all (c ∷ cs) = ap (λ rest. context_before c rest) (views_all cs)
 pub ended : (names : Names) (tokens : List Token) (rest : List Placed) (found : List (Context (PairPart Raw))) → true ≡ (length rest == 0) → SoFar names tokens (tokens_of rest) found → IsFound (AreContexts names tokens) (Some (context_views found))
 ended names tokens [] found none so_far = subst (λ cs. AreContexts names tokens cs) (views_all found) (so_far.forth no_context refl)
 ended names tokens (p ∷ rest) found none so_far = absurd cc
+
+-- what is behind a token is shorter
+pub shorter : (rest behind : List Placed) (front : List Token) (t : Token) → tokens_of rest ≡ front ++ t ∷ tokens_of behind → length behind < length rest
+shorter rest behind front t e =
+    omega (arith, ap length e, length-append front (t ∷ tokens_of behind), length-map (λ (p : Placed). p.token) rest, length-map (λ (p : Placed). p.token) behind)

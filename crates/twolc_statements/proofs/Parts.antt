@@ -1,20 +1,23 @@
--- Sets and definitions by their parts.
-use Rattle.std.proofs.Common.{◌≡◌, ◌<◌, ◌==◌, ℕ, Bool, true, false, List, [], ◌∷◌, ◌++◌, map, length, Option, None, Some, refl, sym, ap, subst, ◌∙◌, arith}
+-- The alphabet, sets and definitions by their parts.
+use Rattle.std.proofs.Common.{◌≡◌, ◌<◌, ◌==◌, ℕ, Bool, true, false, List, [], ◌∷◌, ◌++◌, map, length, Vec, Global, Option, None, Some, Result, Ok, Err, IfOk, refl, sym, ap, subst, ◌∙◌, arith}
 use Rattle.std.specs.Option.{option_map}
+use Rattle.std.specs.declared.alloc.AllocError.{AllocError}
 use Rattle.regex_ast.specs.Terms.{Term}
 use Rattle.regex_ast.specs.declared.expr.Raw.{Raw}
-use Rattle.project_meaning.specs.Trees.{Part, PairDefinition, Set}
+use Rattle.regex_ast.specs.declared.twolc.PairAtom.{PairAtom}
+use Rattle.project_meaning.specs.Trees.{Pair, Part, PairDefinition, Set}
+use Rattle.twolc_atoms.specs.Views.{pair_view}
 use Rattle.twolc_tokens.specs.declared.token.Operator.TheVariants.{Equals, Semicolon}
 use Rattle.twolc_tokens.specs.declared.token.Placed.{Placed}
 use Rattle.twolc_tokens.specs.declared.token.Token.{Token}
 use Rattle.twolc_tokens.specs.declared.token.Token.TheVariants.{Operator as operator, Atom as atom}
-use Rattle.twolc_grammar.specs.Atoms.{Names, no_names, one_symbol_in}
+use Rattle.twolc_grammar.specs.Atoms.{Names, no_names, one_symbol_in, symbols_in}
 use Rattle.twolc_grammar.specs.Expressions.{IsExpression, has_edge}
 use Rattle.twolc_grammar.specs.Sections.{tokens_of}
-use Rattle.twolc_grammar.specs.Statements.{IsNamed, IsStatement, in_definitions, in_sets, definition, set}
+use Rattle.twolc_grammar.specs.Statements.{IsNamed, IsStatement, alphabet, in_alphabet, in_definitions, in_sets, definition, set}
 use Rattle.twolc_expressions.specs.Reading.{IsFound}
-use Rattle.twolc_statements.specs.Reading.{IsAtomSplit, IsEndSplit, IsEqualsSplit, IsNameSplit, each_found, symbol_in}
-use Rattle.twolc_statements.proofs.Each.{each_again, each_takes, fronts_same}
+use Rattle.twolc_statements.specs.Reading.{IsAtomSplit, IsEndSplit, IsEqualsSplit, IsNameSplit, each_found, pair_in, symbol_in}
+use Rattle.twolc_statements.proofs.Each.{each_again, each_takes, fronts_same, list_found, list_none}
 
 behind_name : (n m : List ℕ) (a b : List Token) → atom n ∷ operator Equals ∷ a ≡ atom m ∷ operator Equals ∷ b → a ≡ b
 behind_name n m a b e = cc
@@ -24,6 +27,21 @@ behind_same tokens n m a b h g = behind_name n m a b (sym h.0 ∙ g.0)
 
 front_same : (tokens : List Token) (n m : List ℕ) (behind front other : List Token) → IsNamed tokens n behind → behind ≡ front ++ operator Semicolon ∷ [] → IsNamed tokens m (other ++ operator Semicolon ∷ []) → front ≡ other
 front_same tokens n m behind front other named ended h = fronts_same front other (operator Semicolon) (sym ended ∙ behind_same tokens n m behind (other ++ operator Semicolon ∷ []) named h)
+
+-- The alphabet.
+
+abbrev pub IsAlphabet : List Token → List (Pair Raw) → Type 0
+IsAlphabet tokens pairs = IsStatement no_names in_alphabet tokens (alphabet pairs)
+
+abbrev pub pairs_of : Vec (PairAtom Raw) Global → List (Pair Raw)
+pairs_of pairs = map pair_view pairs.items
+
+pub alphabet_none : (tokens : List Token) → IsEndSplit tokens None → IsFound (IsAlphabet tokens) None
+alphabet_none tokens none = list_none symbols_in tokens none
+
+pub alphabet_ok : (tokens front : List Token) (r : Result (Option (Vec (PairAtom Raw) Global)) AllocError) → tokens ≡ front ++ operator Semicolon ∷ [] → IfOk r (λ found. option_map pairs_of found ≡ each_found pair_in front) → IfOk r (λ found. IsFound (IsAlphabet tokens) (option_map pairs_of found))
+alphabet_ok tokens front (Ok found) split e = list_found symbols_in tokens front (option_map pairs_of found) split e
+alphabet_ok tokens front (Err error) split e = e
 
 -- Sets.
 
