@@ -39,12 +39,6 @@ pub found : (names : Names) (tokens : List Token) (o : Option (Term (Part Raw)))
 found names tokens None e = λ t h. let clash : None ≡ Some t = e ∙ again names tokens t h in cc
 found names tokens (Some t) e = takes names tokens t (sym e)
 
--- a part of a context that isn't left out is an expression
-pub found_part : (names : Names) (tokens : List Token) (o : Option (Term (Part Raw))) → (tokens ≡ [] → ⊥) → IsFound (IsExpression names tokens) o → IsFound (IsPart names tokens) o
-found_part names [] o some h = absurd (some refl)
-found_part names (x ∷ tokens) None some h = h
-found_part names (x ∷ tokens) (Some t) some h = h
-
 pub found_ok : (names : Names) (tokens : List Token) (r : Result (Option (Expr (PairPart Raw))) AllocError) → IfOk r (λ o. option_map pair_term o ≡ expression_in names tokens) → IfOk r (λ o. IsFound (IsExpression names tokens) (option_map pair_term o))
 found_ok names tokens (Ok o) e = found names tokens (option_map pair_term o) e
 found_ok names tokens (Err error) e = e
