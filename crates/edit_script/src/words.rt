@@ -2,24 +2,13 @@ ghost use Rattle.std.specs.Prelude.{◌≡◌, ◌↔◌, ◌≢◌, ◌⊎◌, 
 ghost use Rattle.reply_meaning.specs.Replies.{without_return};
 ghost use Rattle.edit_script.specs.Commands.{HasNoSpace, IsFile, IsNetAndWord, IsNumber, IsText, spaced};
 
+use fsm_io::MOST_LINE;
 use project_manifest::{is_file_name, is_manifest_name};
+use reply_meaning::without_return;
 use std::str;
-
-/// The most bytes of a line.
-const MOST_LINE: usize = 4096;
 
 /// The greatest number of a command.
 const MOST_NUMBER: u32 = 1_048_576;
-
-/// The line without a carriage return at its end.
-fn without_return(line: &[u8]) -> &[u8]
-    ensures { result.now ≡ without_return line.now }
-{
-    let Some((last, front)) = line.split_last() else {
-        return line;
-    };
-    if *last == b'\r' { front } else { line }
-}
 
 /// The text of a line, or `None` where it is long or isn't UTF-8.
 pub fn text_of(line: &[u8]) -> Option<&str>

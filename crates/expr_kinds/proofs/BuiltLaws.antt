@@ -3,7 +3,7 @@ use Rattle.std.proofs.Common.{◌≡◌, ◌↔◌, ℕ, Bool, true, false, ◌&
 use Rattle.regex_ast.specs.Terms.{Term, Terms, Links, Contexts, Steps, empty, any, edge, atom, letters, group, maybe, not_one, cross, suffixed, prefixed, ignore, concat, chain, only, rules, steps, no_term, then_term, no_link, or, and, less, no_context, between, no_step, cross_with, then}
 use Rattle.regex_ast.specs.declared.expr.Suffix.{Suffix}
 use Rattle.regex_ast.specs.declared.expr.Suffix.TheVariants.{Star, Plus, Power, Upper, Lower, Inverse, Reverse}
-use Rattle.expr_kinds.specs.Built.{IsBuilt, AreBuilt, LinksAreBuilt, ContextsAreBuilt, StepsAreBuilt}
+use Rattle.expr_kinds.specs.Built.{IsBuiltBy, AreBuiltBy, LinksAreBuiltBy, ContextsAreBuiltBy, StepsAreBuiltBy}
 use Rattle.expr_kinds.specs.Kinds.{Leaves}
 use Rattle.expr_kinds.specs.Forms.{as_language, heavier, beside, behind, with_each, with_kind, nothing, form_in, form_in_each, form_in_links, form_in_steps, form_in_contexts, form_in_groups}
 use Rattle.expr_kinds.specs.declared.form.Form.{Form}
@@ -43,52 +43,52 @@ never : (b : Bool) → IsTrue (b && false) ↔ ⊥
 never b = (λ h. let both = (both_true b false).0 h in let no : false ≡ true = both.1 in cc, λ h. absurd h)
 
 mutual
-  pub built_is : {A : Type 0} (leaves : Leaves A) (leaf : A → ℕ) (built : A → Bool) (t : Term A) → IsTrue (form_in leaves leaf built t).built ↔ IsBuilt built t
-  built_is leaves leaf built empty = (λ h. tt, λ h. refl)
-  built_is leaves leaf built any = (λ h. tt, λ h. refl)
-  built_is leaves leaf built edge = (λ h. tt, λ h. refl)
-  built_is leaves leaf built (atom a) = (λ h. h, λ h. h)
-  built_is leaves leaf built (letters all) = (λ h. h, λ h. h)
-  built_is leaves leaf built (group e) = built_is leaves leaf built e
-  built_is leaves leaf built (maybe e) = built_is leaves leaf built e
-  built_is leaves leaf built (not_one n e) = built_is leaves leaf built e
-  built_is leaves leaf built (cross e f) =
-      let pair = both_true (form_in leaves leaf built e).built (form_in leaves leaf built f).built in
-      let first = built_is leaves leaf built e in
-      let second = built_is leaves leaf built f in
+  pub built_is : {A : Type 0} (leaves : Leaves A) (leaf : A → ℕ) (built letter : A → Bool) (t : Term A) → IsTrue (form_in leaves leaf built letter t).built ↔ IsBuiltBy built letter t
+  built_is leaves leaf built letter empty = (λ h. tt, λ h. refl)
+  built_is leaves leaf built letter any = (λ h. tt, λ h. refl)
+  built_is leaves leaf built letter edge = (λ h. tt, λ h. refl)
+  built_is leaves leaf built letter (atom a) = (λ h. h, λ h. h)
+  built_is leaves leaf built letter (letters all) = (λ h. h, λ h. h)
+  built_is leaves leaf built letter (group e) = built_is leaves leaf built letter e
+  built_is leaves leaf built letter (maybe e) = built_is leaves leaf built letter e
+  built_is leaves leaf built letter (not_one n e) = built_is leaves leaf built letter e
+  built_is leaves leaf built letter (cross e f) =
+      let pair = both_true (form_in leaves leaf built letter e).built (form_in leaves leaf built letter f).built in
+      let first = built_is leaves leaf built letter e in
+      let second = built_is leaves leaf built letter f in
       (λ h. (first.0 (pair.0 h).0, second.0 (pair.0 h).1), λ h. pair.1 (first.1 h.0, second.1 h.1))
-  built_is leaves leaf built (suffixed e suffixes) = along (with_each (form_in leaves leaf built e) suffixes).built (form_in leaves leaf built e).built (IsBuilt built e) (with_each_built (form_in leaves leaf built e) suffixes) (built_is leaves leaf built e)
-  built_is leaves leaf built (prefixed prefixes e) = built_is leaves leaf built e
-  built_is leaves leaf built (ignore es) = from_none (AreBuilt built es) (form_in_each leaves leaf built nothing es).built (each_built leaves leaf built nothing es)
-  built_is leaves leaf built (concat es) = from_none (AreBuilt built es) (form_in_each leaves leaf built nothing es).built (each_built leaves leaf built nothing es)
-  built_is leaves leaf built (chain e links) = from_first (form_in leaves leaf built e).built (IsBuilt built e) (LinksAreBuilt built links) (built_is leaves leaf built e) (form_in_links leaves leaf built (form_in leaves leaf built e) links).built (links_built leaves leaf built (form_in leaves leaf built e) links)
-  built_is leaves leaf built (only e contexts) = from_first (form_in leaves leaf built e).built (IsBuilt built e) (ContextsAreBuilt built contexts) (built_is leaves leaf built e) (form_in_contexts leaves leaf built (form_in leaves leaf built e) contexts).built (contexts_built leaves leaf built (form_in leaves leaf built e) contexts)
-  built_is leaves leaf built (rules optional groups) = never (form_in_groups leaves leaf built nothing groups).built
-  built_is leaves leaf built (steps e more) = from_first (form_in leaves leaf built e).built (IsBuilt built e) (StepsAreBuilt built more) (built_is leaves leaf built e) (form_in_steps leaves leaf built (form_in leaves leaf built e) more).built (steps_built leaves leaf built (form_in leaves leaf built e) more)
+  built_is leaves leaf built letter (suffixed e suffixes) = along (with_each (form_in leaves leaf built letter e) suffixes).built (form_in leaves leaf built letter e).built (IsBuiltBy built letter e) (with_each_built (form_in leaves leaf built letter e) suffixes) (built_is leaves leaf built letter e)
+  built_is leaves leaf built letter (prefixed prefixes e) = built_is leaves leaf built letter e
+  built_is leaves leaf built letter (ignore es) = from_none (AreBuiltBy built letter es) (form_in_each leaves leaf built letter nothing es).built (each_built leaves leaf built letter nothing es)
+  built_is leaves leaf built letter (concat es) = from_none (AreBuiltBy built letter es) (form_in_each leaves leaf built letter nothing es).built (each_built leaves leaf built letter nothing es)
+  built_is leaves leaf built letter (chain e links) = from_first (form_in leaves leaf built letter e).built (IsBuiltBy built letter e) (LinksAreBuiltBy built letter links) (built_is leaves leaf built letter e) (form_in_links leaves leaf built letter (form_in leaves leaf built letter e) links).built (links_built leaves leaf built letter (form_in leaves leaf built letter e) links)
+  built_is leaves leaf built letter (only e contexts) = from_first (form_in leaves leaf built letter e).built (IsBuiltBy built letter e) (ContextsAreBuiltBy built letter contexts) (built_is leaves leaf built letter e) (form_in_contexts leaves leaf built letter (form_in leaves leaf built letter e) contexts).built (contexts_built leaves leaf built letter (form_in leaves leaf built letter e) contexts)
+  built_is leaves leaf built letter (rules optional groups) = never (form_in_groups leaves leaf built letter nothing groups).built
+  built_is leaves leaf built letter (steps e more) = from_first (form_in leaves leaf built letter e).built (IsBuiltBy built letter e) (StepsAreBuiltBy built letter more) (built_is leaves leaf built letter e) (form_in_steps leaves leaf built letter (form_in leaves leaf built letter e) more).built (steps_built leaves leaf built letter (form_in leaves leaf built letter e) more)
 
-  each_built : {A : Type 0} (leaves : Leaves A) (leaf : A → ℕ) (built : A → Bool) (before : Form) (es : Terms A) → IsTrue (form_in_each leaves leaf built before es).built ↔ (IsTrue before.built × AreBuilt built es)
-  each_built leaves leaf built before no_term = (λ h. (h, tt), λ h. h.0)
-  each_built leaves leaf built before (then_term e es) = one_more before.built (form_in leaves leaf built e).built (IsBuilt built e) (AreBuilt built es) (built_is leaves leaf built e) (form_in_each leaves leaf built (beside before (form_in leaves leaf built e)) es).built (each_built leaves leaf built (beside before (form_in leaves leaf built e)) es)
+  each_built : {A : Type 0} (leaves : Leaves A) (leaf : A → ℕ) (built letter : A → Bool) (before : Form) (es : Terms A) → IsTrue (form_in_each leaves leaf built letter before es).built ↔ (IsTrue before.built × AreBuiltBy built letter es)
+  each_built leaves leaf built letter before no_term = (λ h. (h, tt), λ h. h.0)
+  each_built leaves leaf built letter before (then_term e es) = one_more before.built (form_in leaves leaf built letter e).built (IsBuiltBy built letter e) (AreBuiltBy built letter es) (built_is leaves leaf built letter e) (form_in_each leaves leaf built letter (beside before (form_in leaves leaf built letter e)) es).built (each_built leaves leaf built letter (beside before (form_in leaves leaf built letter e)) es)
 
-  links_built : {A : Type 0} (leaves : Leaves A) (leaf : A → ℕ) (built : A → Bool) (before : Form) (links : Links A) → IsTrue (form_in_links leaves leaf built before links).built ↔ (IsTrue before.built × LinksAreBuilt built links)
-  links_built leaves leaf built before no_link = (λ h. (h, tt), λ h. h.0)
-  links_built leaves leaf built before (or e links) = one_more before.built (form_in leaves leaf built e).built (IsBuilt built e) (LinksAreBuilt built links) (built_is leaves leaf built e) _ (links_built leaves leaf built (heavier (beside before (form_in leaves leaf built e)) 1) links)
-  links_built leaves leaf built before (and e links) = one_more before.built (form_in leaves leaf built e).built (IsBuilt built e) (LinksAreBuilt built links) (built_is leaves leaf built e) _ (links_built leaves leaf built (heavier (as_language (beside before (form_in leaves leaf built e))) 1) links)
-  links_built leaves leaf built before (less e links) = one_more before.built (form_in leaves leaf built e).built (IsBuilt built e) (LinksAreBuilt built links) (built_is leaves leaf built e) _ (links_built leaves leaf built (heavier (as_language (beside before (form_in leaves leaf built e))) 1) links)
+  links_built : {A : Type 0} (leaves : Leaves A) (leaf : A → ℕ) (built letter : A → Bool) (before : Form) (links : Links A) → IsTrue (form_in_links leaves leaf built letter before links).built ↔ (IsTrue before.built × LinksAreBuiltBy built letter links)
+  links_built leaves leaf built letter before no_link = (λ h. (h, tt), λ h. h.0)
+  links_built leaves leaf built letter before (or e links) = one_more before.built (form_in leaves leaf built letter e).built (IsBuiltBy built letter e) (LinksAreBuiltBy built letter links) (built_is leaves leaf built letter e) _ (links_built leaves leaf built letter (heavier (beside before (form_in leaves leaf built letter e)) 1) links)
+  links_built leaves leaf built letter before (and e links) = one_more before.built (form_in leaves leaf built letter e).built (IsBuiltBy built letter e) (LinksAreBuiltBy built letter links) (built_is leaves leaf built letter e) _ (links_built leaves leaf built letter (heavier (as_language (beside before (form_in leaves leaf built letter e))) 1) links)
+  links_built leaves leaf built letter before (less e links) = one_more before.built (form_in leaves leaf built letter e).built (IsBuiltBy built letter e) (LinksAreBuiltBy built letter links) (built_is leaves leaf built letter e) _ (links_built leaves leaf built letter (heavier (as_language (beside before (form_in leaves leaf built letter e))) 1) links)
 
-  steps_built : {A : Type 0} (leaves : Leaves A) (leaf : A → ℕ) (built : A → Bool) (before : Form) (more : Steps A) → IsTrue (form_in_steps leaves leaf built before more).built ↔ (IsTrue before.built × StepsAreBuilt built more)
-  steps_built leaves leaf built before no_step = (λ h. (h, tt), λ h. h.0)
-  steps_built leaves leaf built before (cross_with e more) = one_more before.built (form_in leaves leaf built e).built (IsBuilt built e) (StepsAreBuilt built more) (built_is leaves leaf built e) _ (steps_built leaves leaf built (with_kind (heavier (as_language (beside before (form_in leaves leaf built e))) 1) Relation) more)
-  steps_built leaves leaf built before (then e more) = one_more before.built (form_in leaves leaf built e).built (IsBuilt built e) (StepsAreBuilt built more) (built_is leaves leaf built e) _ (steps_built leaves leaf built (heavier (beside before (form_in leaves leaf built e)) 1) more)
+  steps_built : {A : Type 0} (leaves : Leaves A) (leaf : A → ℕ) (built letter : A → Bool) (before : Form) (more : Steps A) → IsTrue (form_in_steps leaves leaf built letter before more).built ↔ (IsTrue before.built × StepsAreBuiltBy built letter more)
+  steps_built leaves leaf built letter before no_step = (λ h. (h, tt), λ h. h.0)
+  steps_built leaves leaf built letter before (cross_with e more) = one_more before.built (form_in leaves leaf built letter e).built (IsBuiltBy built letter e) (StepsAreBuiltBy built letter more) (built_is leaves leaf built letter e) _ (steps_built leaves leaf built letter (with_kind (heavier (as_language (beside before (form_in leaves leaf built letter e))) 1) Relation) more)
+  steps_built leaves leaf built letter before (then e more) = one_more before.built (form_in leaves leaf built letter e).built (IsBuiltBy built letter e) (StepsAreBuiltBy built letter more) (built_is leaves leaf built letter e) _ (steps_built leaves leaf built letter (heavier (beside before (form_in leaves leaf built letter e)) 1) more)
 
-  contexts_built : {A : Type 0} (leaves : Leaves A) (leaf : A → ℕ) (built : A → Bool) (before : Form) (contexts : Contexts A) → IsTrue (form_in_contexts leaves leaf built before contexts).built ↔ (IsTrue before.built × ContextsAreBuilt built contexts)
-  contexts_built leaves leaf built before no_context = (λ h. (h, tt), λ h. h.0)
-  contexts_built leaves leaf built before (between l r contexts) =
-      let left = built_is leaves leaf built l in
-      let right = built_is leaves leaf built r in
-      let parts = both_true (form_in leaves leaf built l).built (form_in leaves leaf built r).built in
-      let pair = both_true before.built ((form_in leaves leaf built l).built && (form_in leaves leaf built r).built) in
-      let rest = contexts_built leaves leaf built (beside before (beside (form_in leaves leaf built l) (form_in leaves leaf built r))) contexts in (
+  contexts_built : {A : Type 0} (leaves : Leaves A) (leaf : A → ℕ) (built letter : A → Bool) (before : Form) (contexts : Contexts A) → IsTrue (form_in_contexts leaves leaf built letter before contexts).built ↔ (IsTrue before.built × ContextsAreBuiltBy built letter contexts)
+  contexts_built leaves leaf built letter before no_context = (λ h. (h, tt), λ h. h.0)
+  contexts_built leaves leaf built letter before (between l r contexts) =
+      let left = built_is leaves leaf built letter l in
+      let right = built_is leaves leaf built letter r in
+      let parts = both_true (form_in leaves leaf built letter l).built (form_in leaves leaf built letter r).built in
+      let pair = both_true before.built ((form_in leaves leaf built letter l).built && (form_in leaves leaf built letter r).built) in
+      let rest = contexts_built leaves leaf built letter (beside before (beside (form_in leaves leaf built letter l) (form_in leaves leaf built letter r))) contexts in (
         λ h. let a = rest.0 h in let b = pair.0 a.0 in let c = parts.0 b.1 in (b.0, (left.0 c.0, right.0 c.1, a.1)),
         λ h. rest.1 (pair.1 (h.0, parts.1 (left.1 h.1.0, right.1 h.1.1)), h.1.2),
       )

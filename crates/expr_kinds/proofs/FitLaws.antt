@@ -73,157 +73,157 @@ always : {P : Type 0} → P → IsTrue true ↔ P
 always p = (λ h. p, λ h. refl)
 
 mutual
-  pub fits_is : {A : Type 0} (leaves : Leaves A) (leaf : A → ℕ) (built : A → Bool) (t : Term A) → IsTrue (form_in leaves leaf built t).fits ↔ Fits leaves t
-  fits_is leaves leaf built empty = always tt
-  fits_is leaves leaf built any = always tt
-  fits_is leaves leaf built edge = always tt
-  fits_is leaves leaf built (atom a) = always tt
-  fits_is leaves leaf built (letters all) = always tt
-  fits_is leaves leaf built (group e) = fits_is leaves leaf built e
-  fits_is leaves leaf built (maybe e) = fits_is leaves leaf built e
-  fits_is leaves leaf built (not_one n e) = holds_as (form_in leaves leaf built e) (kind_of leaves e) (Fits leaves e) (kind_is leaves leaf built e) (fits_is leaves leaf built e)
-  fits_is leaves leaf built (cross e f) =
-      let first = holds_as (form_in leaves leaf built e) (kind_of leaves e) (Fits leaves e) (kind_is leaves leaf built e) (fits_is leaves leaf built e) in
-      let second = holds_as (form_in leaves leaf built f) (kind_of leaves f) (Fits leaves f) (kind_is leaves leaf built f) (fits_is leaves leaf built f) in
-      let pair = beside_holds (form_in leaves leaf built e) (form_in leaves leaf built f) in (
+  pub fits_is : {A : Type 0} (leaves : Leaves A) (leaf : A → ℕ) (built letter : A → Bool) (t : Term A) → IsTrue (form_in leaves leaf built letter t).fits ↔ Fits leaves t
+  fits_is leaves leaf built letter empty = always tt
+  fits_is leaves leaf built letter any = always tt
+  fits_is leaves leaf built letter edge = always tt
+  fits_is leaves leaf built letter (atom a) = always tt
+  fits_is leaves leaf built letter (letters all) = always tt
+  fits_is leaves leaf built letter (group e) = fits_is leaves leaf built letter e
+  fits_is leaves leaf built letter (maybe e) = fits_is leaves leaf built letter e
+  fits_is leaves leaf built letter (not_one n e) = holds_as (form_in leaves leaf built letter e) (kind_of leaves e) (Fits leaves e) (kind_is leaves leaf built letter e) (fits_is leaves leaf built letter e)
+  fits_is leaves leaf built letter (cross e f) =
+      let first = holds_as (form_in leaves leaf built letter e) (kind_of leaves e) (Fits leaves e) (kind_is leaves leaf built letter e) (fits_is leaves leaf built letter e) in
+      let second = holds_as (form_in leaves leaf built letter f) (kind_of leaves f) (Fits leaves f) (kind_is leaves leaf built letter f) (fits_is leaves leaf built letter f) in
+      let pair = beside_holds (form_in leaves leaf built letter e) (form_in leaves leaf built letter f) in (
         λ h. let a = first.0 (pair.0 h).0 in let b = second.0 (pair.0 h).1 in (a.0, a.1, b.0, b.1),
         λ h. pair.1 (first.1 (h.0, h.1), second.1 (h.2, h.3)),
       )
-  fits_is leaves leaf built (suffixed e suffixes) = along (with_each (form_in leaves leaf built e) suffixes).fits (form_in leaves leaf built e).fits (Fits leaves e) (with_each_fits (form_in leaves leaf built e) suffixes) (fits_is leaves leaf built e)
-  fits_is leaves leaf built (prefixed prefixes e) = holds_as (form_in leaves leaf built e) (kind_of leaves e) (Fits leaves e) (kind_is leaves leaf built e) (fits_is leaves leaf built e)
-  fits_is leaves leaf built (ignore es) = let all = each_holds leaves leaf built nothing es in (λ h. (all.0 h).1, λ h. all.1 (refl, h))
-  fits_is leaves leaf built (concat es) = let all = each_fits leaves leaf built nothing es in (λ h. (all.0 h).1, λ h. all.1 (refl, h))
-  fits_is leaves leaf built (chain e links) =
-      let first = fits_is leaves leaf built e in
-      let all = links_fit leaves leaf built (form_in leaves leaf built e) links in (
-        λ h. (first.0 (all.0 h).0, subst (λ k. ChainFits leaves k links) (kind_is leaves leaf built e) (all.0 h).1),
-        λ h. all.1 (first.1 h.0, subst (λ k. ChainFits leaves k links) (sym (kind_is leaves leaf built e)) h.1),
+  fits_is leaves leaf built letter (suffixed e suffixes) = along (with_each (form_in leaves leaf built letter e) suffixes).fits (form_in leaves leaf built letter e).fits (Fits leaves e) (with_each_fits (form_in leaves leaf built letter e) suffixes) (fits_is leaves leaf built letter e)
+  fits_is leaves leaf built letter (prefixed prefixes e) = holds_as (form_in leaves leaf built letter e) (kind_of leaves e) (Fits leaves e) (kind_is leaves leaf built letter e) (fits_is leaves leaf built letter e)
+  fits_is leaves leaf built letter (ignore es) = let all = each_holds leaves leaf built letter nothing es in (λ h. (all.0 h).1, λ h. all.1 (refl, h))
+  fits_is leaves leaf built letter (concat es) = let all = each_fits leaves leaf built letter nothing es in (λ h. (all.0 h).1, λ h. all.1 (refl, h))
+  fits_is leaves leaf built letter (chain e links) =
+      let first = fits_is leaves leaf built letter e in
+      let all = links_fit leaves leaf built letter (form_in leaves leaf built letter e) links in (
+        λ h. (first.0 (all.0 h).0, subst (λ k. ChainFits leaves k links) (kind_is leaves leaf built letter e) (all.0 h).1),
+        λ h. all.1 (first.1 h.0, subst (λ k. ChainFits leaves k links) (sym (kind_is leaves leaf built letter e)) h.1),
       )
-  fits_is leaves leaf built (only e contexts) =
-      let first = holds_as (form_in leaves leaf built e) (kind_of leaves e) (Fits leaves e) (kind_is leaves leaf built e) (fits_is leaves leaf built e) in
-      let all = contexts_hold leaves leaf built (form_in leaves leaf built e) contexts in (
+  fits_is leaves leaf built letter (only e contexts) =
+      let first = holds_as (form_in leaves leaf built letter e) (kind_of leaves e) (Fits leaves e) (kind_is leaves leaf built letter e) (fits_is leaves leaf built letter e) in
+      let all = contexts_hold leaves leaf built letter (form_in leaves leaf built letter e) contexts in (
         λ h. let a = first.0 (all.0 h).0 in (a.0, a.1, (all.0 h).1),
         λ h. all.1 (first.1 (h.0, h.1), h.2),
       )
-  fits_is leaves leaf built (rules optional groups) = let all = groups_hold leaves leaf built nothing groups in (λ h. (all.0 h).1, λ h. all.1 (refl, h))
-  fits_is leaves leaf built (steps e more) =
-      let first = fits_is leaves leaf built e in
-      let all = steps_fit leaves leaf built (form_in leaves leaf built e) more in (
-        λ h. (first.0 (all.0 h).0, subst (λ k. StepsFit leaves k more) (kind_is leaves leaf built e) (all.0 h).1),
-        λ h. all.1 (first.1 h.0, subst (λ k. StepsFit leaves k more) (sym (kind_is leaves leaf built e)) h.1),
+  fits_is leaves leaf built letter (rules optional groups) = let all = groups_hold leaves leaf built letter nothing groups in (λ h. (all.0 h).1, λ h. all.1 (refl, h))
+  fits_is leaves leaf built letter (steps e more) =
+      let first = fits_is leaves leaf built letter e in
+      let all = steps_fit leaves leaf built letter (form_in leaves leaf built letter e) more in (
+        λ h. (first.0 (all.0 h).0, subst (λ k. StepsFit leaves k more) (kind_is leaves leaf built letter e) (all.0 h).1),
+        λ h. all.1 (first.1 h.0, subst (λ k. StepsFit leaves k more) (sym (kind_is leaves leaf built letter e)) h.1),
       )
 
-  each_fits : {A : Type 0} (leaves : Leaves A) (leaf : A → ℕ) (built : A → Bool) (before : Form) (es : Terms A) → IsTrue (form_in_each leaves leaf built before es).fits ↔ (IsTrue before.fits × EachFits leaves es)
-  each_fits leaves leaf built before no_term = (λ h. (h, tt), λ h. h.0)
-  each_fits leaves leaf built before (then_term e es) =
-      let first = fits_is leaves leaf built e in
-      let pair = both_true before.fits (form_in leaves leaf built e).fits in
-      let rest = each_fits leaves leaf built (beside before (form_in leaves leaf built e)) es in (
+  each_fits : {A : Type 0} (leaves : Leaves A) (leaf : A → ℕ) (built letter : A → Bool) (before : Form) (es : Terms A) → IsTrue (form_in_each leaves leaf built letter before es).fits ↔ (IsTrue before.fits × EachFits leaves es)
+  each_fits leaves leaf built letter before no_term = (λ h. (h, tt), λ h. h.0)
+  each_fits leaves leaf built letter before (then_term e es) =
+      let first = fits_is leaves leaf built letter e in
+      let pair = both_true before.fits (form_in leaves leaf built letter e).fits in
+      let rest = each_fits leaves leaf built letter (beside before (form_in leaves leaf built letter e)) es in (
         λ h. let a = rest.0 h in let b = pair.0 a.0 in (b.0, (first.0 b.1, a.1)),
         λ h. rest.1 (pair.1 (h.0, first.1 h.1.0), h.1.1),
       )
 
-  each_holds : {A : Type 0} (leaves : Leaves A) (leaf : A → ℕ) (built : A → Bool) (before : Form) (es : Terms A) → Holds (form_in_each leaves leaf built before es) ↔ (Holds before × EachFitsAsLanguage leaves es)
-  each_holds leaves leaf built before no_term = (λ h. (h, tt), λ h. h.0)
-  each_holds leaves leaf built before (then_term e es) =
-      let first = holds_as (form_in leaves leaf built e) (kind_of leaves e) (Fits leaves e) (kind_is leaves leaf built e) (fits_is leaves leaf built e) in
-      let pair = beside_holds before (form_in leaves leaf built e) in
-      let rest = each_holds leaves leaf built (beside before (form_in leaves leaf built e)) es in (
+  each_holds : {A : Type 0} (leaves : Leaves A) (leaf : A → ℕ) (built letter : A → Bool) (before : Form) (es : Terms A) → Holds (form_in_each leaves leaf built letter before es) ↔ (Holds before × EachFitsAsLanguage leaves es)
+  each_holds leaves leaf built letter before no_term = (λ h. (h, tt), λ h. h.0)
+  each_holds leaves leaf built letter before (then_term e es) =
+      let first = holds_as (form_in leaves leaf built letter e) (kind_of leaves e) (Fits leaves e) (kind_is leaves leaf built letter e) (fits_is leaves leaf built letter e) in
+      let pair = beside_holds before (form_in leaves leaf built letter e) in
+      let rest = each_holds leaves leaf built letter (beside before (form_in leaves leaf built letter e)) es in (
         λ h. let a = rest.0 h in let b = pair.0 a.0 in let c = first.0 b.1 in (b.0, (c.0, c.1, a.1)),
         λ h. rest.1 (pair.1 (h.0, first.1 (h.1.0, h.1.1)), h.1.2),
       )
 
-  links_fit : {A : Type 0} (leaves : Leaves A) (leaf : A → ℕ) (built : A → Bool) (before : Form) (links : Links A) → IsTrue (form_in_links leaves leaf built before links).fits ↔ (IsTrue before.fits × ChainFits leaves before.kind links)
-  links_fit leaves leaf built before no_link = (λ h. (h, tt), λ h. h.0)
-  links_fit leaves leaf built before (or e links) =
-      let first = fits_is leaves leaf built e in
-      let pair = both_true before.fits (form_in leaves leaf built e).fits in
-      let rest = links_fit leaves leaf built (heavier (beside before (form_in leaves leaf built e)) 1) links in (
-        λ h. let a = rest.0 h in let b = pair.0 a.0 in (b.0, (first.0 b.1, subst (λ k. ChainFits leaves (both before.kind k) links) (kind_is leaves leaf built e) a.1)),
-        λ h. rest.1 (pair.1 (h.0, first.1 h.1.0), subst (λ k. ChainFits leaves (both before.kind k) links) (sym (kind_is leaves leaf built e)) h.1.1),
+  links_fit : {A : Type 0} (leaves : Leaves A) (leaf : A → ℕ) (built letter : A → Bool) (before : Form) (links : Links A) → IsTrue (form_in_links leaves leaf built letter before links).fits ↔ (IsTrue before.fits × ChainFits leaves before.kind links)
+  links_fit leaves leaf built letter before no_link = (λ h. (h, tt), λ h. h.0)
+  links_fit leaves leaf built letter before (or e links) =
+      let first = fits_is leaves leaf built letter e in
+      let pair = both_true before.fits (form_in leaves leaf built letter e).fits in
+      let rest = links_fit leaves leaf built letter (heavier (beside before (form_in leaves leaf built letter e)) 1) links in (
+        λ h. let a = rest.0 h in let b = pair.0 a.0 in (b.0, (first.0 b.1, subst (λ k. ChainFits leaves (both before.kind k) links) (kind_is leaves leaf built letter e) a.1)),
+        λ h. rest.1 (pair.1 (h.0, first.1 h.1.0), subst (λ k. ChainFits leaves (both before.kind k) links) (sym (kind_is leaves leaf built letter e)) h.1.1),
       )
-  links_fit leaves leaf built before (and e links) =
-      let first = holds_as (form_in leaves leaf built e) (kind_of leaves e) (Fits leaves e) (kind_is leaves leaf built e) (fits_is leaves leaf built e) in
-      let pair = beside_holds before (form_in leaves leaf built e) in
-      let rest = links_fit leaves leaf built (heavier (as_language (beside before (form_in leaves leaf built e))) 1) links in (
+  links_fit leaves leaf built letter before (and e links) =
+      let first = holds_as (form_in leaves leaf built letter e) (kind_of leaves e) (Fits leaves e) (kind_is leaves leaf built letter e) (fits_is leaves leaf built letter e) in
+      let pair = beside_holds before (form_in leaves leaf built letter e) in
+      let rest = links_fit leaves leaf built letter (heavier (as_language (beside before (form_in leaves leaf built letter e))) 1) links in (
         λ h. let a = rest.0 h in let b = pair.0 a.0 in let c = first.0 b.1 in let d = (holds_is before.fits before.kind).0 b.0 in
-            (d.0, (d.1, c.0, c.1, subst (λ k. ChainFits leaves (both before.kind k) links) (kind_is leaves leaf built e) a.1)),
-        λ h. rest.1 (pair.1 ((holds_is before.fits before.kind).1 (h.0, h.1.0), first.1 (h.1.1, h.1.2)), subst (λ k. ChainFits leaves (both before.kind k) links) (sym (kind_is leaves leaf built e)) h.1.3),
+            (d.0, (d.1, c.0, c.1, subst (λ k. ChainFits leaves (both before.kind k) links) (kind_is leaves leaf built letter e) a.1)),
+        λ h. rest.1 (pair.1 ((holds_is before.fits before.kind).1 (h.0, h.1.0), first.1 (h.1.1, h.1.2)), subst (λ k. ChainFits leaves (both before.kind k) links) (sym (kind_is leaves leaf built letter e)) h.1.3),
       )
-  links_fit leaves leaf built before (less e links) =
-      let first = holds_as (form_in leaves leaf built e) (kind_of leaves e) (Fits leaves e) (kind_is leaves leaf built e) (fits_is leaves leaf built e) in
-      let pair = beside_holds before (form_in leaves leaf built e) in
-      let rest = links_fit leaves leaf built (heavier (as_language (beside before (form_in leaves leaf built e))) 1) links in (
+  links_fit leaves leaf built letter before (less e links) =
+      let first = holds_as (form_in leaves leaf built letter e) (kind_of leaves e) (Fits leaves e) (kind_is leaves leaf built letter e) (fits_is leaves leaf built letter e) in
+      let pair = beside_holds before (form_in leaves leaf built letter e) in
+      let rest = links_fit leaves leaf built letter (heavier (as_language (beside before (form_in leaves leaf built letter e))) 1) links in (
         λ h. let a = rest.0 h in let b = pair.0 a.0 in let c = first.0 b.1 in let d = (holds_is before.fits before.kind).0 b.0 in
-            (d.0, (d.1, c.0, c.1, subst (λ k. ChainFits leaves (both before.kind k) links) (kind_is leaves leaf built e) a.1)),
-        λ h. rest.1 (pair.1 ((holds_is before.fits before.kind).1 (h.0, h.1.0), first.1 (h.1.1, h.1.2)), subst (λ k. ChainFits leaves (both before.kind k) links) (sym (kind_is leaves leaf built e)) h.1.3),
+            (d.0, (d.1, c.0, c.1, subst (λ k. ChainFits leaves (both before.kind k) links) (kind_is leaves leaf built letter e) a.1)),
+        λ h. rest.1 (pair.1 ((holds_is before.fits before.kind).1 (h.0, h.1.0), first.1 (h.1.1, h.1.2)), subst (λ k. ChainFits leaves (both before.kind k) links) (sym (kind_is leaves leaf built letter e)) h.1.3),
       )
 
-  steps_fit : {A : Type 0} (leaves : Leaves A) (leaf : A → ℕ) (built : A → Bool) (before : Form) (more : Steps A) → IsTrue (form_in_steps leaves leaf built before more).fits ↔ (IsTrue before.fits × StepsFit leaves before.kind more)
-  steps_fit leaves leaf built before no_step = (λ h. (h, tt), λ h. h.0)
-  steps_fit leaves leaf built before (cross_with e more) =
-      let first = holds_as (form_in leaves leaf built e) (kind_of leaves e) (Fits leaves e) (kind_is leaves leaf built e) (fits_is leaves leaf built e) in
-      let pair = beside_holds before (form_in leaves leaf built e) in
-      let rest = steps_fit leaves leaf built (with_kind (heavier (as_language (beside before (form_in leaves leaf built e))) 1) Relation) more in (
+  steps_fit : {A : Type 0} (leaves : Leaves A) (leaf : A → ℕ) (built letter : A → Bool) (before : Form) (more : Steps A) → IsTrue (form_in_steps leaves leaf built letter before more).fits ↔ (IsTrue before.fits × StepsFit leaves before.kind more)
+  steps_fit leaves leaf built letter before no_step = (λ h. (h, tt), λ h. h.0)
+  steps_fit leaves leaf built letter before (cross_with e more) =
+      let first = holds_as (form_in leaves leaf built letter e) (kind_of leaves e) (Fits leaves e) (kind_is leaves leaf built letter e) (fits_is leaves leaf built letter e) in
+      let pair = beside_holds before (form_in leaves leaf built letter e) in
+      let rest = steps_fit leaves leaf built letter (with_kind (heavier (as_language (beside before (form_in leaves leaf built letter e))) 1) Relation) more in (
         λ h. let a = rest.0 h in let b = pair.0 a.0 in let c = first.0 b.1 in let d = (holds_is before.fits before.kind).0 b.0 in (d.0, (d.1, c.0, c.1, a.1)),
         λ h. rest.1 (pair.1 ((holds_is before.fits before.kind).1 (h.0, h.1.0), first.1 (h.1.1, h.1.2)), h.1.3),
       )
-  steps_fit leaves leaf built before (then e more) =
-      let first = fits_is leaves leaf built e in
-      let pair = both_true before.fits (form_in leaves leaf built e).fits in
-      let rest = steps_fit leaves leaf built (heavier (beside before (form_in leaves leaf built e)) 1) more in (
-        λ h. let a = rest.0 h in let b = pair.0 a.0 in (b.0, (first.0 b.1, subst (λ k. StepsFit leaves (both before.kind k) more) (kind_is leaves leaf built e) a.1)),
-        λ h. rest.1 (pair.1 (h.0, first.1 h.1.0), subst (λ k. StepsFit leaves (both before.kind k) more) (sym (kind_is leaves leaf built e)) h.1.1),
+  steps_fit leaves leaf built letter before (then e more) =
+      let first = fits_is leaves leaf built letter e in
+      let pair = both_true before.fits (form_in leaves leaf built letter e).fits in
+      let rest = steps_fit leaves leaf built letter (heavier (beside before (form_in leaves leaf built letter e)) 1) more in (
+        λ h. let a = rest.0 h in let b = pair.0 a.0 in (b.0, (first.0 b.1, subst (λ k. StepsFit leaves (both before.kind k) more) (kind_is leaves leaf built letter e) a.1)),
+        λ h. rest.1 (pair.1 (h.0, first.1 h.1.0), subst (λ k. StepsFit leaves (both before.kind k) more) (sym (kind_is leaves leaf built letter e)) h.1.1),
       )
 
-  contexts_hold : {A : Type 0} (leaves : Leaves A) (leaf : A → ℕ) (built : A → Bool) (before : Form) (contexts : Contexts A) → Holds (form_in_contexts leaves leaf built before contexts) ↔ (Holds before × ContextsFit leaves contexts)
-  contexts_hold leaves leaf built before no_context = (λ h. (h, tt), λ h. h.0)
-  contexts_hold leaves leaf built before (between l r contexts) =
-      let left = holds_as (form_in leaves leaf built l) (kind_of leaves l) (Fits leaves l) (kind_is leaves leaf built l) (fits_is leaves leaf built l) in
-      let right = holds_as (form_in leaves leaf built r) (kind_of leaves r) (Fits leaves r) (kind_is leaves leaf built r) (fits_is leaves leaf built r) in
-      let parts = beside_holds (form_in leaves leaf built l) (form_in leaves leaf built r) in
-      let pair = beside_holds before (beside (form_in leaves leaf built l) (form_in leaves leaf built r)) in
-      let rest = contexts_hold leaves leaf built (beside before (beside (form_in leaves leaf built l) (form_in leaves leaf built r))) contexts in (
+  contexts_hold : {A : Type 0} (leaves : Leaves A) (leaf : A → ℕ) (built letter : A → Bool) (before : Form) (contexts : Contexts A) → Holds (form_in_contexts leaves leaf built letter before contexts) ↔ (Holds before × ContextsFit leaves contexts)
+  contexts_hold leaves leaf built letter before no_context = (λ h. (h, tt), λ h. h.0)
+  contexts_hold leaves leaf built letter before (between l r contexts) =
+      let left = holds_as (form_in leaves leaf built letter l) (kind_of leaves l) (Fits leaves l) (kind_is leaves leaf built letter l) (fits_is leaves leaf built letter l) in
+      let right = holds_as (form_in leaves leaf built letter r) (kind_of leaves r) (Fits leaves r) (kind_is leaves leaf built letter r) (fits_is leaves leaf built letter r) in
+      let parts = beside_holds (form_in leaves leaf built letter l) (form_in leaves leaf built letter r) in
+      let pair = beside_holds before (beside (form_in leaves leaf built letter l) (form_in leaves leaf built letter r)) in
+      let rest = contexts_hold leaves leaf built letter (beside before (beside (form_in leaves leaf built letter l) (form_in leaves leaf built letter r))) contexts in (
         λ h. let a = rest.0 h in let b = pair.0 a.0 in let c = parts.0 b.1 in let d = left.0 c.0 in let e = right.0 c.1 in (b.0, (d.0, d.1, e.0, e.1, a.1)),
         λ h. rest.1 (pair.1 (h.0, parts.1 (left.1 (h.1.0, h.1.1), right.1 (h.1.2, h.1.3))), h.1.4),
       )
 
-  mappings_hold : {A : Type 0} (leaves : Leaves A) (leaf : A → ℕ) (built : A → Bool) (before : Form) (maps : Mappings A) → Holds (form_in_mappings leaves leaf built before maps) ↔ (Holds before × MappingsFit leaves maps)
-  mappings_hold leaves leaf built before no_mapping = (λ h. (h, tt), λ h. h.0)
-  mappings_hold leaves leaf built before (plain l r maps) =
-      let left = holds_as (form_in leaves leaf built l) (kind_of leaves l) (Fits leaves l) (kind_is leaves leaf built l) (fits_is leaves leaf built l) in
-      let right = holds_as (form_in leaves leaf built r) (kind_of leaves r) (Fits leaves r) (kind_is leaves leaf built r) (fits_is leaves leaf built r) in
-      let parts = beside_holds (form_in leaves leaf built l) (form_in leaves leaf built r) in
-      let pair = beside_holds before (beside (form_in leaves leaf built l) (form_in leaves leaf built r)) in
-      let rest = mappings_hold leaves leaf built (beside before (beside (form_in leaves leaf built l) (form_in leaves leaf built r))) maps in (
+  mappings_hold : {A : Type 0} (leaves : Leaves A) (leaf : A → ℕ) (built letter : A → Bool) (before : Form) (maps : Mappings A) → Holds (form_in_mappings leaves leaf built letter before maps) ↔ (Holds before × MappingsFit leaves maps)
+  mappings_hold leaves leaf built letter before no_mapping = (λ h. (h, tt), λ h. h.0)
+  mappings_hold leaves leaf built letter before (plain l r maps) =
+      let left = holds_as (form_in leaves leaf built letter l) (kind_of leaves l) (Fits leaves l) (kind_is leaves leaf built letter l) (fits_is leaves leaf built letter l) in
+      let right = holds_as (form_in leaves leaf built letter r) (kind_of leaves r) (Fits leaves r) (kind_is leaves leaf built letter r) (fits_is leaves leaf built letter r) in
+      let parts = beside_holds (form_in leaves leaf built letter l) (form_in leaves leaf built letter r) in
+      let pair = beside_holds before (beside (form_in leaves leaf built letter l) (form_in leaves leaf built letter r)) in
+      let rest = mappings_hold leaves leaf built letter (beside before (beside (form_in leaves leaf built letter l) (form_in leaves leaf built letter r))) maps in (
         λ h. let a = rest.0 h in let b = pair.0 a.0 in let c = parts.0 b.1 in let d = left.0 c.0 in let e = right.0 c.1 in (b.0, (d.0, d.1, e.0, e.1, a.1)),
         λ h. rest.1 (pair.1 (h.0, parts.1 (left.1 (h.1.0, h.1.1), right.1 (h.1.2, h.1.3))), h.1.4),
       )
-  mappings_hold leaves leaf built before (markup l m r maps) =
-      let left = holds_as (form_in leaves leaf built l) (kind_of leaves l) (Fits leaves l) (kind_is leaves leaf built l) (fits_is leaves leaf built l) in
-      let middle = holds_as (form_in leaves leaf built m) (kind_of leaves m) (Fits leaves m) (kind_is leaves leaf built m) (fits_is leaves leaf built m) in
-      let right = holds_as (form_in leaves leaf built r) (kind_of leaves r) (Fits leaves r) (kind_is leaves leaf built r) (fits_is leaves leaf built r) in
-      let later = beside_holds (form_in leaves leaf built m) (form_in leaves leaf built r) in
-      let parts = beside_holds (form_in leaves leaf built l) (beside (form_in leaves leaf built m) (form_in leaves leaf built r)) in
-      let pair = beside_holds before (beside (form_in leaves leaf built l) (beside (form_in leaves leaf built m) (form_in leaves leaf built r))) in
-      let rest = mappings_hold leaves leaf built (beside before (beside (form_in leaves leaf built l) (beside (form_in leaves leaf built m) (form_in leaves leaf built r)))) maps in (
+  mappings_hold leaves leaf built letter before (markup l m r maps) =
+      let left = holds_as (form_in leaves leaf built letter l) (kind_of leaves l) (Fits leaves l) (kind_is leaves leaf built letter l) (fits_is leaves leaf built letter l) in
+      let middle = holds_as (form_in leaves leaf built letter m) (kind_of leaves m) (Fits leaves m) (kind_is leaves leaf built letter m) (fits_is leaves leaf built letter m) in
+      let right = holds_as (form_in leaves leaf built letter r) (kind_of leaves r) (Fits leaves r) (kind_is leaves leaf built letter r) (fits_is leaves leaf built letter r) in
+      let later = beside_holds (form_in leaves leaf built letter m) (form_in leaves leaf built letter r) in
+      let parts = beside_holds (form_in leaves leaf built letter l) (beside (form_in leaves leaf built letter m) (form_in leaves leaf built letter r)) in
+      let pair = beside_holds before (beside (form_in leaves leaf built letter l) (beside (form_in leaves leaf built letter m) (form_in leaves leaf built letter r))) in
+      let rest = mappings_hold leaves leaf built letter (beside before (beside (form_in leaves leaf built letter l) (beside (form_in leaves leaf built letter m) (form_in leaves leaf built letter r)))) maps in (
         λ h. let a = rest.0 h in let b = pair.0 a.0 in let c = parts.0 b.1 in let d = left.0 c.0 in let n = later.0 c.1 in let o = middle.0 n.0 in let e = right.0 n.1 in (b.0, (d.0, d.1, o.0, o.1, e.0, e.1, a.1)),
         λ h. rest.1 (pair.1 (h.0, parts.1 (left.1 (h.1.0, h.1.1), later.1 (middle.1 (h.1.2, h.1.3), right.1 (h.1.4, h.1.5)))), h.1.6),
       )
-  mappings_hold leaves leaf built before (insert r maps) =
-      let right = holds_as (form_in leaves leaf built r) (kind_of leaves r) (Fits leaves r) (kind_is leaves leaf built r) (fits_is leaves leaf built r) in
-      let pair = beside_holds before (form_in leaves leaf built r) in
-      let rest = mappings_hold leaves leaf built (beside before (form_in leaves leaf built r)) maps in (
+  mappings_hold leaves leaf built letter before (insert r maps) =
+      let right = holds_as (form_in leaves leaf built letter r) (kind_of leaves r) (Fits leaves r) (kind_is leaves leaf built letter r) (fits_is leaves leaf built letter r) in
+      let pair = beside_holds before (form_in leaves leaf built letter r) in
+      let rest = mappings_hold leaves leaf built letter (beside before (form_in leaves leaf built letter r)) maps in (
         λ h. let a = rest.0 h in let b = pair.0 a.0 in let e = right.0 b.1 in (b.0, (e.0, e.1, a.1)),
         λ h. rest.1 (pair.1 (h.0, right.1 (h.1.0, h.1.1)), h.1.2),
       )
 
-  groups_hold : {A : Type 0} (leaves : Leaves A) (leaf : A → ℕ) (built : A → Bool) (before : Form) (groups : Groups A) → Holds (form_in_groups leaves leaf built before groups) ↔ (Holds before × GroupsFit leaves groups)
-  groups_hold leaves leaf built before no_group = (λ h. (h, tt), λ h. h.0)
-  groups_hold leaves leaf built before (then_group maps side contexts groups) =
-      let first = mappings_hold leaves leaf built before maps in
-      let second = contexts_hold leaves leaf built (form_in_mappings leaves leaf built before maps) contexts in
-      let rest = groups_hold leaves leaf built (form_in_contexts leaves leaf built (form_in_mappings leaves leaf built before maps) contexts) groups in (
+  groups_hold : {A : Type 0} (leaves : Leaves A) (leaf : A → ℕ) (built letter : A → Bool) (before : Form) (groups : Groups A) → Holds (form_in_groups leaves leaf built letter before groups) ↔ (Holds before × GroupsFit leaves groups)
+  groups_hold leaves leaf built letter before no_group = (λ h. (h, tt), λ h. h.0)
+  groups_hold leaves leaf built letter before (then_group maps side contexts groups) =
+      let first = mappings_hold leaves leaf built letter before maps in
+      let second = contexts_hold leaves leaf built letter (form_in_mappings leaves leaf built letter before maps) contexts in
+      let rest = groups_hold leaves leaf built letter (form_in_contexts leaves leaf built letter (form_in_mappings leaves leaf built letter before maps) contexts) groups in (
         λ h. let a = rest.0 h in let b = second.0 a.0 in let c = first.0 b.0 in (c.0, (c.1, b.1, a.1)),
         λ h. rest.1 (second.1 (first.1 (h.0, h.1.0), h.1.1), h.1.2),
       )

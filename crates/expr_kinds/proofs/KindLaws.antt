@@ -31,47 +31,47 @@ with_each_kind f [] = refl
 with_each_kind f (s ∷ ss) = with_each_kind (behind f s) ss ∙ ap (λ k. with_suffixes k ss) (behind_kind f s)
 
 mutual
-  pub kind_is : {A : Type 0} (leaves : Leaves A) (leaf : A → ℕ) (built : A → Bool) (t : Term A) → (form_in leaves leaf built t).kind ≡ kind_of leaves t
-  kind_is leaves leaf built empty = refl
-  kind_is leaves leaf built any = refl
-  kind_is leaves leaf built edge = refl
-  kind_is leaves leaf built (atom a) = refl
-  kind_is leaves leaf built (letters all) = refl
-  kind_is leaves leaf built (group e) = kind_is leaves leaf built e
-  kind_is leaves leaf built (maybe e) = kind_is leaves leaf built e
-  kind_is leaves leaf built (not_one n e) = kind_is leaves leaf built e
-  kind_is leaves leaf built (cross e f) = refl
-  kind_is leaves leaf built (suffixed e suffixes) = with_each_kind (form_in leaves leaf built e) suffixes ∙ ap (λ k. with_suffixes k suffixes) (kind_is leaves leaf built e)
-  kind_is leaves leaf built (prefixed prefixes e) = kind_is leaves leaf built e
-  kind_is leaves leaf built (ignore es) = each_kind leaves leaf built nothing es
-  kind_is leaves leaf built (concat es) = each_kind leaves leaf built nothing es
-  kind_is leaves leaf built (chain e links) = links_kind leaves leaf built (form_in leaves leaf built e) links ∙ ap (λ k. kind_of_chain leaves k links) (kind_is leaves leaf built e)
-  kind_is leaves leaf built (only e contexts) = contexts_kind leaves leaf built (form_in leaves leaf built e) contexts ∙ ap (λ k. both k (kind_of_contexts leaves contexts)) (kind_is leaves leaf built e)
-  kind_is leaves leaf built (rules optional groups) = refl
-  kind_is leaves leaf built (steps e more) = steps_kind leaves leaf built (form_in leaves leaf built e) more ∙ ap (λ k. kind_of_steps leaves k more) (kind_is leaves leaf built e)
+  pub kind_is : {A : Type 0} (leaves : Leaves A) (leaf : A → ℕ) (built letter : A → Bool) (t : Term A) → (form_in leaves leaf built letter t).kind ≡ kind_of leaves t
+  kind_is leaves leaf built letter empty = refl
+  kind_is leaves leaf built letter any = refl
+  kind_is leaves leaf built letter edge = refl
+  kind_is leaves leaf built letter (atom a) = refl
+  kind_is leaves leaf built letter (letters all) = refl
+  kind_is leaves leaf built letter (group e) = kind_is leaves leaf built letter e
+  kind_is leaves leaf built letter (maybe e) = kind_is leaves leaf built letter e
+  kind_is leaves leaf built letter (not_one n e) = kind_is leaves leaf built letter e
+  kind_is leaves leaf built letter (cross e f) = refl
+  kind_is leaves leaf built letter (suffixed e suffixes) = with_each_kind (form_in leaves leaf built letter e) suffixes ∙ ap (λ k. with_suffixes k suffixes) (kind_is leaves leaf built letter e)
+  kind_is leaves leaf built letter (prefixed prefixes e) = kind_is leaves leaf built letter e
+  kind_is leaves leaf built letter (ignore es) = each_kind leaves leaf built letter nothing es
+  kind_is leaves leaf built letter (concat es) = each_kind leaves leaf built letter nothing es
+  kind_is leaves leaf built letter (chain e links) = links_kind leaves leaf built letter (form_in leaves leaf built letter e) links ∙ ap (λ k. kind_of_chain leaves k links) (kind_is leaves leaf built letter e)
+  kind_is leaves leaf built letter (only e contexts) = contexts_kind leaves leaf built letter (form_in leaves leaf built letter e) contexts ∙ ap (λ k. both k (kind_of_contexts leaves contexts)) (kind_is leaves leaf built letter e)
+  kind_is leaves leaf built letter (rules optional groups) = refl
+  kind_is leaves leaf built letter (steps e more) = steps_kind leaves leaf built letter (form_in leaves leaf built letter e) more ∙ ap (λ k. kind_of_steps leaves k more) (kind_is leaves leaf built letter e)
 
-  each_kind : {A : Type 0} (leaves : Leaves A) (leaf : A → ℕ) (built : A → Bool) (before : Form) (es : Terms A) → (form_in_each leaves leaf built before es).kind ≡ both before.kind (kind_of_each leaves es)
-  each_kind leaves leaf built before no_term = both_end before.kind
-  each_kind leaves leaf built before (then_term e es) =
-      each_kind leaves leaf built (beside before (form_in leaves leaf built e)) es
-      ∙ ap (λ k. both (both before.kind k) (kind_of_each leaves es)) (kind_is leaves leaf built e)
+  each_kind : {A : Type 0} (leaves : Leaves A) (leaf : A → ℕ) (built letter : A → Bool) (before : Form) (es : Terms A) → (form_in_each leaves leaf built letter before es).kind ≡ both before.kind (kind_of_each leaves es)
+  each_kind leaves leaf built letter before no_term = both_end before.kind
+  each_kind leaves leaf built letter before (then_term e es) =
+      each_kind leaves leaf built letter (beside before (form_in leaves leaf built letter e)) es
+      ∙ ap (λ k. both (both before.kind k) (kind_of_each leaves es)) (kind_is leaves leaf built letter e)
       ∙ both_assoc before.kind (kind_of leaves e) (kind_of_each leaves es)
 
-  links_kind : {A : Type 0} (leaves : Leaves A) (leaf : A → ℕ) (built : A → Bool) (before : Form) (links : Links A) → (form_in_links leaves leaf built before links).kind ≡ kind_of_chain leaves before.kind links
-  links_kind leaves leaf built before no_link = refl
-  links_kind leaves leaf built before (or e links) = links_kind leaves leaf built (heavier (beside before (form_in leaves leaf built e)) 1) links ∙ ap (λ k. kind_of_chain leaves (both before.kind k) links) (kind_is leaves leaf built e)
-  links_kind leaves leaf built before (and e links) = links_kind leaves leaf built (heavier (as_language (beside before (form_in leaves leaf built e))) 1) links ∙ ap (λ k. kind_of_chain leaves (both before.kind k) links) (kind_is leaves leaf built e)
-  links_kind leaves leaf built before (less e links) = links_kind leaves leaf built (heavier (as_language (beside before (form_in leaves leaf built e))) 1) links ∙ ap (λ k. kind_of_chain leaves (both before.kind k) links) (kind_is leaves leaf built e)
+  links_kind : {A : Type 0} (leaves : Leaves A) (leaf : A → ℕ) (built letter : A → Bool) (before : Form) (links : Links A) → (form_in_links leaves leaf built letter before links).kind ≡ kind_of_chain leaves before.kind links
+  links_kind leaves leaf built letter before no_link = refl
+  links_kind leaves leaf built letter before (or e links) = links_kind leaves leaf built letter (heavier (beside before (form_in leaves leaf built letter e)) 1) links ∙ ap (λ k. kind_of_chain leaves (both before.kind k) links) (kind_is leaves leaf built letter e)
+  links_kind leaves leaf built letter before (and e links) = links_kind leaves leaf built letter (heavier (as_language (beside before (form_in leaves leaf built letter e))) 1) links ∙ ap (λ k. kind_of_chain leaves (both before.kind k) links) (kind_is leaves leaf built letter e)
+  links_kind leaves leaf built letter before (less e links) = links_kind leaves leaf built letter (heavier (as_language (beside before (form_in leaves leaf built letter e))) 1) links ∙ ap (λ k. kind_of_chain leaves (both before.kind k) links) (kind_is leaves leaf built letter e)
 
-  steps_kind : {A : Type 0} (leaves : Leaves A) (leaf : A → ℕ) (built : A → Bool) (before : Form) (more : Steps A) → (form_in_steps leaves leaf built before more).kind ≡ kind_of_steps leaves before.kind more
-  steps_kind leaves leaf built before no_step = refl
-  steps_kind leaves leaf built before (cross_with e more) = steps_kind leaves leaf built (with_kind (heavier (as_language (beside before (form_in leaves leaf built e))) 1) Relation) more
-  steps_kind leaves leaf built before (then e more) = steps_kind leaves leaf built (heavier (beside before (form_in leaves leaf built e)) 1) more ∙ ap (λ k. kind_of_steps leaves (both before.kind k) more) (kind_is leaves leaf built e)
+  steps_kind : {A : Type 0} (leaves : Leaves A) (leaf : A → ℕ) (built letter : A → Bool) (before : Form) (more : Steps A) → (form_in_steps leaves leaf built letter before more).kind ≡ kind_of_steps leaves before.kind more
+  steps_kind leaves leaf built letter before no_step = refl
+  steps_kind leaves leaf built letter before (cross_with e more) = steps_kind leaves leaf built letter (with_kind (heavier (as_language (beside before (form_in leaves leaf built letter e))) 1) Relation) more
+  steps_kind leaves leaf built letter before (then e more) = steps_kind leaves leaf built letter (heavier (beside before (form_in leaves leaf built letter e)) 1) more ∙ ap (λ k. kind_of_steps leaves (both before.kind k) more) (kind_is leaves leaf built letter e)
 
-  contexts_kind : {A : Type 0} (leaves : Leaves A) (leaf : A → ℕ) (built : A → Bool) (before : Form) (contexts : Contexts A) → (form_in_contexts leaves leaf built before contexts).kind ≡ both before.kind (kind_of_contexts leaves contexts)
-  contexts_kind leaves leaf built before no_context = both_end before.kind
-  contexts_kind leaves leaf built before (between l r contexts) =
-      contexts_kind leaves leaf built (beside before (beside (form_in leaves leaf built l) (form_in leaves leaf built r))) contexts
-      ∙ ap (λ k. both (both before.kind (both k (form_in leaves leaf built r).kind)) (kind_of_contexts leaves contexts)) (kind_is leaves leaf built l)
-      ∙ ap (λ k. both (both before.kind (both (kind_of leaves l) k)) (kind_of_contexts leaves contexts)) (kind_is leaves leaf built r)
+  contexts_kind : {A : Type 0} (leaves : Leaves A) (leaf : A → ℕ) (built letter : A → Bool) (before : Form) (contexts : Contexts A) → (form_in_contexts leaves leaf built letter before contexts).kind ≡ both before.kind (kind_of_contexts leaves contexts)
+  contexts_kind leaves leaf built letter before no_context = both_end before.kind
+  contexts_kind leaves leaf built letter before (between l r contexts) =
+      contexts_kind leaves leaf built letter (beside before (beside (form_in leaves leaf built letter l) (form_in leaves leaf built letter r))) contexts
+      ∙ ap (λ k. both (both before.kind (both k (form_in leaves leaf built letter r).kind)) (kind_of_contexts leaves contexts)) (kind_is leaves leaf built letter l)
+      ∙ ap (λ k. both (both before.kind (both (kind_of leaves l) k)) (kind_of_contexts leaves contexts)) (kind_is leaves leaf built letter r)
       ∙ both_assoc before.kind (both (kind_of leaves l) (kind_of leaves r)) (kind_of_contexts leaves contexts)

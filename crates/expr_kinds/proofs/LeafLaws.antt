@@ -1,9 +1,9 @@
 -- Kinds and fits are told by what is known of the leaves that stand in an expression.
-use Rattle.std.proofs.Common.{◌≡◌, Bool, true, false, ◌&&◌, IsTrue, [], ◌∷◌, cond, refl, ap}
+use Rattle.std.proofs.Common.{◌≡◌, Bool, true, false, ◌&&◌, IsTrue, List, [], ◌∷◌, cond, refl, ap}
 use Rattle.std.specs.List.{list_all}
-use Rattle.regex_ast.specs.Terms.{Term, Terms, Links, Contexts, Steps, empty, any, edge, atom, letters, group, maybe, not_one, cross, suffixed, prefixed, ignore, concat, chain, only, rules, steps, no_term, then_term, no_link, or, and, less, no_context, between, no_step, cross_with, then}
-use Rattle.expr_kinds.specs.Built.{IsBuilt, AreBuilt, LinksAreBuilt, ContextsAreBuilt, StepsAreBuilt}
-use Rattle.expr_kinds.specs.Kinds.{Leaves, both, half, are_alike, with_suffixes, kind_of, kind_of_each, kind_of_chain, kind_of_steps, kind_of_contexts, Fits, EachFits, EachFitsAsLanguage, ChainFits, StepsFit, ContextsFit}
+use Rattle.regex_ast.specs.Terms.{Term, Terms, Links, Contexts, Steps, Mappings, Groups, empty, any, edge, atom, letters, group, maybe, not_one, cross, suffixed, prefixed, ignore, concat, chain, only, rules, steps, no_term, then_term, no_link, or, and, less, no_context, between, no_step, cross_with, then, no_mapping, plain, markup, insert, no_group, then_group}
+use Rattle.expr_kinds.specs.Built.{IsBuilt, AreBuilt, LinksAreBuilt, ContextsAreBuilt, StepsAreBuilt, MappingsAreBuilt, GroupsAreBuilt}
+use Rattle.expr_kinds.specs.Kinds.{Leaves, both, half, are_alike, with_suffixes, kind_of, kind_of_each, kind_of_chain, kind_of_steps, kind_of_contexts, Fits, EachFits, EachFitsAsLanguage, ChainFits, StepsFit, ContextsFit, MappingsFit, GroupsFit}
 use Rattle.expr_kinds.specs.declared.half.Half.{Half}
 use Rattle.expr_kinds.specs.declared.half.Half.TheVariants.{Nothing, One, Longer}
 use Rattle.expr_kinds.specs.declared.form.Kind.{Kind}
@@ -123,7 +123,7 @@ module _ {A : Type 0} (here there : Leaves A) (passes : A → Bool) (kinds : (a 
     fits_alike (only e contexts) h =
         let k = kind_alike e h.0 in let a = fits_alike e h.0 in let b = contexts_fit contexts h.1 in
         λ i. Is (k i) × a i × b i
-    fits_alike (rules optional groups) h = absurd h
+    fits_alike (rules optional groups) h = groups_fit groups h
     fits_alike (steps e more) h =
         let a = fits_alike e h.0 in
         let b = steps_fit more h.1 (kind_of there e) (kind_of here e) (kind_alike e h.0) in
@@ -171,3 +171,22 @@ module _ {A : Type 0} (here there : Leaves A) (passes : A → Bool) (kinds : (a 
         let k = kind_alike e h.0 in let a = fits_alike e h.0 in let j = kind_alike d h.1 in let b = fits_alike d h.1 in
         let c = contexts_fit contexts h.2 in
         λ i. Is (k i) × a i × Is (j i) × b i × c i
+
+    mappings_fit : (maps : Mappings A) → MappingsAreBuilt passes maps → MappingsFit there maps ≡ MappingsFit here maps
+    mappings_fit no_mapping h = refl
+    mappings_fit (plain e d maps) h =
+        let k = kind_alike e h.1 in let a = fits_alike e h.1 in let j = kind_alike d h.2 in let b = fits_alike d h.2 in
+        let c = mappings_fit maps h.3 in
+        λ i. Is (k i) × a i × Is (j i) × b i × c i
+    mappings_fit (markup e d f maps) h =
+        let k = kind_alike e h.1 in let a = fits_alike e h.1 in let j = kind_alike d h.2 in let b = fits_alike d h.2 in
+        let l = kind_alike f h.3 in let c = fits_alike f h.3 in
+        let more = mappings_fit maps h.4 in
+        λ i. Is (k i) × a i × Is (j i) × b i × Is (l i) × c i × more i
+    mappings_fit (insert d maps) h = absurd h
+
+    groups_fit : (groups : Groups A) → GroupsAreBuilt passes groups → GroupsFit there groups ≡ GroupsFit here groups
+    groups_fit no_group h = refl
+    groups_fit (then_group maps side contexts groups) h =
+        let a = mappings_fit maps h.0 in let b = contexts_fit contexts h.1 in let c = groups_fit groups h.2 in
+        λ i. a i × b i × c i

@@ -5,3 +5,4 @@ pub mod FitLaws
 pub mod WeightLaws
 pub mod BuiltLaws
 pub mod LeafLaws
+pub mod Ruleless

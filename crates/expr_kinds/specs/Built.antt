@@ -1,61 +1,106 @@
--- The expressions whose networks are built: those without a set of rules, with such leaves as can be built.
+-- The expressions whose networks are built: those without an insertion, with such leaves, sets of rules and centres as can be built.
 use Rattle.std.specs.Prelude.{Bool, IsTrue}
 use Rattle.std.specs.List.{list_all}
-use Rattle.regex_ast.specs.Terms.{Term, Terms, Links, Contexts, Steps, empty, any, edge, atom, letters, group, maybe, not_one, cross, suffixed, prefixed, ignore, concat, chain, only, rules, steps, no_term, then_term, no_link, or, and, less, no_context, between, no_step, cross_with, then}
+use Rattle.regex_ast.specs.Terms.{Term, Terms, Links, Contexts, Steps, Mappings, Groups, empty, any, edge, atom, letters, group, maybe, not_one, cross, suffixed, prefixed, ignore, concat, chain, only, rules, steps, no_term, then_term, no_link, or, and, less, no_context, between, no_step, cross_with, then, no_mapping, plain, markup, insert, no_group, then_group}
 
-abbrev mutual
-  -- no set of rules stands in it, each of its leaves passes the first test, and each symbol in braces the second: no name
-  -- may stand there
-  pub IsBuiltBy : {A : Type 0} → (A → Bool) → (A → Bool) → Term A → Type 0
-  IsBuiltBy leaf letter empty = Unit {0}
-  IsBuiltBy leaf letter any = Unit {0}
-  IsBuiltBy leaf letter edge = Unit {0}
-  IsBuiltBy leaf letter (atom a) = IsTrue (leaf a)
-  IsBuiltBy leaf letter (letters all) = IsTrue (list_all letter all)
-  IsBuiltBy leaf letter (group e) = IsBuiltBy leaf letter e
-  IsBuiltBy leaf letter (maybe e) = IsBuiltBy leaf letter e
-  IsBuiltBy leaf letter (not_one n e) = IsBuiltBy leaf letter e
-  IsBuiltBy leaf letter (cross e f) = IsBuiltBy leaf letter e × IsBuiltBy leaf letter f
-  IsBuiltBy leaf letter (suffixed e suffixes) = IsBuiltBy leaf letter e
-  IsBuiltBy leaf letter (prefixed prefixes e) = IsBuiltBy leaf letter e
-  IsBuiltBy leaf letter (ignore es) = AreBuiltBy leaf letter es
-  IsBuiltBy leaf letter (concat es) = AreBuiltBy leaf letter es
-  IsBuiltBy leaf letter (chain e links) = IsBuiltBy leaf letter e × LinksAreBuiltBy leaf letter links
-  IsBuiltBy leaf letter (only e contexts) = IsBuiltBy leaf letter e × ContextsAreBuiltBy leaf letter contexts
-  IsBuiltBy leaf letter (rules optional groups) = ⊥
-  IsBuiltBy leaf letter (steps e more) = IsBuiltBy leaf letter e × StepsAreBuiltBy leaf letter more
+-- each leaf passes the first test, and each symbol in braces the second (no name may stand there); a set of rules is built by its parts
+-- as the third says, and each of its centres passes the last
+module _ {A : Type 0} (leaf letter : A → Bool) (Rules : Type 0 → Type 0) (Centre : Term A → Type 0) where
+  abbrev mutual
+    pub IsBuiltWith : Term A → Type 0
+    IsBuiltWith empty = Unit {0}
+    IsBuiltWith any = Unit {0}
+    IsBuiltWith edge = Unit {0}
+    IsBuiltWith (atom a) = IsTrue (leaf a)
+    IsBuiltWith (letters all) = IsTrue (list_all letter all)
+    IsBuiltWith (group e) = IsBuiltWith e
+    IsBuiltWith (maybe e) = IsBuiltWith e
+    IsBuiltWith (not_one n e) = IsBuiltWith e
+    IsBuiltWith (cross e f) = IsBuiltWith e × IsBuiltWith f
+    IsBuiltWith (suffixed e suffixes) = IsBuiltWith e
+    IsBuiltWith (prefixed prefixes e) = IsBuiltWith e
+    IsBuiltWith (ignore es) = AreBuiltWith es
+    IsBuiltWith (concat es) = AreBuiltWith es
+    IsBuiltWith (chain e links) = IsBuiltWith e × LinksAreBuiltWith links
+    IsBuiltWith (only e contexts) = IsBuiltWith e × ContextsAreBuiltWith contexts
+    IsBuiltWith (rules optional groups) = Rules (GroupsAreBuiltWith groups)
+    IsBuiltWith (steps e more) = IsBuiltWith e × StepsAreBuiltWith more
 
-  pub AreBuiltBy : {A : Type 0} → (A → Bool) → (A → Bool) → Terms A → Type 0
-  AreBuiltBy leaf letter no_term = Unit {0}
-  AreBuiltBy leaf letter (then_term e es) = IsBuiltBy leaf letter e × AreBuiltBy leaf letter es
+    pub AreBuiltWith : Terms A → Type 0
+    AreBuiltWith no_term = Unit {0}
+    AreBuiltWith (then_term e es) = IsBuiltWith e × AreBuiltWith es
 
-  pub LinksAreBuiltBy : {A : Type 0} → (A → Bool) → (A → Bool) → Links A → Type 0
-  LinksAreBuiltBy leaf letter no_link = Unit {0}
-  LinksAreBuiltBy leaf letter (or e links) = IsBuiltBy leaf letter e × LinksAreBuiltBy leaf letter links
-  LinksAreBuiltBy leaf letter (and e links) = IsBuiltBy leaf letter e × LinksAreBuiltBy leaf letter links
-  LinksAreBuiltBy leaf letter (less e links) = IsBuiltBy leaf letter e × LinksAreBuiltBy leaf letter links
+    pub LinksAreBuiltWith : Links A → Type 0
+    LinksAreBuiltWith no_link = Unit {0}
+    LinksAreBuiltWith (or e links) = IsBuiltWith e × LinksAreBuiltWith links
+    LinksAreBuiltWith (and e links) = IsBuiltWith e × LinksAreBuiltWith links
+    LinksAreBuiltWith (less e links) = IsBuiltWith e × LinksAreBuiltWith links
 
-  pub ContextsAreBuiltBy : {A : Type 0} → (A → Bool) → (A → Bool) → Contexts A → Type 0
-  ContextsAreBuiltBy leaf letter no_context = Unit {0}
-  ContextsAreBuiltBy leaf letter (between l r contexts) = IsBuiltBy leaf letter l × IsBuiltBy leaf letter r × ContextsAreBuiltBy leaf letter contexts
+    pub ContextsAreBuiltWith : Contexts A → Type 0
+    ContextsAreBuiltWith no_context = Unit {0}
+    ContextsAreBuiltWith (between l r contexts) = IsBuiltWith l × IsBuiltWith r × ContextsAreBuiltWith contexts
 
-  pub StepsAreBuiltBy : {A : Type 0} → (A → Bool) → (A → Bool) → Steps A → Type 0
-  StepsAreBuiltBy leaf letter no_step = Unit {0}
-  StepsAreBuiltBy leaf letter (cross_with e more) = IsBuiltBy leaf letter e × StepsAreBuiltBy leaf letter more
-  StepsAreBuiltBy leaf letter (then e more) = IsBuiltBy leaf letter e × StepsAreBuiltBy leaf letter more
+    pub StepsAreBuiltWith : Steps A → Type 0
+    StepsAreBuiltWith no_step = Unit {0}
+    StepsAreBuiltWith (cross_with e more) = IsBuiltWith e × StepsAreBuiltWith more
+    StepsAreBuiltWith (then e more) = IsBuiltWith e × StepsAreBuiltWith more
 
--- the same where one test is for all leaves
+    -- an insertion can't be built yet
+    pub MappingsAreBuiltWith : Mappings A → Type 0
+    MappingsAreBuiltWith no_mapping = Unit {0}
+    MappingsAreBuiltWith (plain c r maps) = Centre c × IsBuiltWith c × IsBuiltWith r × MappingsAreBuiltWith maps
+    MappingsAreBuiltWith (markup c b a maps) = Centre c × IsBuiltWith c × IsBuiltWith b × IsBuiltWith a × MappingsAreBuiltWith maps
+    MappingsAreBuiltWith (insert r maps) = ⊥
+
+    pub GroupsAreBuiltWith : Groups A → Type 0
+    GroupsAreBuiltWith no_group = Unit {0}
+    GroupsAreBuiltWith (then_group maps side contexts groups) = MappingsAreBuiltWith maps × ContextsAreBuiltWith contexts × GroupsAreBuiltWith groups
+
+-- any centre
+abbrev pub AnyCentre : {A : Type 0} → Term A → Type 0
+AnyCentre e = Unit {0}
+
+-- no set of rules, and those whose parts are built
+abbrev pub NoRules : Type 0 → Type 0
+NoRules parts = ⊥
+
+abbrev pub WithRules : Type 0 → Type 0
+WithRules parts = parts
+
+-- the same where no set of rules may stand: what a project may have so far
+abbrev pub IsBuiltBy : {A : Type 0} → (A → Bool) → (A → Bool) → Term A → Type 0
+IsBuiltBy leaf letter = IsBuiltWith leaf letter NoRules AnyCentre
+
+abbrev pub AreBuiltBy : {A : Type 0} → (A → Bool) → (A → Bool) → Terms A → Type 0
+AreBuiltBy leaf letter = AreBuiltWith leaf letter NoRules AnyCentre
+
+abbrev pub LinksAreBuiltBy : {A : Type 0} → (A → Bool) → (A → Bool) → Links A → Type 0
+LinksAreBuiltBy leaf letter = LinksAreBuiltWith leaf letter NoRules AnyCentre
+
+abbrev pub ContextsAreBuiltBy : {A : Type 0} → (A → Bool) → (A → Bool) → Contexts A → Type 0
+ContextsAreBuiltBy leaf letter = ContextsAreBuiltWith leaf letter NoRules AnyCentre
+
+abbrev pub StepsAreBuiltBy : {A : Type 0} → (A → Bool) → (A → Bool) → Steps A → Type 0
+StepsAreBuiltBy leaf letter = StepsAreBuiltWith leaf letter NoRules AnyCentre
+
+-- sets of rules may stand there, and one test is for all leaves
 abbrev pub IsBuilt : {A : Type 0} → (A → Bool) → Term A → Type 0
-IsBuilt leaf = IsBuiltBy leaf leaf
+IsBuilt leaf = IsBuiltWith leaf leaf WithRules AnyCentre
 
 abbrev pub AreBuilt : {A : Type 0} → (A → Bool) → Terms A → Type 0
-AreBuilt leaf = AreBuiltBy leaf leaf
+AreBuilt leaf = AreBuiltWith leaf leaf WithRules AnyCentre
 
 abbrev pub LinksAreBuilt : {A : Type 0} → (A → Bool) → Links A → Type 0
-LinksAreBuilt leaf = LinksAreBuiltBy leaf leaf
+LinksAreBuilt leaf = LinksAreBuiltWith leaf leaf WithRules AnyCentre
 
 abbrev pub ContextsAreBuilt : {A : Type 0} → (A → Bool) → Contexts A → Type 0
-ContextsAreBuilt leaf = ContextsAreBuiltBy leaf leaf
+ContextsAreBuilt leaf = ContextsAreBuiltWith leaf leaf WithRules AnyCentre
 
 abbrev pub StepsAreBuilt : {A : Type 0} → (A → Bool) → Steps A → Type 0
-StepsAreBuilt leaf = StepsAreBuiltBy leaf leaf
+StepsAreBuilt leaf = StepsAreBuiltWith leaf leaf WithRules AnyCentre
+
+abbrev pub MappingsAreBuilt : {A : Type 0} → (A → Bool) → Mappings A → Type 0
+MappingsAreBuilt leaf = MappingsAreBuiltWith leaf leaf WithRules AnyCentre
+
+abbrev pub GroupsAreBuilt : {A : Type 0} → (A → Bool) → Groups A → Type 0
+GroupsAreBuilt leaf = GroupsAreBuiltWith leaf leaf WithRules AnyCentre

@@ -55,51 +55,51 @@ with_each form [] = form
 with_each form (suffix ∷ suffixes) = with_each (behind form suffix) suffixes
 
 abbrev mutual
-  pub form_in : {A : Type 0} → Leaves A → (A → ℕ) → (A → Bool) → Term A → Form
-  form_in leaves leaf built empty = of_leaf Language 1
-  form_in leaves leaf built any = of_leaf Language 1
-  form_in leaves leaf built edge = of_leaf Language 1
-  form_in leaves leaf built (atom a) = built_if (of_leaf (leaves.kind a) (leaf a)) (built a)
-  form_in leaves leaf built (letters all) = built_if (of_leaf Language (length all)) (list_all built all)
-  form_in leaves leaf built (group e) = form_in leaves leaf built e
-  form_in leaves leaf built (maybe e) = heavier (form_in leaves leaf built e) 1
-  form_in leaves leaf built (not_one n e) = heavier (as_language (form_in leaves leaf built e)) n
-  form_in leaves leaf built (cross e f) = with_kind (heavier (as_language (beside (form_in leaves leaf built e) (form_in leaves leaf built f))) 1) (cond (are_alike leaves.same (half e) (half f)) Language Relation)
-  form_in leaves leaf built (suffixed e suffixes) = with_each (form_in leaves leaf built e) suffixes
-  form_in leaves leaf built (prefixed prefixes e) = heavier (as_language (form_in leaves leaf built e)) (length prefixes)
-  form_in leaves leaf built (ignore es) = heavier (as_language (form_in_each leaves leaf built nothing es)) (count_of es - 1)
-  form_in leaves leaf built (concat es) = heavier (form_in_each leaves leaf built nothing es) (count_of es - 1)
-  form_in leaves leaf built (chain e links) = form_in_links leaves leaf built (form_in leaves leaf built e) links
-  form_in leaves leaf built (only e contexts) = heavier (as_language (form_in_contexts leaves leaf built (form_in leaves leaf built e) contexts)) 1
-  form_in leaves leaf built (rules optional groups) = with_kind (heavier (as_language (built_if (form_in_groups leaves leaf built nothing groups) false)) 1) Relation
-  form_in leaves leaf built (steps e more) = form_in_steps leaves leaf built (form_in leaves leaf built e) more
+  pub form_in : {A : Type 0} → Leaves A → (A → ℕ) → (A → Bool) → (A → Bool) → Term A → Form
+  form_in leaves leaf built letter empty = of_leaf Language 1
+  form_in leaves leaf built letter any = of_leaf Language 1
+  form_in leaves leaf built letter edge = of_leaf Language 1
+  form_in leaves leaf built letter (atom a) = built_if (of_leaf (leaves.kind a) (leaf a)) (built a)
+  form_in leaves leaf built letter (letters all) = built_if (of_leaf Language (length all)) (list_all letter all)
+  form_in leaves leaf built letter (group e) = form_in leaves leaf built letter e
+  form_in leaves leaf built letter (maybe e) = heavier (form_in leaves leaf built letter e) 1
+  form_in leaves leaf built letter (not_one n e) = heavier (as_language (form_in leaves leaf built letter e)) n
+  form_in leaves leaf built letter (cross e f) = with_kind (heavier (as_language (beside (form_in leaves leaf built letter e) (form_in leaves leaf built letter f))) 1) (cond (are_alike leaves.same (half e) (half f)) Language Relation)
+  form_in leaves leaf built letter (suffixed e suffixes) = with_each (form_in leaves leaf built letter e) suffixes
+  form_in leaves leaf built letter (prefixed prefixes e) = heavier (as_language (form_in leaves leaf built letter e)) (length prefixes)
+  form_in leaves leaf built letter (ignore es) = heavier (as_language (form_in_each leaves leaf built letter nothing es)) (count_of es - 1)
+  form_in leaves leaf built letter (concat es) = heavier (form_in_each leaves leaf built letter nothing es) (count_of es - 1)
+  form_in leaves leaf built letter (chain e links) = form_in_links leaves leaf built letter (form_in leaves leaf built letter e) links
+  form_in leaves leaf built letter (only e contexts) = heavier (as_language (form_in_contexts leaves leaf built letter (form_in leaves leaf built letter e) contexts)) 1
+  form_in leaves leaf built letter (rules optional groups) = with_kind (heavier (as_language (built_if (form_in_groups leaves leaf built letter nothing groups) false)) 1) Relation
+  form_in leaves leaf built letter (steps e more) = form_in_steps leaves leaf built letter (form_in leaves leaf built letter e) more
 
   -- what was told before with what the items tell
-  pub form_in_each : {A : Type 0} → Leaves A → (A → ℕ) → (A → Bool) → Form → Terms A → Form
-  form_in_each leaves leaf built before no_term = before
-  form_in_each leaves leaf built before (then_term e es) = form_in_each leaves leaf built (beside before (form_in leaves leaf built e)) es
+  pub form_in_each : {A : Type 0} → Leaves A → (A → ℕ) → (A → Bool) → (A → Bool) → Form → Terms A → Form
+  form_in_each leaves leaf built letter before no_term = before
+  form_in_each leaves leaf built letter before (then_term e es) = form_in_each leaves leaf built letter (beside before (form_in leaves leaf built letter e)) es
 
-  pub form_in_links : {A : Type 0} → Leaves A → (A → ℕ) → (A → Bool) → Form → Links A → Form
-  form_in_links leaves leaf built before no_link = before
-  form_in_links leaves leaf built before (or e links) = form_in_links leaves leaf built (heavier (beside before (form_in leaves leaf built e)) 1) links
-  form_in_links leaves leaf built before (and e links) = form_in_links leaves leaf built (heavier (as_language (beside before (form_in leaves leaf built e))) 1) links
-  form_in_links leaves leaf built before (less e links) = form_in_links leaves leaf built (heavier (as_language (beside before (form_in leaves leaf built e))) 1) links
+  pub form_in_links : {A : Type 0} → Leaves A → (A → ℕ) → (A → Bool) → (A → Bool) → Form → Links A → Form
+  form_in_links leaves leaf built letter before no_link = before
+  form_in_links leaves leaf built letter before (or e links) = form_in_links leaves leaf built letter (heavier (beside before (form_in leaves leaf built letter e)) 1) links
+  form_in_links leaves leaf built letter before (and e links) = form_in_links leaves leaf built letter (heavier (as_language (beside before (form_in leaves leaf built letter e))) 1) links
+  form_in_links leaves leaf built letter before (less e links) = form_in_links leaves leaf built letter (heavier (as_language (beside before (form_in leaves leaf built letter e))) 1) links
 
-  pub form_in_steps : {A : Type 0} → Leaves A → (A → ℕ) → (A → Bool) → Form → Steps A → Form
-  form_in_steps leaves leaf built before no_step = before
-  form_in_steps leaves leaf built before (cross_with e more) = form_in_steps leaves leaf built (with_kind (heavier (as_language (beside before (form_in leaves leaf built e))) 1) Relation) more
-  form_in_steps leaves leaf built before (then e more) = form_in_steps leaves leaf built (heavier (beside before (form_in leaves leaf built e)) 1) more
+  pub form_in_steps : {A : Type 0} → Leaves A → (A → ℕ) → (A → Bool) → (A → Bool) → Form → Steps A → Form
+  form_in_steps leaves leaf built letter before no_step = before
+  form_in_steps leaves leaf built letter before (cross_with e more) = form_in_steps leaves leaf built letter (with_kind (heavier (as_language (beside before (form_in leaves leaf built letter e))) 1) Relation) more
+  form_in_steps leaves leaf built letter before (then e more) = form_in_steps leaves leaf built letter (heavier (beside before (form_in leaves leaf built letter e)) 1) more
 
-  pub form_in_contexts : {A : Type 0} → Leaves A → (A → ℕ) → (A → Bool) → Form → Contexts A → Form
-  form_in_contexts leaves leaf built before no_context = before
-  form_in_contexts leaves leaf built before (between l r contexts) = form_in_contexts leaves leaf built (beside before (beside (form_in leaves leaf built l) (form_in leaves leaf built r))) contexts
+  pub form_in_contexts : {A : Type 0} → Leaves A → (A → ℕ) → (A → Bool) → (A → Bool) → Form → Contexts A → Form
+  form_in_contexts leaves leaf built letter before no_context = before
+  form_in_contexts leaves leaf built letter before (between l r contexts) = form_in_contexts leaves leaf built letter (beside before (beside (form_in leaves leaf built letter l) (form_in leaves leaf built letter r))) contexts
 
-  pub form_in_mappings : {A : Type 0} → Leaves A → (A → ℕ) → (A → Bool) → Form → Mappings A → Form
-  form_in_mappings leaves leaf built before no_mapping = before
-  form_in_mappings leaves leaf built before (plain c r maps) = form_in_mappings leaves leaf built (beside before (beside (form_in leaves leaf built c) (form_in leaves leaf built r))) maps
-  form_in_mappings leaves leaf built before (markup c b a maps) = form_in_mappings leaves leaf built (beside before (beside (form_in leaves leaf built c) (beside (form_in leaves leaf built b) (form_in leaves leaf built a)))) maps
-  form_in_mappings leaves leaf built before (insert r maps) = form_in_mappings leaves leaf built (beside before (form_in leaves leaf built r)) maps
+  pub form_in_mappings : {A : Type 0} → Leaves A → (A → ℕ) → (A → Bool) → (A → Bool) → Form → Mappings A → Form
+  form_in_mappings leaves leaf built letter before no_mapping = before
+  form_in_mappings leaves leaf built letter before (plain c r maps) = form_in_mappings leaves leaf built letter (beside before (beside (form_in leaves leaf built letter c) (form_in leaves leaf built letter r))) maps
+  form_in_mappings leaves leaf built letter before (markup c b a maps) = form_in_mappings leaves leaf built letter (beside before (beside (form_in leaves leaf built letter c) (beside (form_in leaves leaf built letter b) (form_in leaves leaf built letter a)))) maps
+  form_in_mappings leaves leaf built letter before (insert r maps) = form_in_mappings leaves leaf built letter (beside before (form_in leaves leaf built letter r)) maps
 
-  pub form_in_groups : {A : Type 0} → Leaves A → (A → ℕ) → (A → Bool) → Form → Groups A → Form
-  form_in_groups leaves leaf built before no_group = before
-  form_in_groups leaves leaf built before (then_group maps side contexts groups) = form_in_groups leaves leaf built (form_in_contexts leaves leaf built (form_in_mappings leaves leaf built before maps) contexts) groups
+  pub form_in_groups : {A : Type 0} → Leaves A → (A → ℕ) → (A → Bool) → (A → Bool) → Form → Groups A → Form
+  form_in_groups leaves leaf built letter before no_group = before
+  form_in_groups leaves leaf built letter before (then_group maps side contexts groups) = form_in_groups leaves leaf built letter (form_in_contexts leaves leaf built letter (form_in_mappings leaves leaf built letter before maps) contexts) groups

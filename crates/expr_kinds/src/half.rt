@@ -1,6 +1,6 @@
 ghost use Rattle.std.specs.Prelude.{◌≡◌};
 ghost use Rattle.regex_ast.specs.Terms.{term};
-ghost use Rattle.expr_kinds.specs.Atoms.{are_one_symbol, are_same};
+ghost use Rattle.expr_kinds.specs.Atoms.{are_one_symbol};
 ghost use Rattle.expr_kinds.specs.Kinds.{are_alike, half};
 
 use regex_ast::{Atom, Expr};
@@ -32,17 +32,6 @@ fn half_of(expr: &Expr<Atom>) -> Half<Atom>
     }
 }
 
-/// Whether two leaves are the same symbol; a name counts as one.
-fn are_same(first: Atom, second: Atom) -> bool
-    ensures { result ≡ are_same first second }
-{
-    match (first, second) {
-        (Atom::Sym(first), Atom::Sym(second)) => first.0 == second.0,
-        (Atom::Name(first), Atom::Name(second)) => first == second,
-        _ => false,
-    }
-}
-
 /// Whether two leaves are the same symbol; a name is none.
 fn are_one_symbol(first: Atom, second: Atom) -> bool
     ensures { result ≡ are_one_symbol first second }
@@ -60,17 +49,6 @@ pub fn are_alike(upper: &Expr<Atom>, lower: &Expr<Atom>) -> bool
     match (half_of(upper), half_of(lower)) {
         (Half::Nothing, Half::Nothing) => true,
         (Half::One(upper), Half::One(lower)) => are_one_symbol(upper, lower),
-        _ => false,
-    }
-}
-
-/// The same where a name counts as one symbol.
-pub fn are_alike_as_symbols(upper: &Expr<Atom>, lower: &Expr<Atom>) -> bool
-    ensures { result ≡ are_alike are_same (half (term upper.now)) (half (term lower.now)) }
-{
-    match (half_of(upper), half_of(lower)) {
-        (Half::Nothing, Half::Nothing) => true,
-        (Half::One(upper), Half::One(lower)) => are_same(upper, lower),
         _ => false,
     }
 }

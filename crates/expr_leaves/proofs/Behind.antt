@@ -1,20 +1,6 @@
--- Loops over the items of a list: what is left of it, and what was gathered by then.
-use Rattle.std.proofs.Common.{◌≡◌, ◌+◌, ◌<◌, ◌≤◌, ℕ, zero, suc, List, [], ◌∷◌, ◌++◌, length, drop, get_or, refl, sym, ap, ◌∙◌, arith, append_assoc, append-nil, Result, Ok, Err, OnOk}
+-- Loops over the items of a list: what was gathered by then.
+use Rattle.std.proofs.Common.{◌≡◌, List, [], ◌∷◌, ◌++◌, refl, sym, ap, ◌∙◌, append_assoc, append-nil, Result, Ok, Err, OnOk}
 use Rattle.std.specs.List.{flat_map}
-use lib.Seq.{drop-cons}
-
--- what is left of a list is the item at the place, and what is behind it
-pub left_behind : {X : Type 0} (xs : List X) (i : ℕ) (x : X) → i < length xs → x ≡ get_or xs i x → drop i xs ≡ x ∷ drop (i + 1) xs
-left_behind {X} xs i x below is = drop-cons xs i x below ∙ ap (λ (y : X). y ∷ drop (suc i) xs) (sym is) ∙ ap (λ (n : ℕ). x ∷ drop n xs) (one_more i)
-  where
-    one_more : (i : ℕ) → suc i ≡ i + 1
-    one_more i = omega arith
-
-pub none_left : {X : Type 0} (xs : List X) (i : ℕ) → length xs ≤ i → drop i xs ≡ []
-none_left [] zero h = refl
-none_left [] (suc i) h = refl
-none_left (x ∷ xs) zero h = absurd (omega arith)
-none_left (x ∷ xs) (suc i) h = none_left xs i (omega arith)
 
 -- what was found, and what is in the rest
 pub go_on : {X : Type 0} (found new front rest all whole : List X) → new ≡ found ++ front → all ≡ front ++ rest → found ++ all ≡ whole → new ++ rest ≡ whole

@@ -1,3 +1,3 @@
 pub mod Behind
-mod Parts
+mod LeafLists
 mod Sets

@@ -1,14 +1,20 @@
 -- What an expression means on one side it means on the other, by its form.
-use Rattle.std.proofs.Common.{Bool, IsTrue, List, [], ◌∷◌, map, inl, inr}
+use Rattle.std.proofs.Common.{◌≡◌, Bool, IsTrue, List, [], ◌∷◌, map, refl, sym, subst, inl, inr}
+use Rattle.std.proofs.Math.Path.{subst₂}
 use Rattle.std.specs.List.{list_all}
 use Rattle.std.proofs.lemmas.Bool.{and_parts}
 use Rattle.fsm_base.specs.declared.letters.Bound.{Bound}
-use Rattle.regex_ast.specs.Terms.{Term, Terms, Links, Contexts, Steps, empty, any, edge, atom, letters, group, maybe, not_one, cross, suffixed, prefixed, ignore, concat, chain, only, rules, steps, no_term, then_term, no_link, or, and, less, no_context, between, no_step, cross_with, then}
-use Rattle.expr_kinds.specs.Built.{IsBuilt, AreBuilt, LinksAreBuilt, ContextsAreBuilt, StepsAreBuilt}
-use Rattle.expr_meaning.specs.Meaning.{InLeaf, InLeaves, In, InEach, InIgnoring, InChain, InContext, InSteps, Relates, RelatesEach, RelatesChain, RelatesSteps}
-use Rattle.expr_leaves.specs.Mapped.{mapped, mapped_each, mapped_links, mapped_contexts, mapped_steps}
+use Rattle.regex_ast.specs.Terms.{Term, Terms, Links, Contexts, Steps, Mappings, Groups, empty, any, edge, atom, letters, group, maybe, not_one, cross, suffixed, prefixed, ignore, concat, chain, only, rules, steps, no_term, then_term, no_link, or, and, less, no_context, between, no_step, cross_with, then, no_mapping, plain, markup, insert, no_group, then_group}
+use Rattle.regex_ast.specs.declared.expr.Side.{Side as Reading}
+use Rattle.expr_kinds.specs.Built.{IsBuilt, AreBuilt, LinksAreBuilt, ContextsAreBuilt, StepsAreBuilt, MappingsAreBuilt, GroupsAreBuilt}
+use Rattle.expr_meaning.specs.Meaning.{InLeaf, InLeaves, In, InEach, InIgnoring, InChain, InContext, InSteps, IsCentre, IsMapped, Replaces, Applies, Relates, RelatesEach, RelatesChain, RelatesSteps}
+use Rattle.expr_meaning.specs.Operators.{inner}
+use Rattle.expr_meaning.specs.Replacement.{Piece, read_before, read_behind, IsAround, IsAllowed}
+use Rattle.expr_leaves.specs.Mapped.{mapped, mapped_each, mapped_links, mapped_contexts, mapped_steps, mapped_mappings, mapped_groups}
+use Rattle.expr_spelling.proofs.Words.{Tells, at}
 use Rattle.expr_spelling.proofs.Pairs.{empty_pair, either_pair, concatenation_pairs, composition, fixed}
-use Rattle.expr_spelling.proofs.Edges.{bound, edge_word, with_edge, itself, crossed, left_context, right_context, suffixed_sets, suffixed_pairs}
+use Rattle.expr_spelling.proofs.Edges.{bound, edge_word, with_edge, without_edge, itself, crossed, left_context, right_context, suffixed_sets, suffixed_pairs}
+use Rattle.expr_spelling.proofs.Pieces.{piece, reads_before, reads_behind, around_words, around, rewritten}
 use Rattle.expr_spelling.proofs.Sides.{Side, Meets, Goes, GoesPairs, one_letter, empty_goes, either_goes, concatenation_goes, ignoring_goes, both_go, less_goes, restricted_goes, not_once, with_prefixes}
 
 -- the language and the relation of an expression on a side
@@ -17,6 +23,33 @@ Has s e w = In s.leaf s.alphabet (mapped s.leaf_of e) w
 
 abbrev Pairs : {K C A L : Type 0} → Side K C A L → Term C → List L → List L → Type 0
 Pairs s e u w = Relates s.leaf s.alphabet (mapped s.leaf_of e) u w
+
+-- that no context is asked for is so on both sides
+none_asked : {A B C : Type 0} (p : C → A) (q : C → B) (contexts : Contexts C) → mapped_contexts p contexts ≡ no_context → mapped_contexts q contexts ≡ no_context
+none_asked p q no_context is = refl
+none_asked p q (between l r contexts) is = let e : between (mapped p l) (mapped p r) (mapped_contexts p contexts) ≡ no_context = is in absurd (cc)
+
+module _ {K C A B L M : Type 0} (s : Side K C A L) (t : Side K C B M) where
+  -- a word without the edge of a set that goes to the other side, and its spelling
+  word_goes : {P : List (Bound L) → Type 0} {Q : List (Bound M) → Type 0} → Goes s t P Q → (c : List L) → P (inner c) → (y : List K) × (c ≡ map s.letter y)
+  word_goes a c h = let r = (without_edge s.letter t.letter a).word c h in (r.0, r.1)
+
+  same_goes : {P : List (Bound L) → Type 0} {Q : List (Bound M) → Type 0} → Tells s.letter t.letter → Goes s t P Q → (y : List K) → P (inner (map s.letter y)) → Q (inner (map t.letter y))
+  same_goes tells a y h = at s.letter t.letter tells (without_edge s.letter t.letter a) y h
+
+  allowed : (contexts : Contexts C) (N : List (Bound L) → List (Bound L) → Type 0) (N' : List (Bound M) → List (Bound M) → Type 0) (reading : Reading)
+      → ((y z : List (Bound K)) → N (map (bound s.letter) y) (map (bound s.letter) z) → N' (map (bound t.letter) y) (map (bound t.letter) z))
+      → (before behind : List (Piece K))
+      → IsAllowed (mapped_contexts s.leaf_of contexts) N reading (map (piece s.letter) before) (map (piece s.letter) behind)
+      → IsAllowed (mapped_contexts t.leaf_of contexts) N' reading (map (piece t.letter) before) (map (piece t.letter) behind)
+  allowed contexts N N' reading holds before behind h =
+      elim h as (λ _. IsAllowed (mapped_contexts t.leaf_of contexts) N' reading (map (piece t.letter) before) (map (piece t.letter) behind)) [
+        | inl none ↦ inl (none_asked s.leaf_of t.leaf_of contexts none)
+        | inr here ↦ inr (
+            subst₂ N' (sym (reads_before t.letter reading before)) (sym (reads_behind t.letter reading behind))
+            (holds (inner (read_before reading before)) (inner (read_behind reading behind)) (subst₂ N (reads_before s.letter reading before) (reads_behind s.letter reading behind) here))
+            )
+      ]
 
 module _ {K C : Type 0} (spells : C → Bool) where
   leaf_goes : {A B L M : Type 0} (s : Side K C A L) (t : Side K C B M) → Meets spells s t → (c : C) → IsTrue (spells c)
@@ -51,7 +84,7 @@ module _ {K C : Type 0} (spells : C → Bool) where
     set_goes s t m n (only e contexts) built =
         restricted_goes s t n.tells (set_goes t s n m e built.0) (context_goes s t m n contexts built.1)
     set_goes s t m n (steps e more) built = steps_go s t m n more built.1 (set_goes s t m n e built.0)
-    set_goes s t m n (rules optional groups) built = absurd built
+    set_goes s t m n (rules optional groups) built = record { word = λ v h. absurd h }
 
     each_goes : {A B L M : Type 0} (s : Side K C A L) (t : Side K C B M) → Meets spells s t → Meets spells t s → (es : Terms C) → AreBuilt spells es
         → Goes s t (InEach s.leaf s.alphabet (mapped_each s.leaf_of es)) (InEach t.leaf t.alphabet (mapped_each t.leaf_of es))
@@ -116,7 +149,15 @@ module _ {K C : Type 0} (spells : C → Bool) where
     pairs_go s t m n (only e contexts) built =
         itself s.letter t.letter (restricted_goes s t n.tells (set_goes t s n m e built.0) (context_goes s t m n contexts built.1))
     pairs_go s t m n (steps e more) built = walk_goes s t m n more built.1 (set_goes s t m n e built.0) (pairs_go s t m n e built.0)
-    pairs_go s t m n (rules optional groups) built = absurd built
+    pairs_go s t m n (rules optional groups) built =
+        rewritten s.letter t.letter m.tells s.alphabet t.alphabet
+        (record {
+          letter = λ x among. let r = s.known x among in (r.0, sym r.1, t.named r.0);
+          words = λ before behind c r h. group_words s t m n groups built before behind c r h;
+          replaces = λ before behind y z h. group_replaces s t m n groups built before behind y z h;
+          applies = λ before behind y h. group_applies t s n m groups built before behind y h;
+        })
+        optional
 
     each_pair_goes : {A B L M : Type 0} (s : Side K C A L) (t : Side K C B M) → Meets spells s t → Meets spells t s → (es : Terms C) → AreBuilt spells es
         → GoesPairs s t (RelatesEach s.leaf s.alphabet (mapped_each s.leaf_of es)) (RelatesEach t.leaf t.alphabet (mapped_each t.leaf_of es))
@@ -148,3 +189,88 @@ module _ {K C : Type 0} (spells : C → Bool) where
     walk_goes s t m n (then e more) built a b =
         walk_goes s t m n more built.1 (both_go s t m.tells a (set_goes s t m n e built.0))
         (composition s.letter t.letter m.tells b (pairs_go s t m n e built.0))
+
+    -- the words that a mapping relates are spelled
+    mapping_words : {A B L M : Type 0} (s : Side K C A L) (t : Side K C B M) → Meets spells s t → Meets spells t s → (maps : Mappings C) → MappingsAreBuilt spells maps
+        → (c r : List L) → IsMapped s.leaf s.alphabet (mapped_mappings s.leaf_of maps) c r → (y : List K) × (z : List K) × (c ≡ map s.letter y) × (r ≡ map s.letter z)
+    mapping_words s t m n no_mapping built c r h = absurd h
+    mapping_words s t m n (plain e f maps) built c r h = elim h as (λ _. (y : List K) × (z : List K) × (c ≡ map s.letter y) × (r ≡ map s.letter z)) [
+      | inl here ↦
+          let y = word_goes s t (set_goes s t m n e built.1) c here.0 in
+          let z = word_goes s t (set_goes s t m n f built.2) r here.1 in
+          (y.0, z.0, y.1, z.1)
+      | inr later ↦ mapping_words s t m n maps built.3 c r later
+    ]
+    mapping_words s t m n (markup e b a maps) built c r h = elim h as (λ _. (y : List K) × (z : List K) × (c ≡ map s.letter y) × (r ≡ map s.letter z)) [
+      | inl here ↦
+          let y = word_goes s t (set_goes s t m n e built.1) c here.0 in
+          let z = around_words s.letter t.letter m.tells (set_goes s t m n b built.2) (set_goes s t m n a built.3) y.0 r
+          (subst (λ (u : List _). IsAround (Has s b) (Has s a) u r) y.1 here.1) in
+          (y.0, z.0, y.1, z.1)
+      | inr later ↦ mapping_words s t m n maps built.4 c r later
+    ]
+    mapping_words s t m n (insert f maps) built c r h = absurd built
+
+    mapping_goes : {A B L M : Type 0} (s : Side K C A L) (t : Side K C B M) → Meets spells s t → Meets spells t s → (maps : Mappings C) → MappingsAreBuilt spells maps
+        → (y z : List K) → IsMapped s.leaf s.alphabet (mapped_mappings s.leaf_of maps) (map s.letter y) (map s.letter z)
+        → IsMapped t.leaf t.alphabet (mapped_mappings t.leaf_of maps) (map t.letter y) (map t.letter z)
+    mapping_goes s t m n no_mapping built y z h = h
+    mapping_goes s t m n (plain e f maps) built y z h =
+        elim h as (λ _. IsMapped t.leaf t.alphabet (mapped_mappings t.leaf_of (plain e f maps)) (map t.letter y) (map t.letter z)) [
+          | inl here ↦ inl (same_goes s t m.tells (set_goes s t m n e built.1) y here.0, same_goes s t m.tells (set_goes s t m n f built.2) z here.1)
+          | inr later ↦ inr (mapping_goes s t m n maps built.3 y z later)
+        ]
+    mapping_goes s t m n (markup e b a maps) built y z h =
+        elim h as (λ _. IsMapped t.leaf t.alphabet (mapped_mappings t.leaf_of (markup e b a maps)) (map t.letter y) (map t.letter z)) [
+          | inl here ↦ inl (
+            same_goes s t m.tells (set_goes s t m n e built.1) y here.0,
+            around s.letter t.letter m.tells (set_goes s t m n b built.2) (set_goes s t m n a built.3) y z here.1,
+          )
+          | inr later ↦ inr (mapping_goes s t m n maps built.4 y z later)
+        ]
+    mapping_goes s t m n (insert f maps) built y z h = absurd built
+
+    centre_goes : {A B L M : Type 0} (s : Side K C A L) (t : Side K C B M) → Meets spells s t → Meets spells t s → (maps : Mappings C) → MappingsAreBuilt spells maps
+        → (y : List K) → IsCentre s.leaf s.alphabet (mapped_mappings s.leaf_of maps) (map s.letter y) → IsCentre t.leaf t.alphabet (mapped_mappings t.leaf_of maps) (map t.letter y)
+    centre_goes s t m n no_mapping built y h = h
+    centre_goes s t m n (plain e f maps) built y h = elim h as (λ _. IsCentre t.leaf t.alphabet (mapped_mappings t.leaf_of (plain e f maps)) (map t.letter y)) [
+      | inl here ↦ inl (same_goes s t m.tells (set_goes s t m n e built.1) y here)
+      | inr later ↦ inr (centre_goes s t m n maps built.3 y later)
+    ]
+    centre_goes s t m n (markup e b a maps) built y h = elim h as (λ _. IsCentre t.leaf t.alphabet (mapped_mappings t.leaf_of (markup e b a maps)) (map t.letter y)) [
+      | inl here ↦ inl (same_goes s t m.tells (set_goes s t m n e built.1) y here)
+      | inr later ↦ inr (centre_goes s t m n maps built.4 y later)
+    ]
+    centre_goes s t m n (insert f maps) built y h = absurd built
+
+    -- the words of a replacement are spelled
+    group_words : {A B L M : Type 0} (s : Side K C A L) (t : Side K C B M) → Meets spells s t → Meets spells t s → (groups : Groups C) → GroupsAreBuilt spells groups
+        → (before behind : List (Piece L)) (c r : List L) → Replaces s.leaf s.alphabet (mapped_groups s.leaf_of groups) before c r behind
+        → (y : List K) × (z : List K) × (c ≡ map s.letter y) × (r ≡ map s.letter z)
+    group_words s t m n no_group built before behind c r h = absurd h
+    group_words s t m n (then_group maps side contexts groups) built before behind c r h = elim h as (λ _. (y : List K) × (z : List K) × (c ≡ map s.letter y) × (r ≡ map s.letter z)) [
+      | inl here ↦ mapping_words s t m n maps built.0 c r here.0
+      | inr later ↦ group_words s t m n groups built.2 before behind c r later
+    ]
+
+    group_replaces : {A B L M : Type 0} (s : Side K C A L) (t : Side K C B M) → Meets spells s t → Meets spells t s → (groups : Groups C) → GroupsAreBuilt spells groups
+        → (before behind : List (Piece K)) (y z : List K)
+        → Replaces s.leaf s.alphabet (mapped_groups s.leaf_of groups) (map (piece s.letter) before) (map s.letter y) (map s.letter z) (map (piece s.letter) behind)
+        → Replaces t.leaf t.alphabet (mapped_groups t.leaf_of groups) (map (piece t.letter) before) (map t.letter y) (map t.letter z) (map (piece t.letter) behind)
+    group_replaces s t m n no_group built before behind y z h = h
+    group_replaces s t m n (then_group maps side contexts groups) built before behind y z h =
+        elim h as (λ _. Replaces t.leaf t.alphabet (mapped_groups t.leaf_of (then_group maps side contexts groups)) (map (piece t.letter) before) (map t.letter y) (map t.letter z) (map (piece t.letter) behind)) [
+          | inl here ↦ inl (mapping_goes s t m n maps built.0 y z here.0, allowed s t contexts (InContext s.leaf s.alphabet (mapped_contexts s.leaf_of contexts)) (InContext t.leaf t.alphabet (mapped_contexts t.leaf_of contexts)) side (context_goes s t m n contexts built.1) before behind here.1)
+          | inr later ↦ inr (group_replaces s t m n groups built.2 before behind y z later)
+        ]
+
+    group_applies : {A B L M : Type 0} (s : Side K C A L) (t : Side K C B M) → Meets spells s t → Meets spells t s → (groups : Groups C) → GroupsAreBuilt spells groups
+        → (before behind : List (Piece K)) (y : List K)
+        → Applies s.leaf s.alphabet (mapped_groups s.leaf_of groups) (map (piece s.letter) before) (map s.letter y) (map (piece s.letter) behind)
+        → Applies t.leaf t.alphabet (mapped_groups t.leaf_of groups) (map (piece t.letter) before) (map t.letter y) (map (piece t.letter) behind)
+    group_applies s t m n no_group built before behind y h = h
+    group_applies s t m n (then_group maps side contexts groups) built before behind y h =
+        elim h as (λ _. Applies t.leaf t.alphabet (mapped_groups t.leaf_of (then_group maps side contexts groups)) (map (piece t.letter) before) (map t.letter y) (map (piece t.letter) behind)) [
+          | inl here ↦ inl (centre_goes s t m n maps built.0 y here.0, allowed s t contexts (InContext s.leaf s.alphabet (mapped_contexts s.leaf_of contexts)) (InContext t.leaf t.alphabet (mapped_contexts t.leaf_of contexts)) side (context_goes s t m n contexts built.1) before behind here.1)
+          | inr later ↦ inr (group_applies s t m n groups built.2 before behind y later)
+        ]

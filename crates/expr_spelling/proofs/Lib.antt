@@ -2,6 +2,7 @@ mod Words
 mod Sets
 mod Pairs
 mod Edges
+mod Pieces
 mod Sides
 mod Carrying
 pub mod Spelling

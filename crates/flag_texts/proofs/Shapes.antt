@@ -1,11 +1,11 @@
 -- The parts of a flag, and that it has them in one way.
-use Rattle.std.proofs.Common.{◌≡◌, ◌≢◌, ℕ, true, List, [], ◌∷◌, ◌++◌, Option, Some, None, refl, sym, ap, subst, ◌∙◌, arith, append_assoc}
+use Rattle.std.proofs.Common.{◌≡◌, ◌≢◌, ◌⊎◌, inl, inr, ℕ, List, [], ◌∷◌, ◌++◌, Option, Some, None, refl, sym, ap, subst, ◌∙◌, arith, append_assoc}
 use Rattle.std.proofs.lemmas.List.{append_cancel_right}
 use Rattle.std.proofs.lemmas.List.Elements.{All-nil, All-cons, All-append, All-weaker}
-use Rattle.regex_ast.specs.Flags.{IsFlag, valued, plain, IsFeature, IsFeatureByte, HasValue, HasNoValue, sets, unifies, requires_value, bars_value, clears, requires_any, bars_any}
+use Rattle.regex_ast.specs.Flags.{IsFlag, valued, plain, IsNegativeFlag, IsFeature, IsFeatureByte, HasValue, HasNoValue, sets, unifies, requires_value, bars_value, clears, requires_any, bars_any}
 use Rattle.regex_ast.specs.declared.lexc.FlagKind.{FlagKind}
 use Rattle.regex_ast.specs.declared.lexc.FlagKind.TheVariants.{P, C, R, D, U}
-use Rattle.flag_texts.specs.Reading.{letter_of, ending_of, MayHave, HasNo, has_value, has_no_value}
+use Rattle.flag_texts.specs.Reading.{letter_of, ending_of, MayHave, HasNo}
 use Rattle.flag_texts.proofs.Splits.{one_split, has_mark}
 
 -- the feature and what is behind it, without the last mark
@@ -164,42 +164,16 @@ pub no_end : (text before rest middle behind : List ℕ) → HasNo 64 before →
 no_end text before rest middle behind none at clear split some inner is e =
     some (one_split 64 middle inner behind [] clear is (sym split ∙ behind_front text before rest inner none at e)).1
 
--- kinds and values
-value_letter : (k : ℕ) → HasValue k → k ≢ 67
-value_letter k sets e = absurd (omega arith)
-value_letter k unifies e = absurd (omega arith)
-value_letter k requires_value e = absurd (omega arith)
-value_letter k bars_value e = absurd (omega arith)
+-- a flag with the letter of a kind isn't negative
+kind_apart : (kind : FlagKind) → letter_of kind ≢ 78
+kind_apart P e = absurd (omega arith)
+kind_apart C e = absurd (omega arith)
+kind_apart R e = absurd (omega arith)
+kind_apart D e = absurd (omega arith)
+kind_apart U e = absurd (omega arith)
 
-plain_letter : (k : ℕ) → HasNoValue k → (k ≢ 80) × (k ≢ 85)
-plain_letter k clears = (λ e. absurd (omega arith), λ e. absurd (omega arith))
-plain_letter k requires_any = (λ e. absurd (omega arith), λ e. absurd (omega arith))
-plain_letter k bars_any = (λ e. absurd (omega arith), λ e. absurd (omega arith))
-
-pub value_of : (kind : FlagKind) → has_value kind ≡ true → HasValue (letter_of kind)
-value_of P e = sets
-value_of C e = cc
-value_of R e = requires_value
-value_of D e = bars_value
-value_of U e = unifies
-
-pub is_value_of : (kind : FlagKind) → HasValue (letter_of kind) → has_value kind ≡ true
-is_value_of P h = refl
-is_value_of C h = absurd (value_letter 67 h refl)
-is_value_of R h = refl
-is_value_of D h = refl
-is_value_of U h = refl
-
-pub no_value_of : (kind : FlagKind) → has_no_value kind ≡ true → HasNoValue (letter_of kind)
-no_value_of P e = cc
-no_value_of C e = clears
-no_value_of R e = requires_any
-no_value_of D e = bars_any
-no_value_of U e = cc
-
-pub is_no_value_of : (kind : FlagKind) → HasNoValue (letter_of kind) → has_no_value kind ≡ true
-is_no_value_of P h = absurd ((plain_letter 80 h).0 refl)
-is_no_value_of C h = refl
-is_no_value_of R h = refl
-is_no_value_of D h = refl
-is_no_value_of U h = absurd ((plain_letter 85 h).1 refl)
+pub is_no_negative : (text inner letter rest : List ℕ) (kind : FlagKind) → text ≡ 64 ∷ inner ++ 64 ∷ [] → inner ≡ letter ++ 46 ∷ rest → letter ≡ letter_of kind ∷ [] → IsFlag text ⊎ IsNegativeFlag text → IsFlag text
+is_no_negative text inner letter rest kind at split is (inl flag) = flag
+is_no_negative text inner letter rest kind at split is (inr negative) =
+    let both : 64 ∷ letter_of kind ∷ 46 ∷ rest ++ 64 ∷ [] ≡ 64 ∷ 78 ∷ 46 ∷ negative.feature ++ 46 ∷ negative.value ++ 64 ∷ [] = sym (spelled_alone text inner letter rest kind at split is) ∙ negative.spelled in
+    absurd (kind_apart kind cc)

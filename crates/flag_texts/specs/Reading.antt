@@ -1,6 +1,6 @@
 -- Which flag diacritic a text is: `@X.F.V@` or `@X.F@` (Beesley and Karttunen, Finite State Morphology, 2003, chapter 7), where X is
 -- the kind's letter, F the feature and V the value. A text is the list of its bytes in UTF-8.
-use Rattle.std.specs.Prelude.{◌≡◌, ◌≢◌, ◌++◌, ℕ, Bool, true, false, List, [], ◌∷◌, All, Option, None, Some}
+use Rattle.std.specs.Prelude.{◌≡◌, ◌≢◌, ◌++◌, ℕ, List, [], ◌∷◌, All, Option, None, Some}
 use Rattle.regex_ast.specs.Flags.{IsFeature, HasValue, HasNoValue}
 use Rattle.regex_ast.specs.declared.lexc.FlagKind.{FlagKind}
 use Rattle.regex_ast.specs.declared.lexc.FlagKind.TheVariants.{P, C, R, D, U}
@@ -13,21 +13,6 @@ letter_of C = 67
 letter_of R = 82
 letter_of D = 68
 letter_of U = 85
-
--- the kinds that may have a value, and those that may have none
-abbrev pub has_value : FlagKind → Bool
-has_value P = true
-has_value C = false
-has_value R = true
-has_value D = true
-has_value U = true
-
-abbrev pub has_no_value : FlagKind → Bool
-has_no_value P = false
-has_no_value C = true
-has_no_value R = true
-has_no_value D = true
-has_no_value U = false
 
 -- what stands behind the feature
 abbrev pub ending_of : Option (List ℕ) → List ℕ

@@ -1,11 +1,12 @@
-ghost use Rattle.std.specs.Prelude.{◌≡◌, ◌≢◌, ◌↔◌, ◌++◌, ◌∷◌, [], ℕ, List, Option, None, Some, IfOk, IsTrue, MatchOption};
+ghost use Rattle.std.specs.Prelude.{◌≡◌, ◌≢◌, ◌++◌, ◌∷◌, [], ℕ, List, IfOk, MatchOption};
 ghost use Rattle.std.specs.Option.{option_map};
-ghost use Rattle.regex_ast.specs.Flags.{IsFlag, IsFeature, IsFeatureByte};
+ghost use Rattle.regex_ast.specs.Flags.{IsFlag, IsFeature};
 ghost use Rattle.regex_ast.specs.declared.lexc.FlagKind.{FlagKind};
-ghost use Rattle.flag_texts.specs.Reading.{IsFlagOf, MayHave, HasNo, has_value, has_no_value, letter_of, ending_of};
+ghost use Rattle.flag_texts.specs.Reading.{IsFlagOf, MayHave, HasNo, letter_of, ending_of};
 
 use fsm_base::Text;
 use regex_ast::{FlagKind, FlagOp};
+use regex_tokens::is_flag;
 use std::alloc::{AllocError, Global};
 
 /// The parts of a flag.
@@ -43,45 +44,22 @@ pub fn read_flag(alloc: Global, text: &str) -> Result<Option<FlagOp>, AllocError
 fn parts_of(text: &str) -> Option<Parts<'_>>
     ensures { MatchOption result (IsFlag text.now → ⊥) (λ parts. IsFeature parts.feature.now × (text.now ≡ 64 ∷ letter_of parts.kind ∷ 46 ∷ parts.feature.now ++ ending_of (option_map (λ v. v.now) parts.value)) × MayHave parts.kind (option_map (λ v. v.now) parts.value)) }
 {
-    let Some(inner) = between(text) else {
+    if !is_flag(text.as_bytes()) {
         return None;
-    };
-    let Some((letter, rest)) = split_dot(inner) else {
-        return None;
-    };
-    let Some(kind) = kind_of(letter) else {
-        return None;
-    };
+    }
+    let (letter, rest) = split_dot(between(text)?)?;
+    let kind = kind_of(letter)?;
     match split_dot(rest) {
-        Some((feature, value)) => {
-            if !has_value(kind) {
-                return None;
-            }
-            if !is_part(feature) {
-                return None;
-            }
-            if !is_part(value) {
-                return None;
-            }
-            Some(Parts {
-                kind,
-                feature,
-                value: Some(value),
-            })
-        }
-        None => {
-            if !has_no_value(kind) {
-                return None;
-            }
-            if !is_part(rest) {
-                return None;
-            }
-            Some(Parts {
-                kind,
-                feature: rest,
-                value: None,
-            })
-        }
+        Some((feature, value)) => Some(Parts {
+            kind,
+            feature,
+            value: Some(value),
+        }),
+        None => Some(Parts {
+            kind,
+            feature: rest,
+            value: None,
+        }),
     }
 }
 
@@ -126,38 +104,4 @@ fn kind_of(letter: &str) -> Option<FlagKind>
         [b'U'] => Some(FlagKind::U),
         _ => None,
     }
-}
-
-/// Whether a flag of the kind may have a value.
-fn has_value(kind: FlagKind) -> bool
-    ensures { result ≡ has_value kind }
-{
-    match kind {
-        FlagKind::P | FlagKind::R | FlagKind::D | FlagKind::U => true,
-        FlagKind::C => false,
-    }
-}
-
-/// Whether a flag of the kind may have none.
-fn has_no_value(kind: FlagKind) -> bool
-    ensures { result ≡ has_no_value kind }
-{
-    match kind {
-        FlagKind::C | FlagKind::R | FlagKind::D => true,
-        FlagKind::P | FlagKind::U => false,
-    }
-}
-
-/// Whether a text may be a feature or a value.
-fn is_part(text: &str) -> bool
-    ensures { IsTrue result ↔ IsFeature text.now }
-{
-    !text.is_empty() && text.as_bytes().iter().all(|byte| is_part_byte(*byte))
-}
-
-/// Whether a byte may stand in a feature or a value.
-fn is_part_byte(byte: u8) -> bool
-    ensures { IsTrue result ↔ IsFeatureByte byte }
-{
-    !matches!(byte, b'\t' | b'\n' | b' ' | b'.' | b'@')
 }

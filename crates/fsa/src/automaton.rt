@@ -95,7 +95,6 @@ impl<L: Copy> Fsa<L> {
         ensures number { result ≡ length self.now.finals }
         ensures formed { IsWellFormed self.now }
     {
-        let _ = &self.edges;
         self.finals.len()
     }
 
@@ -112,7 +111,6 @@ impl<L: Copy> Fsa<L> {
         ensures finals { result.now ≡ self.now.finals }
         ensures formed { IsWellFormed self.now }
     {
-        let _ = &self.edges;
         self.finals.as_slice()
     }
 

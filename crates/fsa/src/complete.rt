@@ -56,7 +56,6 @@ impl<L: Letter> Dfa<L> {
         ensures letters { result.now ≡ self.now.letters }
         ensures complete { IsComplete self.now }
     {
-        let _ = &self.next;
         self.letters.as_slice()
     }
 
@@ -65,7 +64,6 @@ impl<L: Letter> Dfa<L> {
         ensures number { result ≡ length self.now.finals }
         ensures complete { IsComplete self.now }
     {
-        let _ = &self.next;
         self.finals.len()
     }
 

@@ -1,4 +1,4 @@
--- The walk from the start: what each state that is looked at adds.
+-- The search from the start: what each state that is looked at adds.
 use Rattle.std.proofs.Common.{◌≡◌, ℕ, zero, suc, ◌+◌, ◌*◌, ◌<◌, ◌≤◌, ◌↔◌, List, [], ◌∷◌, ◌++◌, Bool, true, Some, IsTrue, length, get_or, refl, subst, sym, ap, inl, inr, arith, ◌∙◌, length-append, append_assoc}
 use Rattle.std.specs.List.{slice_get, Contains}
 use Rattle.std.proofs.lemmas.Option.{slice_get_within, same_Some, slice_get-get_or}
@@ -186,7 +186,7 @@ module _ (IsState : List ℕ → Type 0) (Leads : List ℕ → ℕ → List ℕ 
         final = λ state list at. e.final state list (let l = slice_get_within found.lists state list at in omega arith) at;
       }
 
--- the step of the walk, with the automaton and the copies of its state as the code has them
+-- the step of the search, with the automaton and the copies of its state as the code has them
 pub exploring_step : {X : Type 0} (IsState : X → List ℕ → Type 0) (Leads : X → List ℕ → ℕ → List ℕ → Type 0) (IsFinal : X → List ℕ → Type 0) (letters : X → ℕ) (start : List ℕ) (a now : X) (found new : Numbered) (finals finals_new : List Bool) (list copy again : List ℕ) (b : Bool) → now ≡ a → copy ≡ list → again ≡ list → slice_get found.lists (length finals) ≡ Some list → (IsTrue b ↔ IsFinal now copy) → AddsRow (IsState now) (Leads now again) (letters now) found new → finals_new ≡ finals ++ b ∷ [] → IsExploring (IsState a) (Leads a) (IsFinal a) (letters a) start found finals → IsExploring (IsState a) (Leads a) (IsFinal a) (letters a) start new finals_new
 exploring_step IsState Leads IsFinal letters start a now found new finals finals_new list copy again b same is_copy is_again at is_final row is_new e =
     let final_here : IsTrue b ↔ IsFinal a list = subst (λ x. IsTrue b ↔ IsFinal x list) same (subst (λ l. IsTrue b ↔ IsFinal now l) is_copy is_final) in

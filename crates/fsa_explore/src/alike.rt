@@ -2,8 +2,8 @@ ghost use Rattle.std.specs.Prelude.{◌≡◌, ◌<◌, ◌+◌, ◌*◌, ◌++�
 ghost use Rattle.fsa_explore.specs.Alike.{AddsLetter, AreAlike, AreBothAlike, ByClass, GoAlike, IsCounting, IsSpread, LeadAlike, LeadsAsFirsts};
 ghost use Rattle.fsa_explore.specs.Explored.{IsExplored};
 
+use crate::edges_by_state::EdgesByState;
 use crate::lazy::{Explored, FoundLists, LazyAutomaton, explore};
-use crate::rows::EdgesByState;
 use crate::signatures::signature_of;
 use fsa::Dfa;
 use fsm_base::Letter;

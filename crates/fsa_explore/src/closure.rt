@@ -4,8 +4,8 @@ ghost use Rattle.fsa_explore.specs.Marks.{Adds, Grows};
 ghost use Rattle.fsa_explore.specs.Reaches.{IsReached};
 ghost use Rattle.fsa_explore.specs.Targets.{IsTarget, AreWithin};
 
-use crate::marked::NumberSet;
-use crate::rows::EdgesByState;
+use crate::edges_by_state::EdgesByState;
+use crate::number_set::NumberSet;
 use fsa::Edge;
 use fsm_base::Letter;
 use std::alloc::AllocError;

@@ -83,7 +83,6 @@ impl FoundLists {
     pub fn len(&self) -> usize
         ensures { result ≡ length self.now.lists }
     {
-        let _ = &self.next;
         self.lists.len()
     }
 
@@ -92,7 +91,6 @@ impl FoundLists {
         requires { number < length self.now.lists }
         ensures { IfOk result (λ list. slice_get self.now.lists number ≡ Some list.items) }
     {
-        let _ = &self.next;
         Vec::from_slice(alloc, self.lists.get(number))
     }
 

@@ -1,4 +1,4 @@
-//! The walk over states that the constructions on automata share.
+//! The search over states that the constructions on automata share.
 //!
 //! - [`EdgesByState`]: the edges of an automaton, found again by the state that they leave. [`epsilon_edges`]: those without a
 //!   letter.
@@ -14,16 +14,16 @@
 
 mod alike;
 mod closure;
+mod edges_by_state;
 mod lazy;
-mod marked;
-mod rows;
+mod number_set;
 mod signatures;
 mod table;
 
 pub use alike::{LetterClasses, alike_in_both, columns_alike, explore_by_class, rows_alike};
 pub use closure::{add_targets, close};
+pub use edges_by_state::{EdgesByState, epsilon_edges};
 pub use lazy::{Explored, FoundLists, LazyAutomaton, explore};
-pub use marked::NumberSet;
-pub use rows::{EdgesByState, epsilon_edges};
+pub use number_set::NumberSet;
 pub use signatures::signature_of;
 pub use table::ListTable;

@@ -34,5 +34,5 @@ pub fn complement_is_undone<L: Letter>(a: &Dfa<L>)
     ensures { (w : List L)
         → (IsOver a.now.letters w × ¬ (IsOver a.now.letters w × ¬ Accepts a.now w)) ↔ Accepts a.now w }
 {
-    let _ = a.states();
+    prove!(a.states() > 0);
 }

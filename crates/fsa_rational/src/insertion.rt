@@ -44,7 +44,7 @@ fn add_copies<L: Copy>(m: &mut Fsa<L>, bound: usize, put: &Fsa<L>) -> Result<(),
     requires { bound + bound * length put.now.finals ≤ length m.old.finals }
     ensures { OnOk result (Extends m.old m.new (PutInBelow put.now bound bound)) }
 {
-    let _states = m.states();
+    prove!(bound <= m.states());
     let mut by = bound;
     for state in 0..bound {
         add_copy(m, state, put, by)?;

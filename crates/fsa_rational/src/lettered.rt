@@ -50,7 +50,7 @@ fn bypass<L: Letter>(
 }
 
 /// The start, and the states that an edge with a letter enters.
-fn entered_states<L: Letter>(alloc: Global, a: &Fsa<L>) -> Result<NumberSet, AllocError>
+pub fn entered_states<L: Letter>(alloc: Global, a: &Fsa<L>) -> Result<NumberSet, AllocError>
     ensures bound { IfOk result (λ states. states.bound ≡ length a.now.finals) }
     ensures start { IfOk result (λ states. Contains states.found 0) }
     ensures targets { IfOk result (λ states. (e : Edge L) (x : L) → Contains a.now.edges e → e.letter ≡ Some x → Contains states.found e.to) }

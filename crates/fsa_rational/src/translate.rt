@@ -1,11 +1,10 @@
-ghost use Rattle.std.specs.Prelude.{◌≡◌, ◌↔◌, ◌<◌, [], ◌∷◌, Some, None, IfOk, OnOk, List, Contains, Option, IsSortedByKey, IsPermutation, length};
-ghost use Rattle.std.specs.List.{filter_map};
+ghost use Rattle.std.specs.Prelude.{◌↔◌, ◌<◌, Some, None, IfOk, OnOk, List, Contains, Option, IsSortedByKey, length};
 ghost use Rattle.word_relations.specs.Words.{Translates};
 ghost use Rattle.fsa.specs.Automaton.{UsesLetter};
 ghost use Rattle.fsa.specs.Language.{Accepts};
-ghost use Rattle.fsa_rational.specs.Shapes.{Extends, ForEach, ComesFrom, ImageOf, PreimageOf, LoopsBelow, loop_at};
+ghost use Rattle.fsa_rational.specs.Shapes.{Extends, ComesFrom, ImageOf, PreimageOf, LoopsBelow, loop_at};
 
-use crate::extend::add_epsilon;
+use crate::extend::{add_epsilon, same_states};
 use crate::rows::{rows_at, sorted_rows};
 use fsa::{Edge, Fsa};
 use fsm_base::Letter;
@@ -28,14 +27,6 @@ pub fn image<L: Letter, M: Letter>(
         add_image(&mut m, edge, &rows)?;
     }
     Ok(m)
-}
-
-/// The states of an automaton, and no edge.
-fn same_states<L: Letter, M: Letter>(alloc: Global, a: &Fsa<L>) -> Result<Fsa<M>, AllocError>
-    ensures { IfOk result (λ m. m ≡ record { edges = []; finals = a.now.finals }) }
-{
-    let finals = Vec::from_slice(alloc, a.finals())?;
-    Ok(Fsa::of_states(alloc, finals))
 }
 
 /// Adds the edges that the rows give for an edge.

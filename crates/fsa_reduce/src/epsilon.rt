@@ -1,9 +1,9 @@
-ghost use Rattle.std.specs.Prelude.{◌≡◌, ◌<◌, IfOk, OnOk, length, Contains};
-ghost use Rattle.fsa.specs.declared.automaton.Edge.{Edge};
+ghost use Rattle.std.specs.Prelude.{◌≡◌, ◌<◌, OnOk};
 ghost use Rattle.fsa_explore.specs.Targets.{AreWithin};
 
 use fsa::Fsa;
 use fsa_explore::{EdgesByState, NumberSet, close};
+use fsa_rational::entered_states;
 use fsm_base::Letter;
 use std::alloc::{AllocError, Global};
 
@@ -23,20 +23,6 @@ pub fn is_cheap<L: Letter>(alloc: Global, a: &Fsa<L>) -> Result<bool, AllocError
         }
     }
     Ok(true)
-}
-
-/// The start, and the states that an edge with a letter enters.
-fn entered_states<L: Letter>(alloc: Global, a: &Fsa<L>) -> Result<NumberSet, AllocError>
-    ensures { IfOk result (λ states. states.bound ≡ length a.now.finals) }
-{
-    let mut states = NumberSet::new(alloc, a.states())?;
-    states.add(0)?;
-    for edge in a.edges() {
-        if edge.letter.is_some() {
-            states.add(edge.to)?;
-        }
-    }
-    Ok(states)
 }
 
 /// How many edges leave the states that epsilon edges reach from a state.

@@ -42,7 +42,6 @@ impl Partial {
     pub fn len(&self) -> usize
         ensures { result ≡ length self.now.sets }
     {
-        let _ = &self.edges;
         self.sets.len()
     }
 
@@ -51,7 +50,6 @@ impl Partial {
         requires { number < length self.now.sets }
         ensures { slice_get self.now.sets number ≡ Some result.now }
     {
-        let _ = &self.edges;
         self.sets.get(number)
     }
 
@@ -59,7 +57,6 @@ impl Partial {
     pub fn edges(&self) -> &[Edge<LetterIndex>]
         ensures { result.now ≡ self.now.edges }
     {
-        let _ = &self.sets;
         self.edges.as_slice()
     }
 

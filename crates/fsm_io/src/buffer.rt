@@ -39,7 +39,6 @@ impl Buffer {
         ensures bytes { result.now ≡ self.now.held }
         ensures bound { length self.now.held ≤ self.now.room }
     {
-        let _room = &self.room;
         self.bytes.as_slice()
     }
 

@@ -1,6 +1,7 @@
 ghost use Rattle.std.specs.Prelude.{◌≡◌, ℕ, ◌<◌, List, Option, IfOk};
 
 use std::alloc::{AllocError, Global};
+use thiserror::Error;
 
 /// What a read of a folder found.
 #[derive(Debug, Drop)]
@@ -12,11 +13,13 @@ pub enum Found {
 }
 
 /// Why a folder could not be read.
-#[derive(Clone, Copy, Debug, PartialEq, Eq)]
+#[derive(Clone, Copy, Debug, PartialEq, Eq, Error)]
 pub enum FolderError {
     /// The folder failed, and its count of faults rose.
+    #[error("the folder could not be read")]
     Failed,
-    /// Out of memory.
+    /// There was no memory.
+    #[error(transparent)]
     Memory(AllocError),
 }
 

@@ -4,7 +4,7 @@
 //!   tells its content where it is known, and counts its faults.
 //! - [`MemorySource`], [`MemorySink`], [`MemoryFolder`]: in memory, with calls that fail as listed.
 //! - [`ReadSource`], [`WriteSink`], [`DirFolder`]: over std's readers, writers and files.
-//! - [`Lines`]: the lines of a source, each at most 4,096 bytes or told to be long.
+//! - [`Lines`]: the lines of a source, each at most [`MOST_LINE`] bytes or told to be long.
 //! - [`write_all`], [`Outbox`]: whole texts to a sink, and small pieces gathered before they go there.
 //!
 //! The laws for loops over a source are in `proofs/Streams.antt`.
@@ -28,7 +28,7 @@ mod write_sink;
 pub use causes::rose;
 pub use dir_folder::DirFolder;
 pub use folder::{Folder, FolderError, Found};
-pub use lines::{LineEvent, Lines};
+pub use lines::{LineEvent, Lines, MOST_LINE};
 pub use memory_folder::{MemoryFolder, Request};
 pub use memory_sink::MemorySink;
 pub use memory_source::MemorySource;

@@ -13,15 +13,15 @@ use std::alloc::{AllocError, Global};
 use std::marker::Model;
 
 /// The most bytes of a line that is told by itself, without its newline.
-const LONGEST: usize = 4096;
+pub const MOST_LINE: usize = 4096;
 
 /// How many bytes of a line are kept: enough to see that it is long.
-const KEPT: usize = LONGEST + 1;
+const KEPT: usize = MOST_LINE + 1;
 
 /// What comes next in a source of lines.
 #[derive(Clone, Copy, Debug, PartialEq, Eq)]
 pub enum LineEvent {
-    /// A line of at most 4,096 bytes, which [`Lines::text`] gives.
+    /// A line of at most [`MOST_LINE`] bytes, which [`Lines::text`] gives.
     Line,
     /// A line of more bytes.
     Long,
@@ -183,7 +183,7 @@ fn event_after(step: Step, line: &[u8]) -> LineEvent
         Step::Failed => LineEvent::Failed,
         Step::Over => LineEvent::Over,
         Step::Ended if line.is_empty() => LineEvent::End,
-        Step::Settled | Step::Ended if line.len() <= LONGEST => LineEvent::Line,
+        Step::Settled | Step::Ended if line.len() <= MOST_LINE => LineEvent::Line,
         Step::Settled | Step::Ended => LineEvent::Long,
     }
 }

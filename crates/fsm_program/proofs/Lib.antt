@@ -3,7 +3,9 @@ pub mod LastByte
 pub mod Lawful
 pub mod Loading
 pub mod Named
+pub mod Networks
 pub mod Ordered
+pub mod Parts
 pub mod Runs
 pub mod Sending
 pub mod Shown

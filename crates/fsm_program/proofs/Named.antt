@@ -1,7 +1,8 @@
 -- The names of a project that is loaded, and why it is the one that was said.
-use Rattle.std.proofs.Common.{◌≡◌, ◌+◌, ◌<◌, ◌≤◌, ◌++◌, ℕ, List, [], ◌∷◌, length, take, get_or, map, All, sym, ap, subst, ◌∙◌, Contains}
+use Rattle.std.proofs.Common.{◌≡◌, ◌+◌, ◌<◌, ◌≤◌, ◌++◌, ℕ, List, [], ◌∷◌, length, take, get_or, map, All, Some, slice_get, sym, ap, subst, ◌∙◌, Contains}
 use Rattle.std.proofs.lemmas.List.{take_all, take_more}
 use Rattle.std.proofs.lemmas.List.Elements.{All-append, All-cons, All-contains, All-nil}
+use Rattle.std.proofs.lemmas.Option.{slice_get-get_or}
 use Rattle.std.proofs.lemmas.List.Sorted.{Contains-permutation, IsPermutation-sym}
 use Rattle.std.specs.Cmp.Lexicographic.{slice_cmp}
 use Rattle.std.specs.List.Sorted.{IsPermutation, IsSorted}
@@ -11,9 +12,10 @@ use Rattle.fsm_base.specs.declared.letters.Sym.{Sym}
 use Rattle.word_relations.specs.Words.{IsDistinct}
 use Rattle.word_relations.proofs.Members.{Contains-map, Contains-map_cases}
 use Rattle.project_meaning.specs.Projects.{Definition as Meant, Defines, Written, definition_in, names_of}
+use Rattle.project_sources.specs.Laws.{IsSoundProject}
 use Rattle.project_sources.specs.Sources.{Said, project_in}
 use Rattle.project_model.specs.Numbered.{numbers_in}
-use Rattle.project_model.specs.Plans.{IsPlan, IsSoundOver, PlanView}
+use Rattle.project_model.specs.Plans.{IsPlan, PlanView}
 use Rattle.project_model.specs.Stands.{Stands, entry_in, entry_of}
 use Rattle.project_model.specs.declared.definition.Definition.{Definition}
 use Rattle.fsm_program.specs.Loaded.{AreNames, IsLoadedFrom, LoadedView}
@@ -44,7 +46,7 @@ names_are said loaded from found sorted found_is moved up = record {
 }
 
 -- a plan that stands with an empty table, and its alphabet, are the project that was said
-module _ (said : Said) (plan : PlanView) (table : List (List ℕ)) (alphabet : List (Sym × List ℕ)) (is : Stands said [] table plan) (formed : IsPlan plan) (alphabet_is : alphabet ≡ listed table plan.symbols) (is_alphabet : IsAlphabet alphabet) where
+module _ (said : Said) (plan : PlanView) (table : List (List ℕ)) (alphabet : List (Sym × List ℕ)) (is : Stands said [] table plan) (sound : IsSoundProject (project_in said)) (formed : IsPlan plan) (alphabet_is : alphabet ≡ listed table plan.symbols) (is_alphabet : IsAlphabet alphabet) where
   table_is : table ≡ (project_in said).alphabet
   table_is = is.table ∙ with_different [] (project_in said).alphabet is.distinct
 
@@ -53,19 +55,20 @@ module _ (said : Said) (plan : PlanView) (table : List (List ℕ)) (alphabet : L
       alphabet_is ∙ ap (λ (t : List (List ℕ)). listed t plan.symbols) table_is
       ∙ ap (listed (project_in said).alphabet) (is.symbols ∙ ap (λ (t : List (List ℕ)). numbers_in t (project_in said).alphabet) table_is)
 
-  pub loaded_is : IsLoadedFrom said (record { definitions = plan.definitions; alphabet = alphabet })
+  pub loaded_is : IsLoadedFrom said (record { definitions = plan.definitions; alphabet = alphabet; forms = plan.forms })
   loaded_is = record {
     formed = is_alphabet;
     alphabet = alphabet_whole;
     texts = ap texts_of alphabet_whole ∙ whole_texts (project_in said).alphabet;
     definitions = subst (λ (t : List (List ℕ)). map entry_of plan.definitions ≡ map (entry_in (names_of said.written) t) said.written) table_is is.definitions;
     leaves = is.leaves;
-    plan = subst (λ (s : List Sym). IsPlan (record { definitions = plan.definitions; symbols = s })) (sym (ap symbols_of alphabet_is ∙ symbols_of-listed table plan.symbols)) formed;
+    plan = subst (λ (s : List Sym). IsPlan (record { definitions = plan.definitions; symbols = s; forms = plan.forms })) (sym (ap symbols_of alphabet_is ∙ symbols_of-listed table plan.symbols)) formed;
+    sound = sound;
   }
 
 -- what stands at a place of a list, and what no item of it is
-pub stands_at : (items ds : List Definition) (i : ℕ) (x : Definition) → items ≡ ds → i < length items → x ≡ get_or items i x → Contains ds x
-stands_at items ds i x same below is = subst (λ (z : List Definition). Contains z x) same (i, below, sym is)
+pub stands_at : (items ds : List Definition) (i : ℕ) (x : Definition) → items ≡ ds → i < length items → x ≡ get_or items i x → slice_get ds i ≡ Some x
+stands_at items ds i x same below is = subst (λ (z : List Definition). slice_get z i ≡ Some x) same (slice_get-get_or items i x below ∙ ap (λ (d : Definition). Some d) (sym is))
 
 pub none_more : (P : Definition → Type 0) (items : List Definition) (i : ℕ) (x : Definition) → i < length items → x ≡ get_or items i x → All P (take i items) → P x → All P (take (i + 1) items)
 none_more P items i x below is so_far here =
@@ -74,7 +77,3 @@ none_more P items i x below is so_far here =
 pub none_of_all : (name : List ℕ) (items ds : List Definition) (i : ℕ) → items ≡ ds → length items ≤ i → All (λ (d : Definition). d.name ≡ name → ⊥) (take i items) → (d : Definition) → Contains ds d → d.name ≡ name → ⊥
 none_of_all name items ds i same past none d among named =
     All-contains (λ (d : Definition). d.name ≡ name → ⊥) ds d (subst (All (λ (d : Definition). d.name ≡ name → ⊥)) (take_all i items past ∙ same) none) among named
-
--- a definition of a plan is sound over the symbols of its alphabet
-pub sound_over : (plan : PlanView) (symbols : List Sym) (x : Definition) → IsPlan plan → symbols ≡ plan.symbols → Contains plan.definitions x → IsSoundOver symbols x
-sound_over plan symbols x formed same among = subst (λ (s : List Sym). IsSoundOver s x) (sym same) (All-contains (IsSoundOver plan.symbols) plan.definitions x formed.sound among)

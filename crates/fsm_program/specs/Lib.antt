@@ -7,3 +7,4 @@ pub mod Files
 pub mod Gathered
 pub mod Outside
 pub mod Ends
+pub mod Building

@@ -1,18 +1,24 @@
--- A project that is loaded: its definitions over the numbers of its symbols, and its alphabet.
+-- A project that is loaded: its definitions over the numbers of its symbols with their forms, and its alphabet.
 use Rattle.std.specs.Prelude.{◌≡◌, ◌↔◌, ℕ, List, All, Contains, map}
 use Rattle.fsm_base.specs.Alphabet.{IsAlphabet, listed, symbols_of, texts_of}
 use Rattle.fsm_base.specs.declared.letters.Sym.{Sym}
 use Rattle.word_relations.specs.Answers.{IsInOrder}
 use Rattle.project_meaning.specs.Projects.{Project, Defines, names_of}
+use Rattle.expr_kinds.specs.declared.form.Form.{Form}
+use Rattle.project_sources.specs.Laws.{IsSoundProject}
 use Rattle.project_sources.specs.Sources.{Said, project_in}
 use Rattle.project_model.specs.Numbered.{IsBodyOver, numbers_in}
-use Rattle.project_model.specs.Plans.{IsPlan}
+use Rattle.project_model.specs.Plans.{IsPlan, PlanView}
 use Rattle.project_model.specs.Stands.{entry_in, entry_of}
 use Rattle.project_model.specs.declared.definition.Definition.{Definition}
 
 pub record LoadedView : Type 0 where
   pub definitions : List Definition
   pub alphabet : List (Sym × List ℕ)
+  pub forms : List Form
+
+abbrev pub plan_in : LoadedView → PlanView
+plan_in loaded = record { definitions = loaded.definitions; symbols = symbols_of loaded.alphabet; forms = loaded.forms }
 
 -- the definitions are those that were said, over numbers of symbols, and the alphabet has the same symbols
 pub record IsLoadedFrom (said : Said) (loaded : LoadedView) : Type 0 where
@@ -21,7 +27,8 @@ pub record IsLoadedFrom (said : Said) (loaded : LoadedView) : Type 0 where
   pub texts : texts_of loaded.alphabet ≡ (project_in said).alphabet
   pub definitions : map entry_of loaded.definitions ≡ map (entry_in (names_of said.written) (project_in said).alphabet) said.written
   pub leaves : All (λ d. IsBodyOver (project_in said).alphabet d.body) (project_in said).definitions
-  pub plan : IsPlan (record { definitions = loaded.definitions; symbols = symbols_of loaded.alphabet })
+  pub plan : IsPlan (plan_in loaded)
+  pub sound : IsSoundProject (project_in said)
 
 -- the names of a project by their bytes, each once
 pub record AreNames (project : Project) (names : List (List ℕ)) : Type 0 where

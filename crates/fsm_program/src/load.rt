@@ -9,15 +9,19 @@ use fsm_io::{Folder, FolderError, Found, rose};
 use project_model::{PlanError, Sources, manifest_of, read_project};
 use regex_ast::Fault;
 use std::alloc::{AllocError, Global};
+use thiserror::Error;
 
 /// Why a project isn't loaded.
-#[derive(Debug, Drop)]
+#[derive(Debug, Drop, Error)]
 pub enum LoadError {
     /// Its folder failed.
+    #[error("the folder failed")]
     Failed,
     /// There was no memory.
+    #[error(transparent)]
     Memory(AllocError),
     /// It has this first fault.
+    #[error("the project has a fault")]
     Refused(Fault),
 }
 

@@ -9,11 +9,11 @@ ghost use Rattle.reply_text.specs.Heads.{head_word};
 ghost use Rattle.fsm_program.specs.Networks.{Shows};
 ghost use Rattle.fsm_program.specs.Sending.{Sends};
 
-use crate::bytes::without_last;
 use crate::network::Network;
 use fsm_base::nfc;
 use fsm_io::{Failed, Outbox, Sink};
 use lookup_answers::Direction;
+use reply_meaning::without_return;
 use reply_text::{Head, short};
 use std::alloc::{AllocError, Global};
 use std::str;
@@ -68,7 +68,7 @@ impl LookUp {
             → Sends (Replies project self.now.direction self.now.version self.now.network.name (Some line.now)) (O.held output.old) (O.held output.new) outbox.old outbox.new result }
         ensures cause { HasCause (O.faults output.old) (O.faults output.new) result }
     {
-        match str::from_utf8(without_last(b'\r', line)) {
+        match str::from_utf8(without_return(line)) {
             Ok(word) => match self.reply_to_word(alloc, word) {
                 Ok(bytes) => outbox.put(output, &bytes),
                 Err(_) => self.put_short(Head::Memory, outbox, output),

@@ -8,10 +8,11 @@ ghost use Rattle.fsm_program.specs.Loaded.{IsLoadedFrom};
 ghost use Rattle.fsm_program.specs.Networks.{Shows, ShowsNet};
 
 use crate::answers::reply_in;
+use crate::building::network_at;
 use crate::project::Project;
 use fsm_base::Text;
 use lookup_answers::Direction;
-use network_build::{BuildError, Compiled, build};
+use network_build::Compiled;
 use reply_text::no_net;
 use std::alloc::{AllocError, Global};
 use std::marker::Model;
@@ -40,16 +41,16 @@ impl Model for Network {
     ghost invariant = { λ n. IfSome n.compiled (λ c. IsOverAlphabet n.project.alphabet c.net) };
 }
 
-/// The network of a name, if the project defines it.
+/// The network of a name, ready for look-ups, if the project defines the name.
 fn find_net(alloc: Global, project: &Project, name: &str) -> Result<Option<Compiled>, AllocError>
     ensures shows { (said : Said) → IsLoadedFrom said project.now → IfOk result (λ compiled. ShowsNet project.now.alphabet name.now (option_map (λ c. c.net) compiled) (project_in said)) }
     ensures over { IfOk result (λ compiled. IfSome compiled (λ c. IsOverAlphabet project.now.alphabet c.net)) }
 {
     match project.find(name) {
-        Some(definition) => match build(alloc, definition, project.alphabet()) {
-            Ok(compiled) => Ok(Some(compiled)),
-            Err(BuildError::Memory(error)) => Err(error),
-        },
+        Some(place) => {
+            let network = network_at(alloc, project, place)?;
+            Ok(Some(Compiled::of(alloc, network)?))
+        }
         None => Ok(None),
     }
 }

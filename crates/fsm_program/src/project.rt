@@ -1,13 +1,13 @@
-ghost use Rattle.std.specs.Prelude.{◌≡◌, ◌<◌, [], All, Contains, IfOk, MatchOption, length};
-ghost use Rattle.fsm_base.specs.Alphabet.{symbols_of};
-ghost use Rattle.project_model.specs.Plans.{IsSoundOver};
+ghost use Rattle.std.specs.Prelude.{◌≡◌, ◌<◌, [], All, Contains, IfOk, MatchOption, Some, length, slice_get};
+ghost use Rattle.project_model.specs.Plans.{IsPlan};
 ghost use Rattle.project_model.specs.declared.definition.Definition.{Definition};
 ghost use Rattle.project_model.specs.Stands.{Stands};
+ghost use Rattle.project_sources.specs.Laws.{IsSoundProject};
 ghost use Rattle.project_sources.specs.Sources.{Said, project_in};
-ghost use Rattle.fsm_program.specs.Loaded.{AreNames, IsLoadedFrom};
+ghost use Rattle.fsm_program.specs.Loaded.{AreNames, IsLoadedFrom, plan_in};
 
 use fsm_base::{Alphabet, SymbolTable, Text};
-use project_model::{Definition, Plan};
+use project_model::Plan;
 use std::alloc::{AllocError, Global};
 use std::marker::Model;
 
@@ -33,7 +33,7 @@ impl Model for Project {
 
     ghost coded = { Prim.hlevel (codes, (expr.the_row atom.the_row).coded) };
 
-    ghost view = { λ p. record { definitions = p.plan.definitions; alphabet = p.alphabet } };
+    ghost view = { λ p. record { definitions = p.plan.definitions; alphabet = p.alphabet; forms = p.plan.forms } };
 
     ghost invariant = { λ p. IsPlan p.plan × IsAlphabet p.alphabet × (symbols_of p.alphabet ≡ p.plan.symbols) };
 }
@@ -42,7 +42,7 @@ impl Project {
     /// The project of a plan whose symbols stand in the table.
     pub fn of(alloc: Global, plan: Plan, table: &SymbolTable) -> Result<Project, AllocError>
         requires { All (λ sym. sym.0 < length table.now) plan.symbols }
-        ensures { (said : Said) → Stands said [] table.now plan → IfOk result (IsLoadedFrom said) }
+        ensures { (said : Said) → Stands said [] table.now plan → IsSoundProject (project_in said) → IfOk result (IsLoadedFrom said) }
     {
         let alphabet = Alphabet::of(alloc, table, plan.symbols())?;
         Ok(Project { plan, alphabet })
@@ -55,13 +55,23 @@ impl Project {
         &self.alphabet
     }
 
-    /// The definition of a name, or `None` where the project doesn't define the name.
-    pub fn find(&self, name: &str) -> Option<&Definition>
-        ensures { MatchOption result ((d : Definition) → Contains self.now.definitions d → d.name ≡ name.now → ⊥) (λ d. Contains self.now.definitions d.now × (d.now.name ≡ name.now) × IsSoundOver (symbols_of self.now.alphabet) d.now) }
+    /// Its definitions, and the order in which their networks are built.
+    pub fn plan(&self) -> &Plan
+        ensures definitions { result.now.definitions ≡ self.now.definitions }
+        ensures forms { result.now.forms ≡ self.now.forms }
+        ensures formed { IsPlan (plan_in self.now) }
     {
-        'definitions: for definition in self.plan.definitions() {
+        &self.plan
+    }
+
+    /// The place of the definition of a name, counted from 0, or `None` where the project doesn't define the name.
+    pub fn find(&self, name: &str) -> Option<usize>
+        ensures { MatchOption result ((d : Definition) → Contains self.now.definitions d → d.name ≡ name.now → ⊥) (λ place. (d : Definition) × (slice_get self.now.definitions place ≡ Some d) × (d.name ≡ name.now)) }
+    {
+        let all = self.plan.definitions();
+        'definitions: for (place, definition) in all.iter().enumerate() {
             if definition.name.as_str() == name {
-                return Some(definition);
+                return Some(place);
             }
         }
         None

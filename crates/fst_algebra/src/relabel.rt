@@ -1,9 +1,10 @@
-ghost use Rattle.std.specs.Prelude.{◌≡◌, ◌↔◌, [], IfOk, List, Option, Some};
+ghost use Rattle.std.specs.Prelude.{◌≡◌, ◌↔◌, IfOk, List, Option, Some};
 ghost use Rattle.fsa.specs.Automaton.{UsesLetter};
 ghost use Rattle.fsa.specs.Language.{Accepts};
 ghost use Rattle.fst_algebra.specs.Relabelled.{IsRelabelled, relabelled_letter};
 
 use fsa::{Edge, Fsa};
+use fsa_rational::same_states;
 use fsm_base::Letter;
 use std::alloc::{AllocError, Global};
 
@@ -48,12 +49,4 @@ fn relabel_letter<L: Letter, M: Letter, R: Relabelling<L, M>>(
         Some(letter) => relabelling.letter_for(letter),
         None => None,
     }
-}
-
-/// The states of an automaton, and no edge.
-fn same_states<L: Letter, M: Letter>(alloc: Global, a: &Fsa<L>) -> Result<Fsa<M>, AllocError>
-    ensures { IfOk result (λ m. m ≡ record { edges = []; finals = a.now.finals }) }
-{
-    let finals = Vec::from_slice(alloc, a.finals())?;
-    Ok(Fsa::of_states(alloc, finals))
 }

@@ -1,8 +1,6 @@
 pub mod Operands
-pub mod Gaining
 pub mod Moving
 pub mod Searched
 pub mod Producing
 pub mod Related
 pub mod Meets
-pub mod Trimming

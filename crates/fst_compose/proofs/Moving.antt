@@ -9,9 +9,9 @@ use Rattle.fst_compose.specs.declared.operand.EdgeKey.{EdgeKey}
 use Rattle.fst_compose.specs.declared.operand.Onward.{Onward}
 use Rattle.fst_compose.specs.declared.moves.Move.{Move}
 use Rattle.fst_compose.specs.Index.{IsRow}
-use Rattle.fst_compose.specs.Gains.{Gains, ForSome}
+use Rattle.fsa_trim.specs.Gains.{Gains, ForSome}
 use Rattle.fst_compose.specs.Meeting.{upper_of, lower_of, Passes, IsMatch, FirstMoves, SecondMoves, BothMove, IsMove, both_move, IsMatchOf}
-use Rattle.fst_compose.proofs.Gaining.{Gains-then, Gains-same, gained}
+use Rattle.fsa_trim.proofs.Gaining.{Gains-then, Gains-same, gained}
 
 abbrev pub first_move : ℕ → EdgeKey × Onward → Move
 first_move q row = record { up = row.1.up; low = None; first = row.1.to; second = q }

@@ -5,9 +5,9 @@ ghost use Rattle.fst_relation.specs.Relation.{IsRelated};
 ghost use Rattle.fst_algebra.specs.Relations.{UsesUpper, UsesLower};
 
 use crate::operand::Operand;
-use crate::product::{automaton, explore};
-use crate::trim::trim;
+use crate::product::explore;
 use fsa::Fsa;
+use fsa_trim::{automaton, trim};
 use fsm_base::Pair;
 use fst_algebra::inverse;
 use std::alloc::{AllocError, Global};

@@ -1,7 +1,7 @@
 ghost use Rattle.std.specs.Prelude.{◌≡◌, ◌↔◌, Contains, IfOk, OnOk};
 ghost use Rattle.fst_compose.specs.declared.operand.Onward.{Onward};
 ghost use Rattle.fst_compose.specs.declared.moves.Move.{Move};
-ghost use Rattle.fst_compose.specs.Gains.{Gains, ForSome};
+ghost use Rattle.fsa_trim.specs.Gains.{Gains, ForSome};
 ghost use Rattle.fst_compose.specs.Meeting.{FirstMoves, SecondMoves, IsMatch, IsMove, IsMatchOf, both_move};
 
 use crate::operand::{EdgeKey, Onward, Operand, row_of};

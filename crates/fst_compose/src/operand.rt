@@ -69,7 +69,6 @@ impl Operand {
     pub fn out(&self, state: usize) -> &[Edge<Pair>]
         ensures { (e : Edge Pair) → Contains result.now e ↔ (Contains self.now e × (e.from ≡ state)) }
     {
-        let _ = &self.by_low;
         self.rows.out(state)
     }
 
@@ -77,7 +76,6 @@ impl Operand {
     pub fn at(&self, place: EdgeKey) -> &[(EdgeKey, Onward)]
         ensures { (row : EdgeKey × Onward) → Contains result.now row ↔ (IsRow self.now row × (row.0 ≡ place)) }
     {
-        let _ = &self.rows;
         rows_at(self.by_low.as_slice(), place)
     }
 }

@@ -1,4 +1,4 @@
-ghost use Rattle.std.specs.Prelude.{◌≡◌, ◌<◌, ◌↔◌, ℕ, List, [], ◌∷◌, Some, true, Contains, IfOk, OnOk, IsTrue, length, slice_get};
+ghost use Rattle.std.specs.Prelude.{◌≡◌, ◌<◌, ◌↔◌, ℕ, List, [], ◌∷◌, Some, true, Contains, IfOk, OnOk, IsTrue, slice_get};
 ghost use Rattle.fsm_base.specs.declared.letters.Pair.{Pair};
 ghost use Rattle.fsa.specs.declared.automaton.Edge.{Edge};
 ghost use Rattle.fst_compose.specs.Meeting.{letter_of};
@@ -7,7 +7,7 @@ ghost use Rattle.fst_compose.specs.Product.{AddsMoves, IsProduct};
 use crate::moves::{Move, moves};
 use crate::operand::Operand;
 use crate::pairs::PairTable;
-use fsa::{Edge, Fsa};
+use fsa::Edge;
 use fsm_base::{Pair, Sym};
 use std::alloc::{AllocError, Global};
 
@@ -113,22 +113,4 @@ fn letter_of(up: Option<Sym>, low: Option<Sym>) -> Option<Pair>
         return None;
     }
     Some(Pair { up, low })
-}
-
-/// The automaton with these edges, each of which lies between two of its states.
-pub fn automaton(
-    alloc: Global,
-    finals: Vec<bool>,
-    edges: &[Edge<Pair>],
-) -> Result<Fsa<Pair>, AllocError>
-    requires start { 0 < length finals.items }
-    requires within { (e : Edge Pair) → Contains edges.now e → (e.from < length finals.items) × (e.to < length finals.items) }
-    ensures finals { IfOk result (λ m. m.finals ≡ finals.items) }
-    ensures edges { IfOk result (λ m. (e : Edge Pair) → Contains m.edges e ↔ Contains edges.now e) }
-{
-    let mut m = Fsa::of_states(alloc, finals);
-    for edge in edges {
-        m.add_edge(*edge)?;
-    }
-    Ok(m)
 }

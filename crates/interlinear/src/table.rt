@@ -114,10 +114,8 @@ impl GlossTable {
         let mut number = 0;
         'lines: for line in lines {
             number += 1;
-            match table.add_line(alloc, line.as_str()) {
-                Ok(None) => {}
-                Ok(Some(why)) => return Err(ReadError::Fault { line: number, why }),
-                Err(error) => return Err(ReadError::Memory(error)),
+            if let Some(why) = table.add_line(alloc, line.as_str())? {
+                return Err(ReadError::Fault { line: number, why });
             }
         }
         Ok(table)
@@ -134,10 +132,8 @@ impl GlossTable {
         requires { length (lines_of text.now) < 2 ^ 32 }
         ensures { IsTableRead text.now result }
     {
-        match pieces_of(alloc, &BETWEEN_LINES, text) {
-            Ok(lines) => GlossTable::of_lines(alloc, &lines),
-            Err(error) => Err(ReadError::Memory(error)),
-        }
+        let lines = pieces_of(alloc, &BETWEEN_LINES, text)?;
+        GlossTable::of_lines(alloc, &lines)
     }
 
     /// The gloss of the longest key that these characters begin with, and how many characters it has.

@@ -58,7 +58,7 @@ impl<L: Letter> Lang<L> {
         ensures same { result ≡ dfa }
         ensures complete { IsComplete result }
     {
-        let _ = dfa.states();
+        prove!(dfa.states() > 0);
         Lang { dfa }
     }
 

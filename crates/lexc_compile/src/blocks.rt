@@ -1,10 +1,10 @@
 ghost use Rattle.std.specs.Prelude.{◌≡◌, ◌+◌, ◌<◌, ◌≤◌, ◌↔◌, ◌++◌, false, IsTrue, OnOk, length, replicate};
-ghost use Rattle.fsa_rational.specs.Shapes.{epsilon, shifted, Extends, ComesFrom, LeavesFinal, FitsBelow};
 ghost use Rattle.lexc_compile.specs.Blocks.{AddsBlock, IsThere, target_of};
 
 use crate::entry::LexEntry;
 use flag_diacritics::Tape;
-use fsa::{Edge, Fsa};
+use fsa::Fsa;
+use fsa_rational::{add_epsilon, add_shifted, leave_finals};
 use std::alloc::AllocError;
 
 /// Adds the states and the edges of an entry of the lexicon at a place, among so many lexicons.
@@ -54,50 +54,6 @@ fn add_states(m: &mut Fsa<Tape>, more: usize) -> Result<(), AllocError>
 {
     for _added in 0..more {
         m.add_state()?;
-    }
-    Ok(())
-}
-
-/// Adds an epsilon edge.
-pub fn add_epsilon(m: &mut Fsa<Tape>, from: usize, to: usize) -> Result<(), AllocError>
-    requires from { from < length m.old.finals }
-    requires to { to < length m.old.finals }
-    ensures { OnOk result (Extends m.old m.new (λ e. e ≡ epsilon from to)) }
-{
-    m.add_edge(Edge {
-        from,
-        letter: None,
-        to,
-    })
-}
-
-/// Adds edges with the numbers of their states raised.
-fn add_shifted(m: &mut Fsa<Tape>, edges: &[Edge<Tape>], by: usize) -> Result<(), AllocError>
-    requires { FitsBelow edges.now by (length m.old.finals) }
-    ensures { OnOk result (Extends m.old m.new (ComesFrom (shifted by) edges.now)) }
-{
-    let _states = m.states();
-    for edge in edges {
-        m.add_edge(Edge {
-            from: edge.from + by,
-            letter: edge.letter,
-            to: edge.to + by,
-        })?;
-    }
-    Ok(())
-}
-
-/// Adds an epsilon edge from each final state, its number raised, to a state.
-fn leave_finals(m: &mut Fsa<Tape>, finals: &[bool], by: usize, to: usize) -> Result<(), AllocError>
-    requires room { length finals.now + by ≤ length m.old.finals }
-    requires to { to < length m.old.finals }
-    ensures { OnOk result (Extends m.old m.new (LeavesFinal finals.now by to)) }
-{
-    let _states = m.states();
-    for (state, is_final) in finals.iter().enumerate() {
-        if *is_final {
-            add_epsilon(m, state + by, to)?;
-        }
     }
     Ok(())
 }

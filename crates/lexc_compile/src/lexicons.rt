@@ -4,10 +4,11 @@ ghost use Rattle.fsa.specs.Language.{Accepts};
 ghost use Rattle.flag_diacritics.specs.declared.tape.Tape.{Tape};
 ghost use Rattle.lexc_compile.specs.Paths.{HasPath, SomeEntryUses};
 
-use crate::blocks::{add_entry, add_epsilon, is_there};
+use crate::blocks::{add_entry, is_there};
 use crate::entry::LexEntry;
 use flag_diacritics::Tape;
 use fsa::Fsa;
+use fsa_rational::add_epsilon;
 use std::alloc::{AllocError, Global};
 
 /// The automaton of the tapes of all paths that begin in the root lexicon, by its place. It has a state for each lexicon,

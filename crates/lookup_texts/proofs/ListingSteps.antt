@@ -9,7 +9,7 @@ use Rattle.std.proofs.lemmas.Option.{get_or_from_slice_get, slice_get_within}
 use Rattle.word_relations.proofs.Members.{Contains-nil_cases}
 use Rattle.word_relations.specs.Words.{IsDistinct}
 use Rattle.fsa.specs.declared.automaton.Edge.{Edge}
-use Rattle.word_relations.specs.Answers.{AreAll, AreMore, IsInOrder}
+use Rattle.word_relations.specs.Answers.{AreAll, AreMore, IsInOrder, most_answers}
 use Rattle.lookup_graph.specs.Graph.{Connects, Leads, letters_of, start, end}
 use Rattle.lookup_graph.proofs.Paths.{connects-append}
 use Rattle.lookup_texts.specs.Listings.{AddsText, IsListing}
@@ -188,12 +188,12 @@ module _ (edges : List (Edge Byte)) where
         λ h. ((l.passed other).0 h).0,
       )
 
-      pub all_listed : text ≡ [] → length found ≤ 4096 → AreAll (WritesText edges) found
+      pub all_listed : text ≡ [] → length found ≤ most_answers → AreAll (WritesText edges) found
       all_listed is few = record { few = few; all = listing_last is; in_order = in_order_from found l.in_order }
 
     -- one text more than are listed
     pub more_listed : (bound byte : ℕ) → floor ≤ byte → ((other : ℕ) → floor ≤ other → Follows edges text other → byte ≤ other)
-        → ((other : List ℕ) → WritesText edges other → length other ≤ bound) → WritesText edges (text ++ byte ∷ []) → length found ≡ 4096 → AreMore (WritesText edges)
+        → ((other : List ℕ) → WritesText edges other → length other ≤ bound) → WritesText edges (text ++ byte ∷ []) → length found ≡ most_answers → AreMore (WritesText edges)
     more_listed bound byte low least short written full =
         let new = found ++ (text ++ byte ∷ []) ∷ [] in
         let next = listing_enter byte low least new (inl (written, refl)) in

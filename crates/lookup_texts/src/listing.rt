@@ -1,6 +1,6 @@
 ghost use Rattle.std.specs.Prelude.{◌≡◌, ◌<◌, ◌≤◌, ◌+◌, ◌++◌, ◌⊎◌, [], ◌∷◌, ℕ, List, Contains, IfOk, IfSome, IfNone, OnOk, IsUtf8, MatchBool, length};
 ghost use Rattle.fsa.specs.declared.automaton.Edge.{Edge};
-ghost use Rattle.word_relations.specs.Answers.{AreAll, AreMore};
+ghost use Rattle.word_relations.specs.Answers.{AreAll, AreMore, most_answers};
 ghost use Rattle.lookup_graph.specs.Graph.{Leads};
 ghost use Rattle.lookup_texts.specs.declared.walk.Byte.{Byte};
 ghost use Rattle.lookup_texts.specs.Listings.{AddsText, IsListing};
@@ -8,11 +8,9 @@ ghost use Rattle.lookup_texts.specs.Walks.{IsWalk, WritesText};
 
 use crate::walk::Walk;
 use fsm_base::Text;
+use lookup_answers::MOST_ANSWERS;
 use std::alloc::{AllocError, Global};
 use std::str;
-
-/// The greatest number of texts that are listed.
-const MOST: usize = 4096;
 
 /// All texts of the graph of a walk that stands at its beginning, each once and in the order of bytes, or None
 /// where they are more than are listed. Each edge leads to the end, so that the walk turns back only behind a text
@@ -51,12 +49,12 @@ pub(crate) fn listed(alloc: Global, walk: &mut Walk) -> Result<Option<Vec<Text>>
 fn add(alloc: Global, walk: &Walk, found: &mut Vec<Text>) -> Result<bool, AllocError>
     requires walk { IsWalk walk.now }
     requires utf8 { WritesText walk.now.rows walk.now.text.items → IsUtf8 walk.now.text.items }
-    requires few { length found.old.items ≤ 4096 }
-    ensures few { OnOk result (length found.new.items ≤ 4096) }
-    ensures added { IfOk result (λ fits. MatchBool fits (AddsText walk.now.rows walk.now.text.items found.old.items found.new.items) (WritesText walk.now.rows walk.now.text.items × (found.new.items ≡ found.old.items) × (length found.old.items ≡ 4096))) }
+    requires few { length found.old.items ≤ most_answers }
+    ensures few { OnOk result (length found.new.items ≤ most_answers) }
+    ensures added { IfOk result (λ fits. MatchBool fits (AddsText walk.now.rows walk.now.text.items found.old.items found.new.items) (WritesText walk.now.rows walk.now.text.items × (found.new.items ≡ found.old.items) × (length found.old.items ≡ most_answers))) }
 {
     if walk.is_at_end() {
-        if found.len() == MOST {
+        if found.len() == MOST_ANSWERS {
             return Ok(false);
         }
         found.push(text_of(alloc, &walk.text)?)?;

@@ -12,7 +12,7 @@ use fsm_base::{Alphabet, Sym, Text};
 use lookup_graph::useful;
 use std::alloc::{AllocError, Global};
 
-/// All texts of the graph, each once and in the order of their bytes, or None where they are more than 4,096.
+/// All texts of the graph, each once and in the order of their bytes, or None where they are more than an answer lists.
 /// `count` is the count of the nodes. No text is tried that doesn't begin one that is listed.
 pub fn texts_of(
     alloc: Global,

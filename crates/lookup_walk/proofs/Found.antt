@@ -9,7 +9,7 @@ use Rattle.fsm_base.specs.declared.letters.Sym.{Sym}
 use Rattle.fsm_base.specs.declared.letters.Pair.{Pair}
 use Rattle.fsa.specs.declared.automaton.Edge.{Edge}
 use Rattle.fsa.specs.Automaton.{Automaton}
-use Rattle.word_relations.specs.Answers.{AreAll, IsInOrder}
+use Rattle.word_relations.specs.Answers.{AreAll, IsInOrder, most_answers}
 use Rattle.lookup_walk.specs.declared.moves.Move.{Move}
 use Rattle.lookup_answers.specs.declared.direction.Direction.{Direction}
 use Rattle.lookup_answers.specs.declared.direction.Direction.TheVariants.{Up, Down}
@@ -35,7 +35,7 @@ module _ (alphabet : List (Sym × List ℕ)) (direction : Direction) (m : Automa
       by e held (Some pair) at written = over pair s (e, held, at) (on_a_side direction pair s written)
 
   pub all_found : (word : List Sym) (old new : Trail) → old.written.items ≡ [] → old.found.items ≡ [] → Adds alphabet (Goes moves m.finals 0 word) old new
-      → (texts : List (List ℕ)) → ((t : List ℕ) → Contains texts t ↔ Contains new.found.items t) → IsInOrder texts → length texts ≤ 4096 → AreAll (TextsBy direction m alphabet word) texts
+      → (texts : List (List ℕ)) → ((t : List ℕ) → Contains texts t ↔ Contains new.found.items t) → IsInOrder texts → length texts ≤ most_answers → AreAll (TextsBy direction m alphabet word) texts
   all_found word old new empty none adds texts same ordered few = record {
     few = few;
     all = λ t. (

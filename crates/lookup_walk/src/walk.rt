@@ -11,7 +11,7 @@ use crate::moves::Move;
 use crate::net::Net;
 use crate::table::Table;
 use fsm_base::{Alphabet, Sym, Text};
-use lookup_answers::Direction;
+use lookup_answers::{Direction, MOST_ANSWERS};
 use std::alloc::{AllocError, Global};
 
 /// How many states a walk enters before it is given up. Words of lexicons enter a few hundred, and what is given up is a
@@ -24,9 +24,6 @@ const DEEPEST: usize = 1_024;
 /// How many bytes of texts a walk finds before it is given up. Many paths may write one long text, which is kept for
 /// each of them until the walk ends.
 const MOST_BYTES: usize = 262_144;
-
-/// The greatest number of texts that are listed.
-const MOST: usize = 4_096;
 
 /// What a walk goes over.
 #[derive(Clone, Copy)]
@@ -87,7 +84,7 @@ pub fn walked(
         return Ok(None);
     }
     let texts = in_order(trail.found);
-    if texts.len() > MOST {
+    if texts.len() > MOST_ANSWERS {
         return Ok(None);
     }
     Ok(Some(texts))

@@ -1,9 +1,10 @@
-ghost use Rattle.std.specs.Prelude.{◌≡◌, ◌↔◌, [], IfOk, List, Option, Some};
+ghost use Rattle.std.specs.Prelude.{◌≡◌, ◌↔◌, IfOk, List, Option, Some};
 ghost use Rattle.fsa.specs.Automaton.{UsesLetter};
 ghost use Rattle.fsa.specs.Language.{Accepts};
 ghost use Rattle.network_algebra.specs.Renamed.{IsRenamed, renamed_letter};
 
 use fsa::{Edge, Fsa};
+use fsa_rational::same_states;
 use fsm_base::Letter;
 use std::alloc::{AllocError, Global};
 
@@ -53,12 +54,4 @@ fn rename_letter<L: Letter, M: Letter, R: Renaming<L, M>>(
             Some(name) => Some(Some(name)),
         },
     }
-}
-
-/// The states of an automaton, and no edge.
-fn same_states<L: Letter, M: Letter>(alloc: Global, a: &Fsa<L>) -> Result<Fsa<M>, AllocError>
-    ensures { IfOk result (λ m. m ≡ record { edges = []; finals = a.now.finals }) }
-{
-    let finals = Vec::from_slice(alloc, a.finals())?;
-    Ok(Fsa::of_states(alloc, finals))
 }

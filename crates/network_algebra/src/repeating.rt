@@ -1,4 +1,4 @@
-ghost use Rattle.std.specs.Prelude.{◌≡◌, ◌↔◌, IfOk, List};
+ghost use Rattle.std.specs.Prelude.{◌↔◌, IfOk, List};
 ghost use Rattle.fsm_base.specs.declared.letters.Sym.{Sym};
 ghost use Rattle.word_relations.specs.Relations.{IsRepetitionOfPairs};
 ghost use Rattle.fsa.specs.Automaton.{UsesLetter};
@@ -25,7 +25,7 @@ pub enum Times {
     Exactly(u32),
 }
 
-/// What a network repeat so often is.
+/// What a network repeated so often is.
 pub fn repeat(alloc: Global, network: Network, times: Times) -> Result<Network, AllocError>
     ensures letters { IfOk result (λ n. (symbols : List Sym) → IsNetwork symbols network → IsNetwork symbols n) }
     ensures meaning { IfOk result (IsFor (kind_of_network network) (IsRepetitionOf (Counts times) (WordsOf network)) (IsRepetitionOfPairs (Counts times) (PairsOf network))) }

@@ -1,3 +1,3 @@
-mod Built
+pub mod Built
 mod Sounds
 mod Uses

@@ -1,16 +1,18 @@
--- A sound expression is built over its alphabet and over its own symbols, and which symbols its network has.
-use Rattle.std.proofs.Common.{◌≡◌, ◌↔◌, ◌⊎◌, ◌==◌, ◌||◌, ℕ, Bool, true, false, List, [], ◌∷◌, Some, Contains, IsTrue, Result, Ok, Err, IfOk, refl, sym, subst, ap, ◌∙◌, inl, inr, arith, eq-eqb}
+-- An expression is built over its alphabet and over its own symbols, and which symbols its network has.
+use Rattle.std.proofs.Common.{◌≡◌, ◌↔◌, ◌⊎◌, ◌==◌, ◌||◌, ℕ, Bool, true, false, List, [], ◌∷◌, Contains, IsTrue, Result, Ok, Err, IfOk, refl, sym, subst, ap, ◌∙◌, inl, inr, eq-eqb}
 use Rattle.std.proofs.lemmas.Bool.{eqb-true}
-use Rattle.std.proofs.lemmas.List.Elements.{All-contains}
+use Rattle.std.proofs.lemmas.List.Elements.{All-contains, All-contains_itself, All-weaker}
 use Rattle.std.proofs.lemmas.Map.Views.{Contains-from_any}
 use Rattle.std.specs.Borrow.{Bor}
 use Rattle.std.specs.List.{list_any}
 use Rattle.fsm_base.specs.Alphabet.{symbols_of}
+use Rattle.fsm_base.specs.declared.letters.Bound.{Bound}
+use Rattle.fsm_base.specs.declared.letters.Bound.TheVariants.{Inner, Edge}
 use Rattle.fsm_base.specs.declared.letters.Sym.{Sym as Symbol}
 use Rattle.fsm_base.specs.declared.letters.Pair.{Pair}
 use Rattle.word_relations.specs.Relations.{AreSame}
 use Rattle.word_relations.specs.Words.{IsDistinct}
-use Rattle.word_relations.proofs.Members.{Contains-cons_cases, Contains-nil_cases}
+use Rattle.word_relations.proofs.Members.{Contains-cons_cases, Contains-nil_cases, Contains-head, Contains-tail, Contains-map, Contains-map_cases}
 use Rattle.fsa.specs.Automaton.{Automaton, UsesLetter}
 use Rattle.fsa.specs.Language.{Accepts}
 use Rattle.fst_relation.specs.Relation.{IsRelated}
@@ -18,21 +20,19 @@ use Rattle.lookup.specs.Answering.{IsOverAlphabet}
 use Rattle.regex_ast.specs.declared.expr.Atom.{Atom}
 use Rattle.regex_ast.specs.declared.expr.Atom.TheVariants.{Sym, Name}
 use Rattle.regex_ast.specs.Terms.{Term}
-use Rattle.expr_kinds.specs.Atoms.{is_symbol_of, symbols}
-use Rattle.expr_kinds.specs.Built.{IsBuilt, IsBuiltBy}
-use Rattle.expr_kinds.specs.Kinds.{Fits}
-use Rattle.expr_kinds.proofs.LeafLaws.{fits_alike}
-use Rattle.expr_meaning.specs.Leaves.{stands_for}
+use Rattle.expr_kinds.proofs.Ruleless.{with_rules}
+use Rattle.expr_kinds.specs.Atoms.{is_symbol_of}
 use Rattle.expr_meaning.specs.Meaning.{Relates}
-use Rattle.expr_leaves.specs.Alphabet.{uses_alphabet}
+use Rattle.expr_meaning.specs.Operators.{inner}
 use Rattle.expr_leaves.specs.Leaves.{leaves_in, seen}
-use Rattle.network_algebra.specs.Networks.{UsesSymbols}
-use Rattle.network_expr.specs.Built.{IsBuiltOver}
-use Rattle.network_expr.specs.Parts.{IsGround, is_leaf_of, kinds}
-use Rattle.project_model.specs.Sound.{IsSound}
-use Rattle.network_build.specs.Networks.{IsTransducerOf, MayUse, UsesSymbolsOf}
-use Rattle.network_build.proofs.Built.{built_by, leaves_pass}
-use Rattle.network_build.proofs.Uses.{AreAmong}
+use Rattle.network_algebra.specs.Networks.{IsNetwork, UsesSymbols, all_letters}
+use Rattle.network_algebra.specs.declared.network.Network.{Network}
+use Rattle.network_algebra.specs.declared.network.Network.TheVariants.{Words, Pairs}
+use Rattle.network_expr.specs.Built.{IsBuiltOver, IsMeant, IsPlainOver}
+use Rattle.network_expr.specs.Parts.{IsGround, is_leaf_of, stands}
+use Rattle.network_expr.specs.declared.parts.Part.{Part}
+use Rattle.network_build.specs.Networks.{IsNetworkOf, MayUse, PartsUse, UsesSymbol}
+use Rattle.network_build.proofs.Built.{built_alone, built_by, leaves_pass}
 
 same_number : (a b : Symbol) → (b.0 == a.0) ≡ true → a ≡ b
 same_number a b e = ap (λ (n : ℕ). record { 0 = n }) (sym (eqb-true b.0 a.0 e))
@@ -52,111 +52,104 @@ symbol_passes (t ∷ alphabet) s at = elim (Contains-cons_cases t alphabet s at)
     either true b h = refl
     either false b h = elim h as (λ _. b ≡ true) [ inl isnt ↦ (let never : false ≡ true = isnt in cc) | inr is ↦ is ]
 
--- each leaf of a sound expression passes
-leaf_passes : (alphabet : List Symbol) (e : Term Atom) → IsSound alphabet e → (a : Atom) → Contains (leaves_in e) a → IsTrue (is_symbol_of alphabet a)
-leaf_passes alphabet e sound a at = All-contains (λ (x : Atom). IsTrue (is_symbol_of alphabet x)) (leaves_in e) a (leaves_pass (is_symbol_of alphabet) e sound.built) at
+never : IsTrue false → ⊥
+never e = cc
 
--- where no name has a part, a leaf is built just where it's a symbol
-no_parts : (alphabet : List Symbol) (a : Atom) → is_symbol_of alphabet a ≡ is_leaf_of [] alphabet a
-no_parts alphabet (Sym s) = refl
-no_parts alphabet (Name name) = refl
+-- what may stand in braces may stand by itself
+letter_is_leaf : (parts : List Part) (alphabet : List Symbol) (a : Atom) → IsTrue (is_symbol_of alphabet a) → IsTrue (is_leaf_of parts alphabet a)
+letter_is_leaf parts alphabet (Sym s) h = h
+letter_is_leaf parts alphabet (Name name) h = absurd (never h)
 
-built_without : (alphabet : List Symbol) (e : Term Atom) → IsBuilt (is_symbol_of alphabet) e → IsBuiltOver [] alphabet e
-built_without alphabet e h = subst (λ (test : Atom → Bool). IsBuiltBy test (is_symbol_of alphabet) e) (λ i a. no_parts alphabet a i) h
+-- what has no replacement is built whatever is asked of centres
+pub plain_is_built : (parts : List Part) (alphabet : List Symbol) (e : Term Atom) → IsPlainOver parts alphabet e → IsBuiltOver parts alphabet e
+plain_is_built parts alphabet e h = with_rules (is_leaf_of parts alphabet) (is_symbol_of alphabet) _ _ e h
 
-pub over_alphabet_built : (alphabet : List Symbol) (e : Term Atom) → IsSound alphabet e → IsBuiltOver [] alphabet e
-over_alphabet_built alphabet e sound = built_without alphabet e sound.built
+-- a symbol that stands in an expression that is built is of the alphabet
+stands_within : (parts : List Part) (alphabet : List Symbol) (e : Term Atom) → IsPlainOver parts alphabet e → (s : Symbol) → Contains (leaves_in e) (Sym s) → Contains alphabet s
+stands_within parts alphabet e built s at =
+    let alone = built_alone (is_leaf_of parts alphabet) (is_symbol_of alphabet) (letter_is_leaf parts alphabet) e built in
+    symbol_held alphabet s (All-contains (λ (x : Atom). IsTrue (is_leaf_of parts alphabet x)) (leaves_in e) (Sym s) (leaves_pass (is_leaf_of parts alphabet) e alone) at)
 
--- an expression of symbols fits alike where a name counts as one and where it has a part
-pub sound_fits : (alphabet : List Symbol) (e : Term Atom) → IsSound alphabet e → Fits (kinds []) e
-sound_fits alphabet e sound = subst (λ (fits : Type 0). fits) (sym (fits_alike symbols (kinds []) (is_symbol_of alphabet) kind same e sound.built)) sound.fits
-  where
-    kind : (a : Atom) → IsTrue (is_symbol_of alphabet a) → (kinds []).kind a ≡ symbols.kind a
-    kind (Sym s) h = refl
-    kind (Name name) h = refl
+-- a network is over symbols just where those that stand in it are among them
+letter_within : (symbols : List Symbol) (x : Bound Symbol) → ((s : Symbol) → x ≡ Inner s → Contains symbols s) → Contains (all_letters symbols) x
+letter_within symbols Edge h = Contains-head Edge (inner symbols)
+letter_within symbols (Inner s) h = Contains-tail Edge (inner symbols) (Inner s) (Contains-map (λ (t : Symbol). Inner t) symbols s (h s refl))
 
-    same : (a b : Atom) → IsTrue (is_symbol_of alphabet a) → IsTrue (is_symbol_of alphabet b) → (kinds []).same a b ≡ symbols.same a b
-    same (Sym s) (Sym t) p q = refl
-    same (Sym s) (Name other) p q = refl
-    same (Name name) (Sym t) p q = refl
-    same (Name name) (Name other) p q = let no : false ≡ true = p in cc
+network_within : (symbols : List Symbol) (n : Network) → ((s : Symbol) → UsesSymbol n s → Contains symbols s) → IsNetwork symbols n
+network_within symbols (Words m) h = λ x used. letter_within symbols x (λ s is. h s (subst (λ (y : Bound Symbol). UsesLetter m y) is used))
+network_within symbols (Pairs m) h = record { upper = λ s (pair, used, up). h s (pair, used, inl up); lower = λ s (pair, used, low). h s (pair, used, inr low) }
 
-pub no_ground : (alphabet : List Symbol) → IsDistinct alphabet → IsGround alphabet []
-no_ground alphabet distinct = record { distinct = distinct; rising = λ i j d less within. absurd (omega arith); over = λ i d within. absurd (omega arith) }
-
--- the symbols are those that stand in the expression
-abbrev pub AreOwn : List Symbol → Term Atom → Type 0
-AreOwn own e = (s : Symbol) → Contains own s ↔ Contains (leaves_in e) (Sym s)
-
-pub over_own_built : (alphabet own : List Symbol) (e : Term Atom) → AreOwn own e → IsSound alphabet e → IsBuiltOver [] own e
-over_own_built alphabet own e same sound = built_without own e (built_by (is_symbol_of alphabet) (is_symbol_of own) e sound.built (λ a at. by a at (leaf_passes alphabet e sound a at)))
-  where
-    by : (a : Atom) → Contains (leaves_in e) a → IsTrue (is_symbol_of alphabet a) → IsTrue (is_symbol_of own a)
-    by (Sym s) at h = symbol_passes own s ((same s).1 at)
-    by (Name name) at h = let no : false ≡ true = h in cc
-
-pub own_by_leaves : (own : List Symbol) (e : Term Atom) (given found : List (Bor Atom)) → given ≡ found → seen found ≡ leaves_in e → AreAmong own given → AreOwn own e
-own_by_leaves own e given found is leaves among s = subst (λ (xs : List Atom). Contains own s ↔ Contains xs (Sym s)) (ap seen is ∙ leaves) (among s)
-
--- the symbols of a network on either side, where each is such a one
-by_side : (P : Symbol → Type 0) (letters : List Symbol) (m : Automaton Pair) → UsesSymbols letters m → ((s : Symbol) → Contains letters s → P s)
-    → (pair : Pair) (s : Symbol) → UsesLetter m pair → (pair.up ≡ Some s) ⊎ (pair.low ≡ Some s) → P s
-by_side P letters m uses each pair s used side =
-    each s (elim side as (λ _. Contains letters s) [ inl up ↦ uses.upper s (pair, used, up) | inr low ↦ uses.lower s (pair, used, low) ])
-
-uses_alphabet_symbols : (alphabet : List Symbol) (e : Term Atom) (m : Automaton Pair) → uses_alphabet e ≡ true → UsesSymbols alphabet m → UsesSymbolsOf alphabet e m
-uses_alphabet_symbols alphabet e m used uses = by_side (MayUse alphabet e) alphabet m uses (λ s at. inr (used, at))
-
-uses_own_symbols : (alphabet own : List Symbol) (e : Term Atom) (m : Automaton Pair)
-    → AreOwn own e → UsesSymbols own m → UsesSymbolsOf alphabet e m
-uses_own_symbols alphabet own e m same uses = by_side (MayUse alphabet e) own m uses (λ s at. inl ((same s).0 at))
-
-pub over_alphabet : (alphabet : List (Symbol × List ℕ)) (e : Term Atom) (m : Automaton Pair) → IsSound (symbols_of alphabet) e → UsesSymbolsOf (symbols_of alphabet) e m → IsOverAlphabet alphabet m
-over_alphabet alphabet e m sound uses pair s used side = elim (uses pair s used side) as (λ _. Contains (symbols_of alphabet) s) [
-  | inl stood ↦ symbol_held (symbols_of alphabet) s (leaf_passes (symbols_of alphabet) e sound (Sym s) stood)
-  | inr whole ↦ whole.1
+inner_within : (symbols : List Symbol) (s : Symbol) → Contains (all_letters symbols) (Inner s) → Contains symbols s
+inner_within symbols s at = elim (Contains-cons_cases Edge (inner symbols) (Inner s) at) as (λ _. Contains symbols s) [
+  | inl is ↦ cc
+  | inr there ↦
+      let (t, among, same) = Contains-map_cases (λ (t : Symbol). Inner t) symbols (Inner s) there in
+      let is : t ≡ s = cc in
+      subst (Contains symbols) is among
 ]
 
--- a relation that is the same as one of two that are the same
-same_over : {L : Type 0} (R S T : List L → List L → Type 0) → AreSame R S → AreSame S T → AreSame R T
-same_over R S T f g u w = (λ r. (g u w).0 ((f u w).0 r), λ t. (f u w).1 ((g u w).1 t))
+pub network_has : (symbols : List Symbol) (n : Network) → IsNetwork symbols n → (s : Symbol) → UsesSymbol n s → Contains symbols s
+network_has symbols (Words m) over s used = inner_within symbols s (over (Inner s) used)
+network_has symbols (Pairs m) over s (pair, used, side) =
+    elim side as (λ _. Contains symbols s) [ inl up ↦ over.upper s (pair, used, up) | inr low ↦ over.lower s (pair, used, low) ]
 
--- what two facts of a value make
-both_facts : {T E : Type 0} (r : Result T E) (P Q R : T → Type 0) → ((x : T) → P x → Q x → R x) → IfOk r P → IfOk r Q → IfOk r R
-both_facts (Ok x) P Q R f p q = f x p q
-both_facts (Err e) P Q R f p q = p
+-- the symbols are those that stand in the expression and in its parts
+abbrev pub AreOwn : List Symbol → Term Atom → List Part → Type 0
+AreOwn own e parts = (s : Symbol) → Contains own s ↔ (Contains (leaves_in e) (Sym s) ⊎ PartsUse parts s)
 
--- the transducer over the alphabet, and that over the own symbols of an expression that doesn't use the alphabet
-pub transducer_over_alphabet : {E : Type 0} (alphabet : List Symbol) (e : Term Atom) (r : Result (Automaton Pair) E) → uses_alphabet e ≡ true
-    → IfOk r (UsesSymbols alphabet) → IfOk r (λ m. AreSame (IsRelated m) (Relates stands_for alphabet e)) → IfOk r (IsTransducerOf alphabet e)
-transducer_over_alphabet alphabet e r used =
-    both_facts r (UsesSymbols alphabet) (λ m. AreSame (IsRelated m) (Relates stands_for alphabet e)) (IsTransducerOf alphabet e)
-    (λ m uses same. record { relation = same; symbols = uses_alphabet_symbols alphabet e m used uses })
+pub own_by_leaves : (own : List Symbol) (e : Term Atom) (parts : List Part) (given found : List (Bor Atom)) → given ≡ found → seen found ≡ leaves_in e
+    → ((s : Symbol) → Contains own s ↔ (Contains (seen given) (Sym s) ⊎ PartsUse parts s)) → AreOwn own e parts
+own_by_leaves own e parts given found is leaves among s = subst (λ (xs : List Atom). Contains own s ↔ (Contains xs (Sym s) ⊎ PartsUse parts s)) (ap seen is ∙ leaves) (among s)
 
-pub transducer_over_own : {E : Type 0} (alphabet own : List Symbol) (e : Term Atom) (r : Result (Automaton Pair) E) → AreOwn own e
-    → AreSame (Relates stands_for own e) (Relates stands_for alphabet e)
-    → IfOk r (UsesSymbols own) → IfOk r (λ m. AreSame (IsRelated m) (Relates stands_for own e)) → IfOk r (IsTransducerOf alphabet e)
-transducer_over_own alphabet own e r mine law =
-    both_facts r (UsesSymbols own) (λ m. AreSame (IsRelated m) (Relates stands_for own e)) (IsTransducerOf alphabet e)
-    (λ m uses same. record {
-      relation = same_over (IsRelated m) (Relates stands_for own e) (Relates stands_for alphabet e) same law;
-      symbols = uses_own_symbols alphabet own e m mine uses;
-    })
+module _ (parts : List Part) (alphabet own : List Symbol) (e : Term Atom) (mine : AreOwn own e parts) where
+  -- the parts are over the own symbols
+  pub ground_over_own : IsDistinct own → IsGround alphabet parts → IsGround own parts
+  ground_over_own distinct ground = record {
+    distinct = distinct;
+    rising = ground.rising;
+    over =
+        All-weaker (Contains parts) (λ (part : Part). IsNetwork own part.network.now)
+        (λ part among. network_within own part.network.now (λ s used. (mine s).1 (inr (part, among, used)))) parts (All-contains_itself parts);
+  }
 
--- an automaton of the same language, with no other letters
-pub transducer_straight : (alphabet : List Symbol) (e : Term Atom) (m n : Automaton Pair) → ((x : Pair) → UsesLetter n x → UsesLetter m x) → ((w : List Pair) → Accepts n w ↔ Accepts m w)
-    → IsTransducerOf alphabet e m → IsTransducerOf alphabet e n
-transducer_straight alphabet e m n letters language made = record {
-  relation = same_over (IsRelated n) (IsRelated m) (Relates stands_for alphabet e)
-      (λ upper lower. (
-        λ (pairs, accepted, is_upper, is_lower). (pairs, (language pairs).0 accepted, is_upper, is_lower),
-        λ (pairs, accepted, is_upper, is_lower). (pairs, (language pairs).1 accepted, is_upper, is_lower),
-      )) made.relation;
-  symbols = λ pair s used side. made.symbols pair s (letters pair used) side;
+  pub built_over_own : IsPlainOver parts alphabet e → IsPlainOver parts own e
+  built_over_own built =
+      built_by (is_leaf_of parts alphabet) (is_symbol_of alphabet) (is_leaf_of parts own) (is_symbol_of own) e built (leaf, letter)
+    where
+      leaf : (a : Atom) → Contains (leaves_in e) a → IsTrue (is_leaf_of parts alphabet a) → IsTrue (is_leaf_of parts own a)
+      leaf (Sym s) at h = symbol_passes own s ((mine s).1 (inl at))
+      leaf (Name name) at h = h
+
+      letter : (a : Atom) → Contains (leaves_in e) a → IsTrue (is_symbol_of alphabet a) → IsTrue (is_symbol_of own a)
+      letter (Sym s) at h = symbol_passes own s ((mine s).1 (inl at))
+      letter (Name name) at h = absurd (never h)
+
+  -- the own symbols are of the alphabet
+  pub own_within : IsGround alphabet parts → IsPlainOver parts alphabet e → (s : Symbol) → Contains own s → Contains alphabet s
+  own_within ground built s at = elim ((mine s).0 at) as (λ _. Contains alphabet s) [
+    | inl stood ↦ stands_within parts alphabet e built s stood
+    | inr (part, among, used) ↦ network_has alphabet part.network.now (All-contains (λ (p : Part). IsNetwork alphabet p.network.now) parts part ground.over among) s used
+  ]
+
+-- the network over given symbols of the alphabet, which means the same over both
+pub network_made : {E : Type 0} (parts : List Part) (alphabet given : List Symbol) (e : Term Atom) (r : Result Network E) → ((s : Symbol) → Contains given s → Contains alphabet s)
+    → ((s : Symbol) → Contains given s → MayUse parts alphabet e s) → AreSame (Relates (stands parts) given e) (Relates (stands parts) alphabet e)
+    → IfOk r (IsNetwork given) → IfOk r (IsMeant parts given e) → IfOk r (IsNetworkOf parts alphabet e)
+network_made parts alphabet given e (Err error) within may same over meant = over
+network_made parts alphabet given e (Ok n) within may same over meant = record {
+  kind = meant.kind_is;
+  relation = λ u w. (λ r. (same u w).0 ((meant.pairs u w).0 r), λ r. (meant.pairs u w).1 ((same u w).1 r));
+  symbols = λ s used. may s (network_has given n over s used);
+  over = network_within alphabet n (λ s used. within s (network_has given n over s used));
 }
 
--- the same automaton over the same alphabet
-pub transducer_kept : (given alphabet : List Symbol) (e : Term Atom) (m n : Automaton Pair) → given ≡ alphabet → n ≡ m
-    → IsTransducerOf given e m → IsTransducerOf alphabet e n
-transducer_kept given alphabet e m n is same made =
-    subst (λ (k : Automaton Pair). IsTransducerOf alphabet e k) (sym same) (subst (λ (symbols : List Symbol). IsTransducerOf symbols e m) is made)
+-- an automaton of the same language, with no other letters
+pub same_relation : (m n : Automaton Pair) (R : List Symbol → List Symbol → Type 0) → ((w : List Pair) → Accepts n w ↔ Accepts m w) → AreSame (IsRelated m) R → AreSame (IsRelated n) R
+same_relation m n R language same upper lower = (
+  λ (pairs, accepted, is_upper, is_lower). (same upper lower).0 (pairs, (language pairs).0 accepted, is_upper, is_lower),
+  λ r. let (pairs, accepted, is_upper, is_lower) = (same upper lower).1 r in (pairs, (language pairs).1 accepted, is_upper, is_lower),
+)
+
+pub over_alphabet : (alphabet : List (Symbol × List ℕ)) (m n : Automaton Pair) → ((x : Pair) → UsesLetter n x → UsesLetter m x) → UsesSymbols (symbols_of alphabet) m → IsOverAlphabet alphabet n
+over_alphabet alphabet m n letters uses pair s used side =
+    elim side as (λ _. Contains (symbols_of alphabet) s) [ inl up ↦ uses.upper s (pair, letters pair used, up) | inr low ↦ uses.lower s (pair, letters pair used, low) ]

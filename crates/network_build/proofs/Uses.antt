@@ -1,5 +1,5 @@
 -- The symbols among leaves, gathered leaf by leaf.
-use Rattle.std.proofs.Common.{◌≡◌, ◌↔◌, ◌⊎◌, ◌+◌, ◌<◌, ◌++◌, ◌==◌, ℕ, Bool, true, false, List, [], ◌∷◌, Contains, length, take, get_or, refl, sym, ap, subst, ◌∙◌, inl, inr, eq-eqb, if◌then◌else◌}
+use Rattle.std.proofs.Common.{◌≡◌, ◌↔◌, ◌⊎◌, ◌+◌, ◌<◌, ◌++◌, ◌==◌, ℕ, Bool, true, false, List, [], ◌∷◌, Some, Option, Contains, length, take, get_or, refl, sym, ap, subst, ◌∙◌, inl, inr, eq-eqb, if◌then◌else◌}
 use Rattle.std.proofs.lemmas.Bool.{eqb-true}
 use Rattle.std.proofs.lemmas.List.{take_more, map-append, map-id}
 use Rattle.std.proofs.lemmas.List.Elements.{Contains-append_left, Contains-push, Contains-push_cases}
@@ -9,7 +9,17 @@ use Rattle.indexmap.proofs.CallerLemmas.{Contains-list_any}
 use Rattle.indexmap.specs.IndexSet.{insert_key}
 use Rattle.fsm_base.specs.declared.letters.Sym.{Sym as Symbol}
 use Rattle.fsm_base.proofs.TableLemmas.{IsDistinct-map}
+use Rattle.fsm_base.specs.declared.letters.Bound.{Bound}
+use Rattle.fsm_base.specs.declared.letters.Bound.TheVariants.{Inner}
+use Rattle.fsm_base.specs.declared.letters.Pair.{Pair}
+use Rattle.fsa.specs.Automaton.{Automaton}
+use Rattle.fsa.specs.declared.automaton.Edge.{Edge}
+use Rattle.network_algebra.specs.declared.network.Network.{Network}
+use Rattle.network_algebra.specs.declared.network.Network.TheVariants.{Words, Pairs}
 use Rattle.word_relations.specs.Words.{IsDistinct}
+use Rattle.word_relations.proofs.Members.{Contains-nil_cases}
+use Rattle.network_expr.specs.declared.parts.Part.{Part}
+use Rattle.network_build.specs.Networks.{IsOn, UsesSymbol}
 use Rattle.regex_ast.specs.declared.expr.Atom.{Atom}
 use Rattle.regex_ast.specs.declared.expr.Atom.TheVariants.{Sym}
 use Rattle.expr_leaves.specs.Leaves.{seen}
@@ -74,6 +84,108 @@ pub more_among : (old new : List Symbol) (leaves : List (Bor Atom)) (i : ℕ) (d
 more_among old new leaves i d below added so_far s =
     subst (λ (xs : List Atom). Contains new s ↔ Contains xs (Sym s)) (sym (seen_more leaves i d below))
     (among_more (seen (take i leaves)) old new (get_or leaves i d).now added so_far s)
+
+-- what is given by one of many items, each giving symbols
+module _ {X : Type 0} (Gives : X → Symbol → Type 0) where
+  abbrev pub Given : List X → Symbol → Type 0
+  Given xs s = (x : X) × Contains xs x × Gives x s
+
+  -- the symbols are the first ones and those that these items give
+  abbrev pub AreGiven : List Symbol → List Symbol → List X → Type 0
+  AreGiven first now xs = (s : Symbol) → Contains now s ↔ (Contains first s ⊎ Given xs s)
+
+  pub given_none : (first : List Symbol) → AreGiven first first []
+  given_none first s = (λ at. inl at, λ h. elim h as (λ _. Contains first s) [ inl at ↦ at | inr (x, among, gives) ↦ absurd (Contains-nil_cases x among) ])
+
+  pub given_more : (first old new : List Symbol) (xs : List X) (i : ℕ) (x : X) → take (i + 1) xs ≡ take i xs ++ x ∷ []
+      → ((s : Symbol) → Contains new s ↔ (Contains old s ⊎ Gives x s)) → AreGiven first old (take i xs) → AreGiven first new (take (i + 1) xs)
+  given_more first old new xs i x front added so_far s = (
+    λ at. elim ((added s).0 at) as (λ _. Contains first s ⊎ Given (take (i + 1) xs) s) [
+      | inl o ↦ elim ((so_far s).0 o) as (λ _. Contains first s ⊎ Given (take (i + 1) xs) s) [
+        | inl f ↦ inl f
+        | inr (y, among, gives) ↦ inr (y, subst (λ (ys : List X). Contains ys y) (sym front) (Contains-append_left (take i xs) (x ∷ []) y among), gives)
+      ]
+      | inr gives ↦ inr (x, subst (λ (ys : List X). Contains ys x) (sym front) (Contains-push (take i xs) x), gives)
+    ],
+    λ h. elim h as (λ _. Contains new s) [
+      | inl f ↦ (added s).1 (inl ((so_far s).1 (inl f)))
+      | inr (y, among, gives) ↦ elim (Contains-push_cases (take i xs) x y (subst (λ (ys : List X). Contains ys y) front among)) as (λ _. Contains new s) [
+        | inl before ↦ (added s).1 (inl ((so_far s).1 (inr (y, before, gives))))
+        | inr same ↦ (added s).1 (inr (subst (λ (z : X). Gives z s) (sym same) gives))
+      ]
+    ],
+  )
+
+-- what an edge reads
+abbrev pub Reads : Edge (Bound Symbol) → Symbol → Type 0
+Reads e s = e.letter ≡ Some (Inner s)
+
+abbrev pub Relates : Edge Pair → Symbol → Type 0
+Relates e s = (pair : Pair) × (e.letter ≡ Some pair) × IsOn pair s
+
+abbrev pub PartUses : Part → Symbol → Type 0
+PartUses part s = UsesSymbol part.network.now s
+
+-- symbols that are such ones, with further ones
+pub given_behind : (old new : List Symbol) (P Q : Symbol → Type 0) → ((s : Symbol) → Contains old s ↔ P s) → ((s : Symbol) → Contains new s ↔ (Contains old s ⊎ Q s))
+    → (s : Symbol) → Contains new s ↔ (P s ⊎ Q s)
+given_behind old new P Q first more s = (
+  λ at. elim ((more s).0 at) as (λ _. P s ⊎ Q s) [ inl o ↦ inl ((first s).0 o) | inr q ↦ inr q ],
+  λ h. (more s).1 (elim h as (λ _. Contains old s ⊎ Q s) [ inl p ↦ inl ((first s).1 p) | inr q ↦ inr q ]),
+)
+
+-- the same symbols by another description
+pub given_as : (old new : List Symbol) (P Q : Symbol → Type 0) → ((s : Symbol) → P s ↔ Q s) → ((s : Symbol) → Contains new s ↔ (Contains old s ⊎ P s)) → (s : Symbol) → Contains new s ↔ (Contains old s ⊎ Q s)
+given_as old new P Q same are s = (
+  λ at. elim ((are s).0 at) as (λ _. Contains old s ⊎ Q s) [ inl o ↦ inl o | inr p ↦ inr ((same s).0 p) ],
+  λ h. (are s).1 (elim h as (λ _. Contains old s ⊎ P s) [ inl o ↦ inl o | inr q ↦ inr ((same s).1 q) ]),
+)
+
+-- the symbols of edges are those of the network that they are of
+pub words_use : (n : Network) (m : Automaton (Bound Symbol)) (edges : List (Edge (Bound Symbol))) → n ≡ Words m → edges ≡ m.edges → (s : Symbol) → Given Reads edges s ↔ UsesSymbol n s
+words_use n m edges is are s = rw (are, is) by
+  where
+    by : Given Reads m.edges s ↔ UsesSymbol (Words m) s
+    by = (λ h. h, λ h. h)
+
+pub pairs_use : (n : Network) (m : Automaton Pair) (edges : List (Edge Pair)) → n ≡ Pairs m → edges ≡ m.edges → (s : Symbol) → Given Relates edges s ↔ UsesSymbol n s
+pairs_use n m edges is are s = rw (are, is) by
+  where
+    by : Given Relates m.edges s ↔ UsesSymbol (Pairs m) s
+    by = (λ (e, among, (pair, is, side)). (pair, (e, among, is), side), λ (pair, (e, among, is), side). (e, among, (pair, is, side)))
+
+-- a letter that is a symbol
+inner_same : (a b : Symbol) → (Some (Inner a) ≡ Some (Inner b)) → a ≡ b
+inner_same a b e = cc
+
+some_same : (a b : Symbol) → (Some a ≡ Some b) → a ≡ b
+some_same a b e = cc
+
+pub letter_one : (old new : List Symbol) (letter : Option (Bound Symbol)) (symbol : Symbol) → letter ≡ Some (Inner symbol) → ((s : Symbol) → Contains new s ↔ (Contains old s ⊎ (symbol ≡ s)))
+    → (s : Symbol) → Contains new s ↔ (Contains old s ⊎ (letter ≡ Some (Inner s)))
+letter_one old new letter symbol is = given_as old new (λ s. symbol ≡ s) (λ s. letter ≡ Some (Inner s)) (λ s. (λ e. is ∙ ap (λ (t : Symbol). Some (Inner t)) e, λ e. inner_same symbol s (sym is ∙ e)))
+
+pub side_one : (old new : List Symbol) (side : Option Symbol) (symbol : Symbol) → side ≡ Some symbol → ((s : Symbol) → Contains new s ↔ (Contains old s ⊎ (symbol ≡ s)))
+    → (s : Symbol) → Contains new s ↔ (Contains old s ⊎ (side ≡ Some s))
+side_one old new side symbol is = given_as old new (λ s. symbol ≡ s) (λ s. side ≡ Some s) (λ s. (λ e. is ∙ ap (λ (t : Symbol). Some t) e, λ e. some_same symbol s (sym is ∙ e)))
+
+-- both sides of a pair
+pair_same : (a b : Pair) → (Some a ≡ Some b) → a ≡ b
+pair_same a b e = cc
+
+pub pair_both : (old between new : List Symbol) (letter : Option Pair) (pair : Pair) → letter ≡ Some pair → ((s : Symbol) → Contains between s ↔ (Contains old s ⊎ (pair.up ≡ Some s)))
+    → ((s : Symbol) → Contains new s ↔ (Contains between s ⊎ (pair.low ≡ Some s))) → (s : Symbol) → Contains new s ↔ (Contains old s ⊎ ((x : Pair) × (letter ≡ Some x) × IsOn x s))
+pair_both old between new letter pair is first second s = (
+  λ at. elim ((second s).0 at) as (λ _. Contains old s ⊎ ((x : Pair) × (letter ≡ Some x) × IsOn x s)) [
+    | inl b ↦ elim ((first s).0 b) as (λ _. Contains old s ⊎ ((x : Pair) × (letter ≡ Some x) × IsOn x s)) [ inl o ↦ inl o | inr up ↦ inr (pair, is, inl up) ]
+    | inr low ↦ inr (pair, is, inr low)
+  ],
+  λ h. elim h as (λ _. Contains new s) [
+    | inl o ↦ (second s).1 (inl ((first s).1 (inl o)))
+    | inr (x, e, side) ↦ (let same = pair_same x pair (sym e ∙ is) in
+        elim (subst (λ (y : Pair). IsOn y s) same side) as (λ _. Contains new s) [ inl up ↦ (second s).1 (inl ((first s).1 (inr up))) | inr low ↦ (second s).1 (inr low) ])
+  ],
+)
 
 -- symbols that a set tells apart are distinct
 pub apart_distinct : (ks : List Symbol) → IsApart (λ (a b : Symbol). a.0 == b.0) ks → IsDistinct ks

@@ -1,7 +1,15 @@
-ghost use Rattle.std.specs.Prelude.{◌≡◌};
+ghost use Rattle.std.specs.Prelude.{◌≡◌, ℕ, List, IfOk};
+ghost use Rattle.fsm_base.specs.Alphabet.{symbols_of};
+ghost use Rattle.fsm_base.specs.declared.letters.Sym.{Sym};
+ghost use Rattle.fst_relation.specs.Relation.{IsRelated};
+ghost use Rattle.lookup.specs.Answering.{IsOverAlphabet};
+ghost use Rattle.network_algebra.specs.Networks.{IsNetwork, PairsOf};
+ghost use Rattle.word_relations.specs.Relations.{AreSame};
 
+use crate::straight::straightened;
 use lookup::Net;
-use std::alloc::AllocError;
+use network_algebra::Network;
+use std::alloc::{AllocError, Global};
 use std::marker::Model;
 use thiserror::Error;
 
@@ -24,10 +32,10 @@ impl From<AllocError> for BuildError {
     }
 }
 
-/// A definition's network. Contracts see its automaton.
+/// A definition's network, ready for look-ups. Contracts see its automaton.
 #[derive(Debug, Drop)]
 pub struct Compiled {
-    pub(crate) net: Net,
+    net: Net,
 }
 
 impl Model for Compiled {
@@ -39,6 +47,17 @@ impl Model for Compiled {
 }
 
 impl Compiled {
+    /// The same network, ready for look-ups. It is deterministic where that makes it little larger.
+    pub fn of(alloc: Global, network: Network) -> Result<Compiled, AllocError>
+        ensures relation { IfOk result (λ c. AreSame (IsRelated c.net) (PairsOf network)) }
+        ensures alphabet { (alphabet : List (Sym × List ℕ)) → IsNetwork (symbols_of alphabet) network → IfOk result (λ c. IsOverAlphabet alphabet c.net) }
+    {
+        let transducer = network.into_pairs(alloc)?;
+        let straight = straightened(alloc, transducer)?;
+        let net = Net::of(alloc, &straight)?;
+        Ok(Compiled { net })
+    }
+
     /// The network, ready for look-ups.
     pub fn net(&self) -> &Net
         ensures { result.now ≡ self.now.net }

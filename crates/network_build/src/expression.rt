@@ -1,62 +1,68 @@
 ghost use Rattle.std.specs.Prelude.{◌≡◌, IfOk, false, true};
-ghost use Rattle.word_relations.specs.Words.{IsDistinct};
 ghost use Rattle.regex_ast.specs.Terms.{term};
+ghost use Rattle.expr_kinds.specs.Kinds.{Fits};
 ghost use Rattle.expr_leaves.specs.Alphabet.{uses_alphabet};
-ghost use Rattle.project_model.specs.Sound.{IsSound};
-ghost use Rattle.network_build.specs.Networks.{IsTransducerOf};
+ghost use Rattle.network_expr.specs.Built.{IsPlainOver};
+ghost use Rattle.network_expr.specs.Parts.{IsGround, kinds};
+ghost use Rattle.network_build.specs.Networks.{IsNetworkOf};
 
 use crate::symbols::symbols_among;
 use expr_leaves::{leaves, uses_alphabet};
-use expr_spelling::alphabet_does_not_matter;
-use fsa::Fsa;
-use fsm_base::{Pair, Sym};
-use network_expr::relation_of;
+use fsm_base::Sym;
+use network_algebra::Network;
+use network_expr::{Part, network_of};
 use regex_ast::{Atom, Expr};
 use std::alloc::{AllocError, Global};
 
-/// The transducer of an expression over an alphabet. Its letters are the alphabet's symbols only where the expression
-/// uses the alphabet, so that a large alphabet makes no other network larger.
-pub fn transducer_of(
+/// The network of an expression over an alphabet, whose names have these parts. Its letters are the alphabet's symbols only
+/// where the expression uses the alphabet, so that a large alphabet makes no other network larger.
+pub fn network_over(
     alloc: Global,
     alphabet: &[Sym],
+    parts: &[Part],
     expr: &Expr<Atom>,
-) -> Result<Fsa<Pair>, AllocError>
-    requires distinct { IsDistinct alphabet.now }
-    requires sound { IsSound alphabet.now (term expr.now) }
-    ensures { IfOk result (IsTransducerOf alphabet.now (term expr.now)) }
+) -> Result<Network, AllocError>
+    requires ground { IsGround alphabet.now parts.now }
+    requires built { IsPlainOver parts.now alphabet.now (term expr.now) }
+    requires fits { Fits (kinds parts.now) (term expr.now) }
+    ensures { IfOk result (IsNetworkOf parts.now alphabet.now (term expr.now)) }
 {
     if uses_alphabet(expr) {
-        over_alphabet(alloc, alphabet, expr)
+        over_alphabet(alloc, alphabet, parts, expr)
     } else {
-        over_own_symbols(alloc, alphabet, expr)
+        over_own_symbols(alloc, alphabet, parts, expr)
     }
 }
 
-/// The transducer of an expression that uses the alphabet.
+/// The network of an expression that uses the alphabet.
 fn over_alphabet(
     alloc: Global,
     alphabet: &[Sym],
+    parts: &[Part],
     expr: &Expr<Atom>,
-) -> Result<Fsa<Pair>, AllocError>
-    requires distinct { IsDistinct alphabet.now }
-    requires sound { IsSound alphabet.now (term expr.now) }
+) -> Result<Network, AllocError>
+    requires ground { IsGround alphabet.now parts.now }
+    requires built { IsPlainOver parts.now alphabet.now (term expr.now) }
+    requires fits { Fits (kinds parts.now) (term expr.now) }
     requires uses { uses_alphabet (term expr.now) ≡ true }
-    ensures { IfOk result (IsTransducerOf alphabet.now (term expr.now)) }
+    ensures { IfOk result (IsNetworkOf parts.now alphabet.now (term expr.now)) }
 {
-    relation_of(alloc, alphabet, &[], expr)
+    network_of(alloc, alphabet, parts, expr)
 }
 
-/// The transducer of an expression that doesn't use the alphabet, over the symbols that stand in it.
+/// The network of an expression that doesn't use the alphabet, over the symbols that stand in it and in its parts.
 fn over_own_symbols(
     alloc: Global,
     alphabet: &[Sym],
+    parts: &[Part],
     expr: &Expr<Atom>,
-) -> Result<Fsa<Pair>, AllocError>
-    requires sound { IsSound alphabet.now (term expr.now) }
+) -> Result<Network, AllocError>
+    requires ground { IsGround alphabet.now parts.now }
+    requires built { IsPlainOver parts.now alphabet.now (term expr.now) }
+    requires fits { Fits (kinds parts.now) (term expr.now) }
     requires free { uses_alphabet (term expr.now) ≡ false }
-    ensures { IfOk result (IsTransducerOf alphabet.now (term expr.now)) }
+    ensures { IfOk result (IsNetworkOf parts.now alphabet.now (term expr.now)) }
 {
-    alphabet_does_not_matter();
-    let own = symbols_among(alloc, &leaves(alloc, expr)?)?;
-    relation_of(alloc, &own, &[], expr)
+    let own = symbols_among(alloc, &leaves(alloc, expr)?, parts)?;
+    network_of(alloc, &own, parts, expr)
 }

@@ -1,7 +1,9 @@
 //! The network of a definition.
 //!
-//! - [`build`]: the network of a definition of a plan, over the plan's alphabet: a [`Compiled`].
+//! - [`build`]: the network of a definition of a plan, over the plan's alphabet, made of the networks of the names in it, which are
+//!   its [`Part`]s.
 //! - [`BuildError`]: why there is none.
+//! - [`Compiled`]: such a network, ready for look-ups.
 #![tactic(auto)]
 
 mod compiled;
@@ -12,3 +14,5 @@ mod symbols;
 
 pub use compiled::{BuildError, Compiled};
 pub use network::build;
+pub use network_algebra::Network;
+pub use network_expr::Part;

@@ -1,49 +1,48 @@
 ghost use Rattle.std.specs.Prelude.{IfOk};
 ghost use Rattle.fsm_base.specs.Alphabet.{symbols_of};
-ghost use Rattle.word_relations.specs.Relations.{AreSame};
-ghost use Rattle.word_relations.specs.Words.{IsDistinct};
-ghost use Rattle.fst_relation.specs.Relation.{IsRelated};
-ghost use Rattle.lookup.specs.Answering.{IsOverAlphabet};
-ghost use Rattle.expr_meaning.specs.Leaves.{stands_for};
-ghost use Rattle.expr_meaning.specs.Meaning.{Relates};
+ghost use Rattle.expr_kinds.specs.Kinds.{Fits};
+ghost use Rattle.network_expr.specs.Built.{IsPlainOver};
+ghost use Rattle.network_expr.specs.Parts.{IsGround, kinds};
 ghost use Rattle.project_model.specs.Plans.{body_term};
-ghost use Rattle.project_model.specs.Sound.{IsSound};
-ghost use Rattle.network_build.specs.Networks.{IsTransducerOf, UsesSymbolsOf};
+ghost use Rattle.network_build.specs.Networks.{IsNetworkOf};
 
-use crate::compiled::{BuildError, Compiled};
-use crate::expression::transducer_of;
-use crate::straight::straightened;
-use fsa::Fsa;
-use fsm_base::{Alphabet, Pair, Sym};
-use lookup::Net;
+use crate::compiled::BuildError;
+use crate::expression::network_over;
+use fsm_base::{Alphabet, Sym};
+use network_algebra::Network;
+use network_expr::Part;
 use project_model::{Body, Definition};
 use std::alloc::{AllocError, Global};
 
-/// The transducer of what a name stands for, over an alphabet.
-fn transducer_of_body(alloc: Global, alphabet: &[Sym], body: &Body) -> Result<Fsa<Pair>, AllocError>
-    requires distinct { IsDistinct alphabet.now }
-    requires sound { IsSound alphabet.now (body_term body.now) }
-    ensures { IfOk result (IsTransducerOf alphabet.now (body_term body.now)) }
+/// The network of what a name stands for, over an alphabet.
+fn network_of_body(
+    alloc: Global,
+    alphabet: &[Sym],
+    parts: &[Part],
+    body: &Body,
+) -> Result<Network, AllocError>
+    requires ground { IsGround alphabet.now parts.now }
+    requires built { IsPlainOver parts.now alphabet.now (body_term body.now) }
+    requires fits { Fits (kinds parts.now) (body_term body.now) }
+    ensures { IfOk result (IsNetworkOf parts.now alphabet.now (body_term body.now)) }
 {
     match body {
-        Body::Xfst(expr) => transducer_of(alloc, alphabet, expr),
+        Body::Xfst(expr) => network_over(alloc, alphabet, parts, expr),
     }
 }
 
 /// The network of a definition of a plan, over the symbols of the plan: it relates just the words that the definition
-/// relates, and is deterministic where that makes it little larger. An `Err` comes only where there is no memory.
+/// relates, where each name relates what its part does. An `Err` comes only where there is no memory.
 pub fn build(
     alloc: Global,
     definition: &Definition,
     alphabet: &Alphabet,
-) -> Result<Compiled, BuildError>
-    requires { IsSound (symbols_of alphabet.now) (body_term definition.now.body) }
-    ensures relation { IfOk result (λ c. AreSame (IsRelated c.net) (Relates stands_for (symbols_of alphabet.now) (body_term definition.now.body))) }
-    ensures symbols { IfOk result (λ c. UsesSymbolsOf (symbols_of alphabet.now) (body_term definition.now.body) c.net) }
-    ensures alphabet { IfOk result (λ c. IsOverAlphabet alphabet.now c.net) }
+    parts: &[Part],
+) -> Result<Network, BuildError>
+    requires ground { IsGround (symbols_of alphabet.now) parts.now }
+    requires built { IsPlainOver parts.now (symbols_of alphabet.now) (body_term definition.now.body) }
+    requires fits { Fits (kinds parts.now) (body_term definition.now.body) }
+    ensures { IfOk result (IsNetworkOf parts.now (symbols_of alphabet.now) (body_term definition.now.body)) }
 {
-    let transducer = transducer_of_body(alloc, alphabet.symbols(), &definition.body)?;
-    let straight = straightened(alloc, transducer)?;
-    let net = Net::of(alloc, &straight)?;
-    Ok(Compiled { net })
+    Ok(network_of_body(alloc, alphabet.symbols(), parts, &definition.body)?)
 }

@@ -21,16 +21,15 @@ use Rattle.word_relations.specs.Operations.{IsOneLetter, IsIgnoring}
 use Rattle.regex_ast.specs.declared.expr.Prefix.{Prefix}
 use Rattle.regex_ast.specs.declared.expr.Atom.{Atom}
 use Rattle.regex_ast.specs.declared.expr.Atom.TheVariants.{Sym as Symbol}
-use Rattle.regex_ast.specs.declared.expr.Suffix.{Suffix}
 use Rattle.regex_ast.specs.declared.expr.Link.{Link}
 use Rattle.regex_ast.specs.declared.expr.Step.{Step}
 use Rattle.regex_ast.specs.declared.expr.Context.{Context}
 use Rattle.regex_ast.specs.Terms.{Term, Terms, Links, Contexts, Steps, empty, any, atom, letters, maybe, cross, prefixed, not_one, ignore, concat, only, no_term, then_term, no_link, or, and, less, no_context, between, no_step, cross_with, then, terms_of, links_of, contexts_of, steps_by}
 use Rattle.expr_kinds.specs.Atoms.{are_one_symbol}
-use Rattle.expr_kinds.specs.Kinds.{are_alike, both, half, kind_of, kind_of_each, kind_of_chain, kind_of_steps, kind_of_contexts, with_suffixes, ChainFits, StepsFit, ContextsFit, EachFitsAsLanguage}
+use Rattle.expr_kinds.specs.Kinds.{are_alike, both, half, kind_of, kind_of_each, kind_of_chain, kind_of_steps, kind_of_contexts, ChainFits, StepsFit, ContextsFit, EachFitsAsLanguage}
 use Rattle.expr_kinds.specs.declared.form.Kind.{Kind}
 use Rattle.expr_kinds.specs.declared.form.Kind.TheVariants.{Language, Relation}
-use Rattle.expr_meaning.specs.Operators.{inner, IsItself, AreSuffixed, RelateSuffixed, ArePrefixed, IsNotOne, HasSuffix, HasPrefix}
+use Rattle.expr_meaning.specs.Operators.{inner, IsItself, ArePrefixed, IsNotOne, HasSuffix, HasPrefix}
 use Rattle.network_expr.specs.Parts.{kinds, stands}
 use Rattle.network_expr.specs.declared.parts.Part.{Part}
 use Rattle.expr_meaning.specs.Meaning.{In, InLeaf, InLeaves, InEach, InIgnoring, InChain, InContext, InSteps, Relates, RelatesEach, RelatesChain, RelatesSteps}
@@ -44,20 +43,9 @@ use Rattle.network_sets.specs.Split.{split}
 use Rattle.network_sets.specs.declared.parts.Split.{Split}
 use Rattle.network_sets.proofs.Inside.{over_all}
 use Rattle.network_expr.specs.Built.{IsMeant, IsChoice}
-use Rattle.network_expr.proofs.Alike.{SameWords, suffixes_words, suffixes_pairs, suffixes_split, relates_split, composition_same, words_then, words_back, ignoring_same, prefixes_same, not_one_same}
+use Rattle.network_affixes.proofs.Alike.{SameWords, composition_same, words_then, words_back, ignoring_same, prefixes_same, not_one_same}
+use Rattle.network_affixes.proofs.Suffixed.{for_same, for_itself}
 use Rattle.network_expr.proofs.Rows.{each_words, each_pairs, each_kind, put_in_same, put_in_split, chain_words, chain_language, chain_pairs, chain_words_split, chain_pairs_split, chain_kind, choice_words, choice_pairs, choice_kind, steps_words, steps_language, steps_pairs, steps_words_split, steps_pairs_split, steps_kind, context_split}
-
--- the same of another set and relation
-pub for_same : (k j : Kind) (P Q : List (Bound Sym) → Type 0) (R S : List Sym → List Sym → Type 0) (n : Network) → k ≡ j → (j ≡ Language → SameWords P Q) → AreSame R S → IsFor k P R n → IsFor j Q S n
-for_same k j P Q R S n is f g h = record {
-  kind_is = h.kind_is ∙ is;
-  words = λ language w. let old = h.words (is ∙ language) w in let new = f language w in (λ x. new.0 (old.0 x), λ y. old.1 (new.1 y));
-  pairs = same_trans (PairsOf n) R S h.pairs g;
-}
-
--- a network is what it is
-pub for_itself : (n : Network) → IsFor (kind_of_network n) (WordsOf n) (PairsOf n) n
-for_itself n = record { kind_is = refl; words = λ language w. (λ h. h, λ h. h); pairs = λ u w. (λ h. h, λ h. h) }
 
 -- a smaller network that is the same
 pub reduced_for : (K : Kind) (P : List (Bound Sym) → Type 0) (R : List Sym → List Sym → Type 0) (n r : Network) → IsFor K P R n → IsFor (kind_of_network n) (WordsOf n) (PairsOf n) r → IsFor K P R r
@@ -94,28 +82,6 @@ module _ (K J : Kind) (P Q : List (Bound Sym) → Type 0) (R S : List Sym → Li
       for_same (both (kind_of_network a) (kind_of_network b)) (both K J) (λ w. WordsOf a w × WordsOf b w) (λ w. P w × Q w) (IsComposition (PairsOf a) (PairsOf b)) (IsComposition R S) r both_kinds
       (λ is w. let two = both_languages K J is in (λ x. ((f.words two.0 w).0 x.0, (g.words two.1 w).0 x.1), λ x. ((f.words two.0 w).1 x.0, (g.words two.1 w).1 x.1)))
       (composition_same (PairsOf a) R (PairsOf b) S f.pairs g.pairs) h
-
--- suffixes
-suffix_kinds : (xs ys : List Suffix) (k : Kind) → with_suffixes (with_suffixes k xs) ys ≡ with_suffixes k (xs ++ ys)
-suffix_kinds [] ys k = refl
-suffix_kinds (x ∷ xs) ys k = suffix_kinds xs ys (Rattle.expr_kinds.specs.Kinds.kind_behind k x)
-
-pub suffixed_for : (K : Kind) (P : List (Bound Sym) → Type 0) (R : List Sym → List Sym → Type 0) (n r : Network) (suffixes : List Suffix) → IsFor K P R n
-    → IsFor (with_suffixes (kind_of_network n) suffixes) (AreSuffixed suffixes (WordsOf n) (PairsOf n)) (RelateSuffixed suffixes (PairsOf n)) r → IsFor (with_suffixes K suffixes) (AreSuffixed suffixes P R) (RelateSuffixed suffixes R) r
-suffixed_for K P R n r suffixes f h =
-    for_same (with_suffixes (kind_of_network n) suffixes) (with_suffixes K suffixes) (AreSuffixed suffixes (WordsOf n) (PairsOf n)) (AreSuffixed suffixes P R) (RelateSuffixed suffixes (PairsOf n)) (RelateSuffixed suffixes R) r
-    (ap (λ k. with_suffixes k suffixes) f.kind_is) (suffixes_words suffixes (WordsOf n) P (PairsOf n) R f.pairs K f.words) (suffixes_pairs suffixes (WordsOf n) P (PairsOf n) R f.pairs) h
-
-pub suffixes_halves : (n inner r : Network) (xs ys whole : List Suffix) → xs ++ ys ≡ whole → IsFor (with_suffixes (kind_of_network n) xs) (AreSuffixed xs (WordsOf n) (PairsOf n)) (RelateSuffixed xs (PairsOf n)) inner
-    → IsFor (with_suffixes (kind_of_network inner) ys) (AreSuffixed ys (WordsOf inner) (PairsOf inner)) (RelateSuffixed ys (PairsOf inner)) r
-    → IsFor (with_suffixes (kind_of_network n) whole) (AreSuffixed whole (WordsOf n) (PairsOf n)) (RelateSuffixed whole (PairsOf n)) r
-suffixes_halves n inner r xs ys whole is f g =
-    let K = with_suffixes (kind_of_network n) xs in
-    let P = AreSuffixed xs (WordsOf n) (PairsOf n) in
-    let R = RelateSuffixed xs (PairsOf n) in
-    subst (λ (z : List Suffix). IsFor (with_suffixes (kind_of_network n) z) (AreSuffixed z (WordsOf n) (PairsOf n)) (RelateSuffixed z (PairsOf n)) r) is
-    (for_same (with_suffixes K ys) (with_suffixes (kind_of_network n) (xs ++ ys)) (AreSuffixed ys P R) (AreSuffixed (xs ++ ys) (WordsOf n) (PairsOf n)) (RelateSuffixed ys R) (RelateSuffixed (xs ++ ys) (PairsOf n)) r (suffix_kinds xs ys (kind_of_network n))
-    (λ language w. let s = suffixes_split xs ys (WordsOf n) (PairsOf n) w in (s.1, s.0)) (same_back (RelateSuffixed (xs ++ ys) (PairsOf n)) (RelateSuffixed ys R) (relates_split xs ys (PairsOf n))) (suffixed_for K P R inner r ys f g))
 
 module _ (parts : List Part) (alphabet : List Sym) where
   -- a language by its words
@@ -282,35 +248,9 @@ module _ (parts : List Part) (alphabet : List Sym) where
     pairs = λ u w. (λ h. none (inner u) h.0, λ h. absurd h);
   }
 
-  -- one operand more
-  pub or_chained : (n b r : Network) (e : Term Atom) → IsMeant parts alphabet e b → IsFor (both (kind_of_network n) (kind_of_network b)) (λ w. WordsOf n w ⊎ WordsOf b w) (λ u w. PairsOf n u w ⊎ PairsOf b u w) r
-      → IsFor (kind_of_chain (kinds parts) (kind_of_network n) (or e no_link)) (InChain (stands parts) alphabet (WordsOf n) (or e no_link)) (RelatesChain (stands parts) alphabet (WordsOf n) (PairsOf n) (or e no_link)) r
-  or_chained n b r e f h = union_for (kind_of_network n) (kind_of (kinds parts) e) (WordsOf n) (In (stands parts) alphabet e) (PairsOf n) (Relates (stands parts) alphabet e) n b r (for_itself n) f h
-
-  -- a set of words as a language
-  language_for : (k : Kind) (m : Automaton (Bound Sym)) (P : List (Bound Sym) → Type 0) → k ≡ Language → ((w : List (Bound Sym)) → Accepts m w ↔ P w) → IsFor k P (IsItself P) (Words m)
-  language_for k m P is language = record {
-    kind_is = sym is;
-    words = λ same. language;
-    pairs = λ u w. (λ h. ((language (inner u)).0 h.0, h.1), λ h. ((language (inner u)).1 h.0, h.1));
-  }
-
+  -- kinds of languages
   two_kinds : (k j : Kind) → k ≡ Language → j ≡ Language → both k j ≡ Language
   two_kinds k j first second = ap (λ x. both x j) first ∙ second
-
-  pub and_chained : (n : Network) (x y m : Automaton (Bound Sym)) (e : Term Atom) → n ≡ Words x → kind_of (kinds parts) e ≡ Language → ((w : List (Bound Sym)) → Accepts y w ↔ In (stands parts) alphabet e w) → ((w : List (Bound Sym)) → Accepts m w ↔ (Accepts x w × Accepts y w))
-      → IsFor (kind_of_chain (kinds parts) (kind_of_network n) (and e no_link)) (InChain (stands parts) alphabet (WordsOf n) (and e no_link)) (RelatesChain (stands parts) alphabet (WordsOf n) (PairsOf n) (and e no_link)) (Words m)
-  and_chained n x y m e is kind second language =
-      subst (λ (z : Network). IsFor (kind_of_chain (kinds parts) (kind_of_network z) (and e no_link)) (InChain (stands parts) alphabet (WordsOf z) (and e no_link)) (RelatesChain (stands parts) alphabet (WordsOf z) (PairsOf z) (and e no_link)) (Words m)) (sym is)
-      (language_for (both Language (kind_of (kinds parts) e)) m (λ v. Accepts x v × In (stands parts) alphabet e v) (two_kinds Language (kind_of (kinds parts) e) refl kind)
-      (λ w. (λ h. let r = (language w).0 h in (r.0, (second w).0 r.1), λ h. (language w).1 (h.0, (second w).1 h.1))))
-
-  pub less_chained : (n : Network) (x y m : Automaton (Bound Sym)) (e : Term Atom) → n ≡ Words x → kind_of (kinds parts) e ≡ Language → ((w : List (Bound Sym)) → Accepts y w ↔ In (stands parts) alphabet e w) → ((w : List (Bound Sym)) → Accepts m w ↔ (Accepts x w × ¬ Accepts y w))
-      → IsFor (kind_of_chain (kinds parts) (kind_of_network n) (less e no_link)) (InChain (stands parts) alphabet (WordsOf n) (less e no_link)) (RelatesChain (stands parts) alphabet (WordsOf n) (PairsOf n) (less e no_link)) (Words m)
-  less_chained n x y m e is kind second language =
-      subst (λ (z : Network). IsFor (kind_of_chain (kinds parts) (kind_of_network z) (less e no_link)) (InChain (stands parts) alphabet (WordsOf z) (less e no_link)) (RelatesChain (stands parts) alphabet (WordsOf z) (PairsOf z) (less e no_link)) (Words m)) (sym is)
-      (language_for (both Language (kind_of (kinds parts) e)) m (λ v. Accepts x v × ¬ In (stands parts) alphabet e v) (two_kinds Language (kind_of (kinds parts) e) refl kind)
-      (λ w. (λ h. let r = (language w).0 h in (r.0, λ q. r.1 ((second w).1 q)), λ h. (language w).1 (h.0, λ q. h.1 ((second w).0 q)))))
 
   -- rows of `.x.` and `.o.`
   pub steps_for : (K : Kind) (P : List (Bound Sym) → Type 0) (R : List Sym → List Sym → Type 0) (n r : Network) (more : Steps Atom) → StepsFit (kinds parts) K more → IsFor K P R n

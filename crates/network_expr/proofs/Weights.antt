@@ -1,7 +1,7 @@
 -- How much a term weighs: more than its operands together. The recursion over expressions ends by it.
 use Rattle.std.proofs.Common.{◌≡◌, ℕ, ◌+◌, ◌<◌, List, [], ◌∷◌, ◌++◌, length, map, ap, sym, ◌∙◌, arith}
 use Rattle.std.proofs.lemmas.List.{map-append}
-use Rattle.regex_ast.specs.Terms.{Term, term, group, maybe, not_one, cross, suffixed, prefixed, ignore, concat, chain, only, steps, Terms, no_term, then_term, Links, no_link, or, and, less, Contexts, no_context, between, Steps, no_step, cross_with, then, terms_of, links_of, contexts_of, steps_by}
+use Rattle.regex_ast.specs.Terms.{Term, term, group, maybe, not_one, cross, suffixed, prefixed, ignore, concat, chain, only, rules, steps, Terms, no_term, then_term, Links, no_link, or, and, less, Contexts, no_context, between, Steps, no_step, cross_with, then, Mappings, no_mapping, plain, markup, insert, Groups, no_group, then_group, terms_of, links_of, contexts_of, steps_by}
 use Rattle.regex_ast.specs.declared.expr.Atom.{Atom}
 use Rattle.regex_ast.specs.declared.expr.Expr.{Expr}
 use Rattle.regex_ast.specs.declared.expr.Link.{Link, Or, And, Less}
@@ -20,6 +20,7 @@ abbrev mutual
   weight (concat es) = weight_each es + 4
   weight (chain e links) = weight e + weight_links links + 4
   weight (only e contexts) = weight e + weight_contexts contexts + 4
+  weight (rules optional groups) = weight_groups groups + 4
   weight (steps e more) = weight e + weight_steps more + 4
   weight _ = 0
 
@@ -41,6 +42,16 @@ abbrev mutual
   weight_steps no_step = 0
   weight_steps (cross_with e more) = weight e + 3 + weight_steps more
   weight_steps (then e more) = weight e + 3 + weight_steps more
+
+  pub weight_mappings : {A : Type 0} → Mappings A → ℕ
+  weight_mappings no_mapping = 0
+  weight_mappings (plain c r maps) = weight c + weight r + 3 + weight_mappings maps
+  weight_mappings (markup c b a maps) = weight c + weight b + weight a + 3 + weight_mappings maps
+  weight_mappings (insert r maps) = weight r + 3 + weight_mappings maps
+
+  pub weight_groups : {A : Type 0} → Groups A → ℕ
+  weight_groups no_group = 0
+  weight_groups (then_group maps side contexts groups) = weight_mappings maps + weight_contexts contexts + weight_groups groups
 
 -- the weight of a row is that of its parts
 each_append : (xs ys : List (Term Atom)) → weight_each (terms_of (xs ++ ys)) ≡ weight_each (terms_of xs) + weight_each (terms_of ys)

@@ -3,32 +3,36 @@ ghost use Rattle.fsm_base.specs.declared.letters.Bound.{Bound};
 ghost use Rattle.fsm_base.specs.declared.letters.Bound.TheVariants.{Edge};
 ghost use Rattle.fsm_base.specs.declared.letters.Sym.{Sym};
 ghost use Rattle.word_relations.specs.Words.{IsOver};
+ghost use Rattle.fsa.specs.Complete as complete;
 ghost use Rattle.fsa.specs.Language.{Accepts};
-ghost use Rattle.regex_ast.specs.Terms.{chain, concat, contexts_of, cross, ignore, links_of, maybe, not_one, only, prefixed, steps, steps_by, suffixed, term, terms_of};
-ghost use Rattle.expr_kinds.specs.Kinds.{ChainFits, ContextsFit, EachFits, EachFitsAsLanguage, Fits, IsLanguage, StepsFit, kind_of, kind_of_chain, kind_of_steps};
+ghost use Rattle.lang_algebra.specs.Languages.{IsLang};
+ghost use Rattle.regex_ast.specs.Terms.{concat, contexts_of, cross, groups_of, ignore, links_of, mappings_of, maybe, not_one, only, rules, steps_by, term, terms_of};
+ghost use Rattle.expr_kinds.specs.Kinds.{ChainFits, ContextsFit, EachFits, EachFitsAsLanguage, Fits, GroupsFit, IsLanguage, MappingsFit, StepsFit, kind_of_chain, kind_of_steps};
 ghost use Rattle.expr_kinds.specs.declared.form.Kind.{Kind};
 ghost use Rattle.expr_meaning.specs.Meaning.{In, InChain, InContext, InIgnoring, InSteps, RelatesChain, RelatesSteps};
 ghost use Rattle.expr_meaning.specs.Operators.{inner};
 ghost use Rattle.network_algebra.specs.Networks.{IsFor, IsNetwork, PairsOf, UsesOnly, WordsOf, all_letters, kind_of_network};
 ghost use Rattle.network_sets.specs.Split.{split, split_letters};
-ghost use Rattle.network_expr.specs.Built.{AreBuiltOver, ContextsAreBuiltOver, IsBuiltOver, IsChoice, IsMeant, LinksAreBuiltOver, StepsAreBuiltOver};
+ghost use Rattle.network_expr.specs.Built.{AreBuiltOver, ContextsAreBuiltOver, GroupsAreBuiltOver, IsBuiltOver, IsChoice, IsMeant, IsNarrowing, LinksAreBuiltOver, MappingsAreBuiltOver, StepsAreBuiltOver};
 ghost use Rattle.network_expr.specs.Parts.{IsGround, kinds, stands};
+ghost use Rattle.network_rules.specs.Rules.{AreContexts, AreMaps, IsPart};
 
 use crate::leaves::{leaf, symbols};
 use crate::parts::Part;
-use crate::prefixes::{apply_prefixes, not_one_times};
-use crate::suffixes::apply_suffixes;
 use expr_kinds::are_alike;
 use fsa::Fsa;
 use fsm_base::{Bound, Sym};
-use lang_algebra::one_letter;
+use lang_algebra::{Lang, one_letter};
+use network_affixes::{apply_prefixes, apply_suffixes, not_one_times};
 use network_algebra::{Network, cross, inner_letters, reduced, union, word};
-use network_sets::{Split, both, compose, ignore, in_context, minus, restrict};
-use regex_ast::{Atom, Context, Expr, Link, Step};
+use network_rules::inner_language;
+use network_sets::{Split, both, compose, ignore, in_context, language, restrict};
+use regex_ast::{Atom, Context, Expr, Group, Link, Mapping, Step};
+use replace_rules::{LangContext, LangGroup, LangMap, replace};
 use std::alloc::{AllocError, Global};
 
 /// The network of an expression over an alphabet: of its kind, with its words where it is a language, and with the
-/// pairs that it relates. A name relates what its part does; replacement can't be built yet.
+/// pairs that it relates. A name relates what its part does; an insertion can't be built yet.
 #[cycle(build)]
 pub fn network_of(
     alloc: Global,
@@ -83,7 +87,7 @@ pub fn network_of(
                 steps,
             )
         }
-        Expr::Rules(_) => unreachable!(),
+        Expr::Rules(rules) => replaced(alloc, alphabet, parts, rules.optional, &rules.groups),
     }
 }
 
@@ -249,8 +253,8 @@ fn concat_operands(
     }
 }
 
-/// The network of what stands before and a row of `|`, `&` and `-`, from left to right. A row of `|` alone is joined by
-/// halves.
+/// The network of what stands before and a row of `|`, `&` and `-`, from left to right. Stretches of `|` are joined by
+/// halves, and those of `&` and `-` are taken from a language that stays deterministic.
 #[cycle(build)]
 fn in_chain(
     alloc: Global,
@@ -268,7 +272,6 @@ fn in_chain(
 {
     match links {
         [] => Ok(before),
-        [link] => in_link(alloc, alphabet, parts, before, link),
         _ if are_choices(links) => {
             let either = union(
                 alloc,
@@ -276,6 +279,11 @@ fn in_chain(
                 union_operands(alloc, alphabet, parts, links)?,
             )?;
             reduced(alloc, &either)
+        }
+        _ if are_narrowing(links) => {
+            let words = language(alloc, alphabet, &before.into_words())?;
+            let kept = narrowed(alloc, alphabet, parts, words, links)?;
+            Ok(Network::Words(kept.to_fsa(alloc)?))
         }
         _ => {
             let (front, back) = links.split_at(links.len() / 2);
@@ -297,6 +305,20 @@ fn are_choices(links: &[Link<Atom>]) -> bool
     ensures { IsTrue result ↔ All IsChoice links.now }
 {
     links.iter().all(is_choice)
+}
+
+/// Whether the operator is `&` or `-`.
+fn is_narrowing(link: &Link<Atom>) -> bool
+    ensures { IsTrue result ↔ IsNarrowing link.now }
+{
+    matches!(link, Link::And(_) | Link::Less(_))
+}
+
+/// Whether each operator is `&` or `-`.
+fn are_narrowing(links: &[Link<Atom>]) -> bool
+    ensures { IsTrue result ↔ All IsNarrowing links.now }
+{
+    links.iter().all(is_narrowing)
 }
 
 /// The network of any of the operands of a row of `|`, joined by halves and not reduced.
@@ -347,34 +369,61 @@ fn chosen(
     }
 }
 
-/// The network of what stands before and one more operand of `|`, `&` or `-`.
+/// What a row of `&` and `-` leaves of a language.
 #[cycle(build)]
-fn in_link(
+fn narrowed(
     alloc: Global,
     alphabet: &[Sym],
     parts: &[Part],
-    before: Network,
-    link: &Link<Atom>,
-) -> Result<Network, AllocError>
+    before: Lang<Bound<Sym>>,
+    links: &[Link<Atom>],
+) -> Result<Lang<Bound<Sym>>, AllocError>
     requires ground { IsGround alphabet.now parts.now }
-    requires before { IsNetwork alphabet.now before }
+    requires letters { before.letters ≡ all_letters alphabet.now }
+    requires narrowing { All IsNarrowing links.now }
+    requires built { LinksAreBuiltOver parts.now alphabet.now (links_of links.now) }
+    requires fits { ChainFits (kinds parts.now) Kind.Language (links_of links.now) }
+    ensures { IfOk result (IsLang (all_letters alphabet.now) (InChain (stands parts.now) alphabet.now (complete.Accepts before) (links_of links.now))) }
+{
+    match links {
+        [] => {
+            let _ = before.letters();
+            Ok(before)
+        }
+        [link] => narrowed_by(alloc, alphabet, parts, &before, link),
+        _ => {
+            let (front, back) = links.split_at(links.len() / 2);
+            let first = narrowed(alloc, alphabet, parts, before, front)?;
+            narrowed(alloc, alphabet, parts, first, back)
+        }
+    }
+}
+
+/// What an operand of `&` or `-` leaves of a language.
+#[cycle(build)]
+fn narrowed_by(
+    alloc: Global,
+    alphabet: &[Sym],
+    parts: &[Part],
+    before: &Lang<Bound<Sym>>,
+    link: &Link<Atom>,
+) -> Result<Lang<Bound<Sym>>, AllocError>
+    requires ground { IsGround alphabet.now parts.now }
+    requires letters { before.now.letters ≡ all_letters alphabet.now }
+    requires narrowing { IsNarrowing link.now }
     requires built { LinksAreBuiltOver parts.now alphabet.now (links_of (link.now ∷ [])) }
-    requires fits { ChainFits (kinds parts.now) (kind_of_network before) (links_of (link.now ∷ [])) }
-    ensures letters { IfOk result (IsNetwork alphabet.now) }
-    ensures meaning { IfOk result (IsFor (kind_of_chain (kinds parts.now) (kind_of_network before) (links_of (link.now ∷ []))) (InChain (stands parts.now) alphabet.now (WordsOf before) (links_of (link.now ∷ []))) (RelatesChain (stands parts.now) alphabet.now (WordsOf before) (PairsOf before) (links_of (link.now ∷ [])))) }
+    requires fits { ChainFits (kinds parts.now) Kind.Language (links_of (link.now ∷ [])) }
+    ensures { IfOk result (IsLang (all_letters alphabet.now) (InChain (stands parts.now) alphabet.now (complete.Accepts before.now) (links_of (link.now ∷ [])))) }
 {
     match link {
-        Link::Or(operand) => {
-            let either = union(alloc, before, network_of(alloc, alphabet, parts, operand)?)?;
-            reduced(alloc, &either)
-        }
+        Link::Or(_) => unreachable!(),
         Link::And(operand) => {
             let words = words_of(alloc, alphabet, parts, operand)?;
-            Ok(Network::Words(both(alloc, alphabet, &before.into_words(), &words)?))
+            before.both(alloc, &language(alloc, alphabet, &words)?)
         }
         Link::Less(operand) => {
             let words = words_of(alloc, alphabet, parts, operand)?;
-            Ok(Network::Words(minus(alloc, alphabet, &before.into_words(), &words)?))
+            before.minus(alloc, &language(alloc, alphabet, &words)?)
         }
     }
 }
@@ -483,4 +532,126 @@ fn in_contexts(
             fsa_rational::union(alloc, &first, &second)
         }
     }
+}
+
+/// The network of rules of replacement.
+#[cycle(build)]
+fn replaced(
+    alloc: Global,
+    alphabet: &[Sym],
+    parts: &[Part],
+    optional: bool,
+    groups: &[Group<Atom>],
+) -> Result<Network, AllocError>
+    requires ground { IsGround alphabet.now parts.now }
+    requires built { GroupsAreBuiltOver parts.now alphabet.now (groups_of groups.now) }
+    requires fits { GroupsFit (kinds parts.now) (groups_of groups.now) }
+    ensures letters { IfOk result (IsNetwork alphabet.now) }
+    ensures meaning { IfOk result (IsMeant parts.now alphabet.now (rules optional (groups_of groups.now))) }
+{
+    let mut langs = Vec::new(alloc);
+    'groups: for group in groups {
+        let maps = lang_maps(alloc, alphabet, parts, &group.maps)?;
+        let contexts = lang_contexts(alloc, alphabet, parts, &group.contexts)?;
+        langs.push(LangGroup {
+            maps,
+            side: group.side,
+            contexts,
+        })?;
+    }
+    Ok(Network::Pairs(replace(alloc, alphabet, optional, &langs)?))
+}
+
+/// The languages of mappings.
+#[cycle(build)]
+fn lang_maps(
+    alloc: Global,
+    alphabet: &[Sym],
+    parts: &[Part],
+    maps: &[Mapping<Atom>],
+) -> Result<Vec<LangMap>, AllocError>
+    requires ground { IsGround alphabet.now parts.now }
+    requires built { MappingsAreBuiltOver parts.now alphabet.now (mappings_of maps.now) }
+    requires fits { MappingsFit (kinds parts.now) (mappings_of maps.now) }
+    ensures { IfOk result (λ langs. AreMaps (stands parts.now) alphabet.now (mappings_of maps.now) langs.items) }
+{
+    let mut langs = Vec::new(alloc);
+    'maps: for map in maps {
+        langs.push(lang_map(alloc, alphabet, parts, map)?)?;
+    }
+    Ok(langs)
+}
+
+/// The languages of a mapping.
+#[cycle(build)]
+fn lang_map(
+    alloc: Global,
+    alphabet: &[Sym],
+    parts: &[Part],
+    map: &Mapping<Atom>,
+) -> Result<LangMap, AllocError>
+    requires ground { IsGround alphabet.now parts.now }
+    requires built { MappingsAreBuiltOver parts.now alphabet.now (mappings_of (map.now ∷ [])) }
+    requires fits { MappingsFit (kinds parts.now) (mappings_of (map.now ∷ [])) }
+    ensures { IfOk result (λ lang. AreMaps (stands parts.now) alphabet.now (mappings_of (map.now ∷ [])) (lang ∷ [])) }
+{
+    match map {
+        Mapping::Plain { centre, result } => Ok(LangMap {
+            centre: part_language(alloc, alphabet, parts, centre)?,
+            result: part_language(alloc, alphabet, parts, result)?,
+            after: None,
+        }),
+        Mapping::Markup {
+            centre,
+            before,
+            after,
+        } => Ok(LangMap {
+            centre: part_language(alloc, alphabet, parts, centre)?,
+            result: part_language(alloc, alphabet, parts, before)?,
+            after: Some(part_language(alloc, alphabet, parts, after)?),
+        }),
+        Mapping::Insert { .. } => unreachable!(),
+    }
+}
+
+/// The language of a part of a mapping, which is without the edge.
+#[cycle(build)]
+fn part_language(
+    alloc: Global,
+    alphabet: &[Sym],
+    parts: &[Part],
+    expr: &Expr<Atom>,
+) -> Result<Lang<Sym>, AllocError>
+    requires ground { IsGround alphabet.now parts.now }
+    requires built { IsBuiltOver parts.now alphabet.now (term expr.now) }
+    requires fits { Fits (kinds parts.now) (term expr.now) }
+    requires language { IsLanguage (kinds parts.now) (term expr.now) }
+    ensures { IfOk result (IsPart (stands parts.now) alphabet.now (term expr.now)) }
+{
+    inner_language(alloc, alphabet, &words_of(alloc, alphabet, parts, expr)?)
+}
+
+/// The languages of contexts of rules.
+#[cycle(build)]
+fn lang_contexts(
+    alloc: Global,
+    alphabet: &[Sym],
+    parts: &[Part],
+    contexts: &[Context<Atom>],
+) -> Result<Vec<LangContext>, AllocError>
+    requires ground { IsGround alphabet.now parts.now }
+    requires built { ContextsAreBuiltOver parts.now alphabet.now (contexts_of contexts.now) }
+    requires fits { ContextsFit (kinds parts.now) (contexts_of contexts.now) }
+    ensures { IfOk result (λ langs. AreContexts (stands parts.now) alphabet.now (contexts_of contexts.now) langs.items) }
+{
+    let mut langs = Vec::new(alloc);
+    'contexts: for context in contexts {
+        let left = words_of(alloc, alphabet, parts, &context.left)?;
+        let right = words_of(alloc, alphabet, parts, &context.right)?;
+        langs.push(LangContext {
+            left: language(alloc, alphabet, &left)?,
+            right: language(alloc, alphabet, &right)?,
+        })?;
+    }
+    Ok(langs)
 }

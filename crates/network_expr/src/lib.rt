@@ -11,8 +11,6 @@ mod build;
 mod leaves;
 mod meaning;
 mod parts;
-mod prefixes;
-mod suffixes;
 
 pub use build::network_of;
 pub use meaning::{language_of, relation_of};

@@ -1,4 +1,3 @@
-pub mod Behind
 pub mod Worded
 pub mod Declared
 pub mod Utf8

@@ -6,7 +6,7 @@ use Rattle.std.proofs.lemmas.Bool.Decides.{Decides-eqb}
 use Rattle.project_manifest.specs.Manifests.{some_of, lines_from, words_from, is_blank, taken_from, text_of, takes_nothing, is_symbol_word, may_be_symbol, sayings, is_epsilon, words_of, saying, Saying}
 use Rattle.project_manifest.specs.Sayings.{as_written}
 use lib.Seq.{drop-cons}
-use Rattle.project_manifest.proofs.Behind.{left_behind}
+use Rattle.word_relations.proofs.Behind.{left_behind}
 
 pub some_is : (line : List ℕ) → (line ≡ [] → ⊥) → some_of line ≡ line ∷ []
 some_is [] some = absurd (some refl)

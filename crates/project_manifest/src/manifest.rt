@@ -205,16 +205,12 @@ pub fn read_manifest(alloc: Global, text: &str) -> Result<Manifest, ReadError>
     requires { length (lines_of text.now) < 4294967295 }
     ensures { IsManifestRead text.now result }
 {
-    let said = match all_said(alloc, text.as_bytes()) {
-        Ok(said) => said,
-        Err(error) => return Err(ReadError::Memory(error)),
-    };
-    match declared(alloc, &said) {
-        Ok(Some(manifest)) => Ok(manifest),
-        Ok(None) => Err(ReadError::Fault {
+    let said = all_said(alloc, text.as_bytes())?;
+    let Some(manifest) = declared(alloc, &said)? else {
+        return Err(ReadError::Fault {
             line: 0,
             why: Why::NotBuilt,
-        }),
-        Err(error) => Err(ReadError::Memory(error)),
-    }
+        });
+    };
+    Ok(manifest)
 }

@@ -3,7 +3,7 @@ use Rattle.std.proofs.Common.{◌≡◌, ℕ, ◌+◌, ◌<◌, ◌≤◌, true,
 use Rattle.regex_ast.specs.declared.expr.Raw.{Raw}
 use Rattle.fsm_base.specs.Symbols.{with_text}
 use Rattle.project_meaning.specs.Leaves.{leaf_of, written}
-use Rattle.project_sources.specs.Faults.{is_built_leaf}
+use Rattle.project_model.specs.Names.{is_symbol_leaf}
 use Rattle.project_sources.specs.Limits.{most_symbols}
 use Rattle.project_model.specs.Gathered.{gathered, symbol_beside}
 use Rattle.project_model.proofs.Gathering.{gathered_none, text_added, text_full}
@@ -11,13 +11,13 @@ use Rattle.project_model.proofs.Leaves.{beside_none, beside_symbol}
 
 module _ (names : List (List ℕ)) (leaf : Raw) (table : List (List ℕ)) (short : length table ≤ most_symbols + 1) where
   -- a leaf that is no symbol
-  pub leaf_passed : is_built_leaf (leaf_of names leaf) ≡ false → table ≡ gathered table (symbol_beside names leaf)
+  pub leaf_passed : is_symbol_leaf (leaf_of names leaf) ≡ false → table ≡ gathered table (symbol_beside names leaf)
   leaf_passed fails = sym (ap (gathered table) (beside_none names leaf fails) ∙ gathered_none table short)
 
   -- a table without room
-  pub leaf_full : is_built_leaf (leaf_of names leaf) ≡ true → most_symbols < length table → table ≡ gathered table (symbol_beside names leaf)
+  pub leaf_full : is_symbol_leaf (leaf_of names leaf) ≡ true → most_symbols < length table → table ≡ gathered table (symbol_beside names leaf)
   leaf_full passes many = text_full (written leaf) table short many ∙ sym (ap (gathered table) (beside_symbol names leaf passes))
 
-  pub leaf_added : (now : List (List ℕ)) → is_built_leaf (leaf_of names leaf) ≡ true → length table ≤ most_symbols → now ≡ with_text (written leaf) table
+  pub leaf_added : (now : List (List ℕ)) → is_symbol_leaf (leaf_of names leaf) ≡ true → length table ≤ most_symbols → now ≡ with_text (written leaf) table
       → now ≡ gathered table (symbol_beside names leaf)
   leaf_added now passes room now_is = text_added (written leaf) table now room now_is ∙ sym (ap (gathered table) (beside_symbol names leaf passes))

@@ -3,7 +3,7 @@ use Rattle.std.proofs.Common.{Bool, true, false, ◌&&◌, IsTrue, List, [], ◌
 use Rattle.std.proofs.lemmas.List.Elements.{All-nil, All-cons, All-head, All-tail}
 use Rattle.std.specs.List.{flat_map, list_all}
 use Rattle.regex_ast.specs.Terms.{Term, Terms, Links, Contexts, Steps, empty, any, edge, atom, letters, group, maybe, not_one, cross, suffixed, prefixed, ignore, concat, chain, only, rules, steps, no_term, then_term, no_link, or, and, less, no_context, between, no_step, cross_with, then}
-use Rattle.expr_kinds.specs.Built.{IsBuilt, AreBuilt, LinksAreBuilt, ContextsAreBuilt, StepsAreBuilt}
+use Rattle.expr_kinds.specs.Built.{IsBuiltBy, AreBuiltBy, LinksAreBuiltBy, ContextsAreBuiltBy, StepsAreBuiltBy}
 use Rattle.expr_leaves.specs.Leaves.{listed, listed_each, listed_links, listed_contexts, listed_steps}
 use Rattle.expr_leaves.specs.Mapped.{mapped, mapped_each, mapped_links, mapped_contexts, mapped_steps}
 
@@ -30,15 +30,17 @@ second_holds false b h = absurd (never h)
     never : IsTrue false → ⊥
     never e = cc
 
--- where each leaf that passes one test passes the other once it is replaced, the whole is built once it is
-module _ {A B : Type 0} (f : A → B) (here : A → Bool) (there : B → Bool) (leaf : (a : A) → IsTrue (here a) → IsTrue (there (f a))) where
-  letters_there : (all : List A) → IsTrue (list_all here all) → IsTrue (list_all there (map f all))
+-- where each leaf, and each symbol in braces, that passes one test passes the other once it is replaced, the whole is built once it is
+module _ {A B : Type 0} (f : A → B) (here letter_here : A → Bool) (there letter_there : B → Bool)
+    (leaf : (a : A) → IsTrue (here a) → IsTrue (there (f a))) (letter : (a : A) → IsTrue (letter_here a) → IsTrue (letter_there (f a))) where
+  letters_there : (all : List A) → IsTrue (list_all letter_here all) → IsTrue (list_all letter_there (map f all))
   letters_there [] h = refl
   letters_there (a ∷ all) h =
-      both_hold (there (f a)) (list_all there (map f all)) (leaf a (first_holds (here a) (list_all here all) h)) (letters_there all (second_holds (here a) (list_all here all) h))
+      both_hold (letter_there (f a)) (list_all letter_there (map f all)) (letter a (first_holds (letter_here a) (list_all letter_here all) h))
+      (letters_there all (second_holds (letter_here a) (list_all letter_here all) h))
 
   mutual
-    pub built_there : (e : Term A) → IsBuilt here e → IsBuilt there (mapped f e)
+    pub built_there : (e : Term A) → IsBuiltBy here letter_here e → IsBuiltBy there letter_there (mapped f e)
     built_there empty h = tt
     built_there any h = tt
     built_there edge h = tt
@@ -57,37 +59,38 @@ module _ {A B : Type 0} (f : A → B) (here : A → Bool) (there : B → Bool) (
     built_there (rules optional groups) h = absurd h
     built_there (steps e more) h = (built_there e h.0, steps_there more h.1)
 
-    each_there : (es : Terms A) → AreBuilt here es → AreBuilt there (mapped_each f es)
+    each_there : (es : Terms A) → AreBuiltBy here letter_here es → AreBuiltBy there letter_there (mapped_each f es)
     each_there no_term h = tt
     each_there (then_term e es) h = (built_there e h.0, each_there es h.1)
 
-    links_there : (links : Links A) → LinksAreBuilt here links → LinksAreBuilt there (mapped_links f links)
+    links_there : (links : Links A) → LinksAreBuiltBy here letter_here links → LinksAreBuiltBy there letter_there (mapped_links f links)
     links_there no_link h = tt
     links_there (or e links) h = (built_there e h.0, links_there links h.1)
     links_there (and e links) h = (built_there e h.0, links_there links h.1)
     links_there (less e links) h = (built_there e h.0, links_there links h.1)
 
-    contexts_there : (contexts : Contexts A) → ContextsAreBuilt here contexts → ContextsAreBuilt there (mapped_contexts f contexts)
+    contexts_there : (contexts : Contexts A) → ContextsAreBuiltBy here letter_here contexts → ContextsAreBuiltBy there letter_there (mapped_contexts f contexts)
     contexts_there no_context h = tt
     contexts_there (between l r contexts) h = (built_there l h.0, built_there r h.1, contexts_there contexts h.2)
 
-    steps_there : (more : Steps A) → StepsAreBuilt here more → StepsAreBuilt there (mapped_steps f more)
+    steps_there : (more : Steps A) → StepsAreBuiltBy here letter_here more → StepsAreBuiltBy there letter_there (mapped_steps f more)
     steps_there no_step h = tt
     steps_there (cross_with e more) h = (built_there e h.0, steps_there more h.1)
     steps_there (then e more) h = (built_there e h.0, steps_there more h.1)
 
 -- Where each leaf passes one test, if what is listed of it has a property and what it is replaced by passes another
 -- test, the whole is built before if it is built then.
-module _ {A B C : Type 0} (f : A → B) (here : A → Bool) (there : B → Bool) (of : A → List C) (P : C → Type 0) (leaf : (a : A) → All P (of a) → IsTrue (there (f a)) → IsTrue (here a)) where
-  letters_here : (all : List A) → All P (flat_map of all) → IsTrue (list_all there (map f all)) → IsTrue (list_all here all)
+module _ {A B C : Type 0} (f : A → B) (here letter_here : A → Bool) (there letter_there : B → Bool) (of : A → List C) (P : C → Type 0)
+    (leaf : (a : A) → All P (of a) → IsTrue (there (f a)) → IsTrue (here a)) (letter : (a : A) → All P (of a) → IsTrue (letter_there (f a)) → IsTrue (letter_here a)) where
+  letters_here : (all : List A) → All P (flat_map of all) → IsTrue (list_all letter_there (map f all)) → IsTrue (list_all letter_here all)
   letters_here [] held h = refl
   letters_here (a ∷ all) held h =
-      both_hold (here a) (list_all here all)
-      (leaf a (All-front P (of a) (flat_map of all) held) (first_holds (there (f a)) (list_all there (map f all)) h))
-      (letters_here all (All-back P (of a) (flat_map of all) held) (second_holds (there (f a)) (list_all there (map f all)) h))
+      both_hold (letter_here a) (list_all letter_here all)
+      (letter a (All-front P (of a) (flat_map of all) held) (first_holds (letter_there (f a)) (list_all letter_there (map f all)) h))
+      (letters_here all (All-back P (of a) (flat_map of all) held) (second_holds (letter_there (f a)) (list_all letter_there (map f all)) h))
 
   mutual
-    pub built_here : (e : Term A) → All P (listed of e) → IsBuilt there (mapped f e) → IsBuilt here e
+    pub built_here : (e : Term A) → All P (listed of e) → IsBuiltBy there letter_there (mapped f e) → IsBuiltBy here letter_here e
     built_here empty held h = tt
     built_here any held h = tt
     built_here edge held h = tt
@@ -109,12 +112,12 @@ module _ {A B C : Type 0} (f : A → B) (here : A → Bool) (there : B → Bool)
     built_here (steps e more) held h =
         (built_here e (All-front P (listed of e) (listed_steps of more) held) h.0, steps_here more (All-back P (listed of e) (listed_steps of more) held) h.1)
 
-    each_here : (es : Terms A) → All P (listed_each of es) → AreBuilt there (mapped_each f es) → AreBuilt here es
+    each_here : (es : Terms A) → All P (listed_each of es) → AreBuiltBy there letter_there (mapped_each f es) → AreBuiltBy here letter_here es
     each_here no_term held h = tt
     each_here (then_term e es) held h =
         (built_here e (All-front P (listed of e) (listed_each of es) held) h.0, each_here es (All-back P (listed of e) (listed_each of es) held) h.1)
 
-    links_here : (links : Links A) → All P (listed_links of links) → LinksAreBuilt there (mapped_links f links) → LinksAreBuilt here links
+    links_here : (links : Links A) → All P (listed_links of links) → LinksAreBuiltBy there letter_there (mapped_links f links) → LinksAreBuiltBy here letter_here links
     links_here no_link held h = tt
     links_here (or e links) held h =
         (built_here e (All-front P (listed of e) (listed_links of links) held) h.0, links_here links (All-back P (listed of e) (listed_links of links) held) h.1)
@@ -123,8 +126,8 @@ module _ {A B C : Type 0} (f : A → B) (here : A → Bool) (there : B → Bool)
     links_here (less e links) held h =
         (built_here e (All-front P (listed of e) (listed_links of links) held) h.0, links_here links (All-back P (listed of e) (listed_links of links) held) h.1)
 
-    contexts_here : (contexts : Contexts A) → All P (listed_contexts of contexts) → ContextsAreBuilt there (mapped_contexts f contexts)
-        → ContextsAreBuilt here contexts
+    contexts_here : (contexts : Contexts A) → All P (listed_contexts of contexts) → ContextsAreBuiltBy there letter_there (mapped_contexts f contexts)
+        → ContextsAreBuiltBy here letter_here contexts
     contexts_here no_context held h = tt
     contexts_here (between l r contexts) held h =
         let sides = All-front P (listed of l ++ listed of r) (listed_contexts of contexts) held in (
@@ -133,7 +136,7 @@ module _ {A B C : Type 0} (f : A → B) (here : A → Bool) (there : B → Bool)
           contexts_here contexts (All-back P (listed of l ++ listed of r) (listed_contexts of contexts) held) h.2,
         )
 
-    steps_here : (more : Steps A) → All P (listed_steps of more) → StepsAreBuilt there (mapped_steps f more) → StepsAreBuilt here more
+    steps_here : (more : Steps A) → All P (listed_steps of more) → StepsAreBuiltBy there letter_there (mapped_steps f more) → StepsAreBuiltBy here letter_here more
     steps_here no_step held h = tt
     steps_here (cross_with e more) held h =
         (built_here e (All-front P (listed of e) (listed_steps of more) held) h.0, steps_here more (All-back P (listed of e) (listed_steps of more) held) h.1)

@@ -1,7 +1,6 @@
 -- Leaves of an expression where names are defined: what they are, and by which numbers.
-use Rattle.std.proofs.Common.{◌≡◌, ◌⊎◌, ℕ, ◌<◌, ◌==◌, Bool, true, false, not, cond, ◌&&◌, List, [], ◌∷◌, length, refl, sym, ap, subst, ◌∙◌, inl, inr, true≢false, arith, All, Contains}
+use Rattle.std.proofs.Common.{◌≡◌, ◌⊎◌, ℕ, ◌<◌, ◌==◌, Bool, true, false, not, cond, ◌&&◌, List, [], ◌∷◌, length, refl, sym, ap, subst, ◌∙◌, inl, inr, true≢false, arith, Contains}
 use Rattle.std.proofs.lemmas.Bool.Decides.{nat_tests}
-use Rattle.std.proofs.lemmas.List.Elements.{All-head}
 use Rattle.std.proofs.lemmas.Slice.Eq.{bytes_eq-Decides}
 use Rattle.std.specs.List.{list_any}
 use Rattle.std.specs.Str.{bytes_eq}
@@ -9,14 +8,12 @@ use Rattle.fsm_base.specs.Symbols.{number_of}
 use Rattle.regex_ast.specs.declared.expr.Atom.TheVariants.{Sym, Name}
 use Rattle.regex_ast.specs.declared.expr.Raw.{Raw}
 use Rattle.regex_ast.specs.declared.expr.Raw.TheVariants.{Run, Quoted}
-use Rattle.expr_kinds.specs.Atoms.{are_same}
 use Rattle.project_meaning.specs.Leaves.{Leaf, symbol, named, leaf_of, symbol_in, written}
-use Rattle.project_sources.specs.Faults.{are_one, is_built_leaf}
 use Rattle.project_model.specs.Gathered.{symbol_beside}
-use Rattle.project_model.specs.Names.{is_named}
+use Rattle.project_model.specs.Names.{is_named, is_symbol_leaf}
 use Rattle.project_model.specs.Numbered.{numbered}
 use Rattle.project_model.specs.Resolved.{atom_of}
-use Rattle.project_model.proofs.Alphabets.{number_within, same_text}
+use Rattle.project_model.proofs.Alphabets.{same_text}
 use Rattle.project_model.proofs.Texts.{has_from_any}
 
 number_same : (n m : ℕ) → n ≡ m → (n == m) ≡ true
@@ -27,9 +24,6 @@ same_number n m e = grind (arith, nat_tests)
 
 apart : (n m : ℕ) → m < n → (n == m) ≡ false
 apart n m less = grind (arith, nat_tests)
-
-apart_turned : (n m : ℕ) → n < m → (n == m) ≡ false
-apart_turned n m less = grind (arith, nat_tests)
 
 -- a leaf is a name, or a symbol
 pub leaf_cases : (names : List (List ℕ)) (leaf : Raw) → ((leaf_of names leaf ≡ named (written leaf)) × Contains names (written leaf)) ⊎ (leaf_of names leaf ≡ symbol (written leaf))
@@ -49,21 +43,21 @@ run_test names text = by (list_any (bytes_eq text) names)
     by false = refl
 
 -- a leaf is a symbol where it is no name and has a text
-pub symbol_test : (names : List (List ℕ)) (leaf : Raw) → (not (is_named (leaf_of names leaf)) && not (length (written leaf) == 0)) ≡ is_built_leaf (leaf_of names leaf)
+pub symbol_test : (names : List (List ℕ)) (leaf : Raw) → (not (is_named (leaf_of names leaf)) && not (length (written leaf) == 0)) ≡ is_symbol_leaf (leaf_of names leaf)
 symbol_test names leaf =
-    elim (leaf_cases names leaf) as (λ _. (not (is_named (leaf_of names leaf)) && not (length (written leaf) == 0)) ≡ is_built_leaf (leaf_of names leaf)) [
-      | inl (is, among) ↦ subst (λ (l : Leaf). (not (is_named l) && not (length (written leaf) == 0)) ≡ is_built_leaf l) (sym is) refl
-      | inr is ↦ subst (λ (l : Leaf). (not (is_named l) && not (length (written leaf) == 0)) ≡ is_built_leaf l) (sym is) (by (written leaf))
+    elim (leaf_cases names leaf) as (λ _. (not (is_named (leaf_of names leaf)) && not (length (written leaf) == 0)) ≡ is_symbol_leaf (leaf_of names leaf)) [
+      | inl (is, among) ↦ subst (λ (l : Leaf). (not (is_named l) && not (length (written leaf) == 0)) ≡ is_symbol_leaf l) (sym is) refl
+      | inr is ↦ subst (λ (l : Leaf). (not (is_named l) && not (length (written leaf) == 0)) ≡ is_symbol_leaf l) (sym is) (by (written leaf))
     ]
   where
-    by : (text : List ℕ) → not (length text == 0) ≡ is_built_leaf (symbol text)
+    by : (text : List ℕ) → not (length text == 0) ≡ is_symbol_leaf (symbol text)
     by [] = refl
     by (b ∷ bs) = ap not (apart (length (b ∷ bs)) 0 (omega arith))
 
-pub name_is_no_symbol : (names : List (List ℕ)) (leaf : Raw) → is_named (leaf_of names leaf) ≡ true → is_built_leaf (leaf_of names leaf) ≡ false
+pub name_is_no_symbol : (names : List (List ℕ)) (leaf : Raw) → is_named (leaf_of names leaf) ≡ true → is_symbol_leaf (leaf_of names leaf) ≡ false
 name_is_no_symbol names leaf is = by (leaf_of names leaf) is
   where
-    by : (l : Leaf) → is_named l ≡ true → is_built_leaf l ≡ false
+    by : (l : Leaf) → is_named l ≡ true → is_symbol_leaf l ≡ false
     by (symbol text) e = cc
     by (named text) e = refl
 
@@ -71,33 +65,33 @@ module _ (names : List (List ℕ)) (leaf : Raw) where
   abbrev text : List ℕ
   text = written leaf
 
-  pub beside_symbol : is_built_leaf (leaf_of names leaf) ≡ true → symbol_beside names leaf ≡ text ∷ []
+  pub beside_symbol : is_symbol_leaf (leaf_of names leaf) ≡ true → symbol_beside names leaf ≡ text ∷ []
   beside_symbol is =
       elim (leaf_cases names leaf) as (λ _. symbol_beside names leaf ≡ text ∷ []) [
-        | inl (name, among) ↦ absurd (true≢false (sym is ∙ ap is_built_leaf name))
-        | inr same ↦ ap symbol_in same ∙ by text (sym (ap is_built_leaf same) ∙ is)
+        | inl (name, among) ↦ absurd (true≢false (sym is ∙ ap is_symbol_leaf name))
+        | inr same ↦ ap symbol_in same ∙ by text (sym (ap is_symbol_leaf same) ∙ is)
       ]
     where
-      by : (t : List ℕ) → is_built_leaf (symbol t) ≡ true → symbol_in (symbol t) ≡ t ∷ []
+      by : (t : List ℕ) → is_symbol_leaf (symbol t) ≡ true → symbol_in (symbol t) ≡ t ∷ []
       by [] e = cc
       by (b ∷ bs) e = refl
 
-  pub beside_none : is_built_leaf (leaf_of names leaf) ≡ false → symbol_beside names leaf ≡ []
+  pub beside_none : is_symbol_leaf (leaf_of names leaf) ≡ false → symbol_beside names leaf ≡ []
   beside_none is = by (leaf_of names leaf) is
     where
-      by : (l : Leaf) → is_built_leaf l ≡ false → symbol_in l ≡ []
+      by : (l : Leaf) → is_symbol_leaf l ≡ false → symbol_in l ≡ []
       by (symbol []) e = refl
       by (symbol (b ∷ bs)) e = cc
       by (named name) e = refl
 
-  pub atom_symbol : (table : List (List ℕ)) → is_built_leaf (leaf_of names leaf) ≡ true → Sym (record { 0 = number_of text table }) ≡ atom_of names table leaf
+  pub atom_symbol : (table : List (List ℕ)) → is_symbol_leaf (leaf_of names leaf) ≡ true → Sym (record { 0 = number_of text table }) ≡ atom_of names table leaf
   atom_symbol table is =
       elim (leaf_cases names leaf) as (λ _. Sym (record { 0 = number_of text table }) ≡ atom_of names table leaf) [
-        | inl (name, among) ↦ absurd (true≢false (sym is ∙ ap is_built_leaf name))
-        | inr same ↦ by text (sym (ap is_built_leaf same) ∙ is) ∙ ap (numbered names table) (sym same)
+        | inl (name, among) ↦ absurd (true≢false (sym is ∙ ap is_symbol_leaf name))
+        | inr same ↦ by text (sym (ap is_symbol_leaf same) ∙ is) ∙ ap (numbered names table) (sym same)
       ]
     where
-      by : (t : List ℕ) → is_built_leaf (symbol t) ≡ true → Sym (record { 0 = number_of t table }) ≡ numbered names table (symbol t)
+      by : (t : List ℕ) → is_symbol_leaf (symbol t) ≡ true → Sym (record { 0 = number_of t table }) ≡ numbered names table (symbol t)
       by [] e = cc
       by (b ∷ bs) e = refl
 
@@ -108,16 +102,16 @@ module _ (names : List (List ℕ)) (leaf : Raw) where
         | inr same ↦ absurd (true≢false (sym is ∙ ap is_named same))
       ]
 
-  pub atom_behind : (table : List (List ℕ)) → is_built_leaf (leaf_of names leaf) ≡ false → is_named (leaf_of names leaf) ≡ false → Name (length names) ≡ atom_of names table leaf
+  pub atom_behind : (table : List (List ℕ)) → is_symbol_leaf (leaf_of names leaf) ≡ false → is_named (leaf_of names leaf) ≡ false → Name (length names) ≡ atom_of names table leaf
   atom_behind table no_symbol no_name = by (leaf_of names leaf) no_symbol no_name
     where
-      by : (l : Leaf) → is_built_leaf l ≡ false → is_named l ≡ false → Name (length names) ≡ numbered names table l
+      by : (l : Leaf) → is_symbol_leaf l ≡ false → is_named l ≡ false → Name (length names) ≡ numbered names table l
       by (symbol []) e d = refl
       by (symbol (b ∷ bs)) e d = cc
       by (named name) e d = cc
 
 -- texts of a table have one number where they are one
-texts_same : (table : List (List ℕ)) (s t : List ℕ) → Contains table s → Contains table t → (number_of s table == number_of t table) ≡ bytes_eq s t
+pub texts_same : (table : List (List ℕ)) (s t : List ℕ) → Contains table s → Contains table t → (number_of s table == number_of t table) ≡ bytes_eq s t
 texts_same table s t a b = by (bytes_eq s t) refl (number_of s table == number_of t table) refl
   where
     by : (p : Bool) → bytes_eq s t ≡ p → (q : Bool) → (number_of s table == number_of t table) ≡ q → (number_of s table == number_of t table) ≡ bytes_eq s t
@@ -129,31 +123,3 @@ texts_same table s t a b = by (bytes_eq s t) refl (number_of s table == number_o
     by false e true d =
         let is : s ≡ t = same_text table s t a b (same_number (number_of s table) (number_of t table) d) in
         absurd (true≢false (sym ((bytes_eq-Decides s t).1 is) ∙ e))
-
--- leaves of which the table has the symbols are one where their numbers are
-module _ (names table : List (List ℕ)) where
-  abbrev Known : Leaf → Type 0
-  Known (symbol text) = All (Contains table) (symbol_in (symbol text))
-  Known (named name) = Contains names name
-
-  known : (leaf : Raw) → All (Contains table) (symbol_beside names leaf) → Known (leaf_of names leaf)
-  known leaf held =
-      elim (leaf_cases names leaf) as (λ _. Known (leaf_of names leaf)) [
-        | inl (is, among) ↦ subst Known (sym is) among
-        | inr is ↦ subst Known (sym is) (subst (λ (l : Leaf). All (Contains table) (symbol_in l)) is held)
-      ]
-
-  numbers_same : (x y : Leaf) → Known x → Known y → are_same (numbered names table x) (numbered names table y) ≡ are_one x y
-  numbers_same (symbol []) (symbol []) p q = number_same (length names) (length names) refl
-  numbers_same (symbol []) (symbol (c ∷ cs)) p q = refl
-  numbers_same (symbol (b ∷ bs)) (symbol []) p q = refl
-  numbers_same (symbol (b ∷ bs)) (symbol (c ∷ cs)) p q = texts_same table (b ∷ bs) (c ∷ cs) (All-head (Contains table) (b ∷ bs) [] p) (All-head (Contains table) (c ∷ cs) [] q)
-  numbers_same (symbol []) (named m) p q = apart (length names) (number_of m names) (number_within names m q)
-  numbers_same (symbol (b ∷ bs)) (named m) p q = refl
-  numbers_same (named n) (symbol []) p q = apart_turned (number_of n names) (length names) (number_within names n p)
-  numbers_same (named n) (symbol (c ∷ cs)) p q = refl
-  numbers_same (named n) (named m) p q = texts_same names n m p q
-
-  pub atoms_same : (a b : Raw) → All (Contains table) (symbol_beside names a) → All (Contains table) (symbol_beside names b)
-      → are_same (atom_of names table a) (atom_of names table b) ≡ are_one (leaf_of names a) (leaf_of names b)
-  atoms_same a b p q = numbers_same (leaf_of names a) (leaf_of names b) (known a p) (known b q)

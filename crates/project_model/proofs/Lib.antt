@@ -2,14 +2,17 @@ mod Filed
 mod Rowed
 mod Texts
 mod NameSteps
-mod Gathering
+pub mod Gathering
 mod Built
 pub mod Mapped
 pub mod Alphabets
-mod Leaves
+pub mod Leaves
 mod Adding
 pub mod Expressions
+mod Told
+pub mod Referring
 mod Demanded
+mod Forming
 mod Sound
 mod Projecting
 mod Reading

@@ -5,7 +5,7 @@ use Rattle.std.proofs.lemmas.List.{length-map}
 use Rattle.std.proofs.lemmas.Simd.{map-map}
 use Rattle.std.specs.List.{flat_map, list_all}
 use Rattle.regex_ast.specs.Terms.{Term, Terms, Links, Contexts, Steps, Mappings, Groups, empty, any, edge, atom, letters, group, maybe, not_one, cross, suffixed, prefixed, ignore, concat, chain, only, rules, steps, no_term, then_term, no_link, or, and, less, no_context, between, no_step, cross_with, then, no_mapping, plain, markup, insert, no_group, then_group}
-use Rattle.expr_kinds.specs.Built.{IsBuilt, AreBuilt, LinksAreBuilt, ContextsAreBuilt, StepsAreBuilt}
+use Rattle.expr_kinds.specs.Built.{IsBuiltBy, AreBuiltBy, LinksAreBuiltBy, ContextsAreBuiltBy, StepsAreBuiltBy}
 use Rattle.expr_kinds.specs.Kinds.{Leaves, both, half, are_alike, with_suffixes, kind_of, kind_of_each, kind_of_chain, kind_of_steps, kind_of_contexts, Fits, EachFits, EachFitsAsLanguage, ChainFits, StepsFit, ContextsFit, MappingsFit, GroupsFit}
 use Rattle.expr_kinds.specs.Weights.{weight_of, weight_of_each, weight_of_links, weight_of_steps, weight_of_contexts, weight_of_mappings, weight_of_groups, suffixed_weight, count_of}
 use Rattle.expr_kinds.specs.declared.half.Half.{Half}
@@ -184,13 +184,13 @@ module _ {A B : Type 0} (leaf : B → ℕ) (f : A → B) where
         let a = mappings_weight maps in let b = contexts_weight contexts in let c = groups_weight groups in λ i. a i + b i + c i
 
 -- whether it is built
-module _ {A B : Type 0} (leaf : B → Bool) (f : A → B) where
-  letters_built : (all : List A) → list_all leaf (map f all) ≡ list_all (λ a. leaf (f a)) all
+module _ {A B : Type 0} (leaf letter : B → Bool) (f : A → B) where
+  letters_built : (all : List A) → list_all letter (map f all) ≡ list_all (λ a. letter (f a)) all
   letters_built [] = refl
-  letters_built (a ∷ all) = ap (λ z. leaf (f a) && z) (letters_built all)
+  letters_built (a ∷ all) = ap (λ z. letter (f a) && z) (letters_built all)
 
   mutual
-    pub mapped_built : (e : Term A) → IsBuilt leaf (mapped f e) ≡ IsBuilt (λ a. leaf (f a)) e
+    pub mapped_built : (e : Term A) → IsBuiltBy leaf letter (mapped f e) ≡ IsBuiltBy (λ a. leaf (f a)) (λ a. letter (f a)) e
     mapped_built empty = refl
     mapped_built any = refl
     mapped_built edge = refl
@@ -209,28 +209,28 @@ module _ {A B : Type 0} (leaf : B → Bool) (f : A → B) where
     mapped_built (rules optional groups) = refl
     mapped_built (steps e more) = let a = mapped_built e in let b = steps_built more in λ i. a i × b i
 
-    each_built : (es : Terms A) → AreBuilt leaf (mapped_each f es) ≡ AreBuilt (λ a. leaf (f a)) es
+    each_built : (es : Terms A) → AreBuiltBy leaf letter (mapped_each f es) ≡ AreBuiltBy (λ a. leaf (f a)) (λ a. letter (f a)) es
     each_built no_term = refl
     each_built (then_term e es) = let a = mapped_built e in let b = each_built es in λ i. a i × b i
 
-    links_built : (links : Links A) → LinksAreBuilt leaf (mapped_links f links) ≡ LinksAreBuilt (λ a. leaf (f a)) links
+    links_built : (links : Links A) → LinksAreBuiltBy leaf letter (mapped_links f links) ≡ LinksAreBuiltBy (λ a. leaf (f a)) (λ a. letter (f a)) links
     links_built no_link = refl
     links_built (or e links) = let a = mapped_built e in let b = links_built links in λ i. a i × b i
     links_built (and e links) = let a = mapped_built e in let b = links_built links in λ i. a i × b i
     links_built (less e links) = let a = mapped_built e in let b = links_built links in λ i. a i × b i
 
-    contexts_built : (contexts : Contexts A) → ContextsAreBuilt leaf (mapped_contexts f contexts) ≡ ContextsAreBuilt (λ a. leaf (f a)) contexts
+    contexts_built : (contexts : Contexts A) → ContextsAreBuiltBy leaf letter (mapped_contexts f contexts) ≡ ContextsAreBuiltBy (λ a. leaf (f a)) (λ a. letter (f a)) contexts
     contexts_built no_context = refl
     contexts_built (between l r contexts) = let a = mapped_built l in let b = mapped_built r in let c = contexts_built contexts in λ i. a i × b i × c i
 
-    steps_built : (more : Steps A) → StepsAreBuilt leaf (mapped_steps f more) ≡ StepsAreBuilt (λ a. leaf (f a)) more
+    steps_built : (more : Steps A) → StepsAreBuiltBy leaf letter (mapped_steps f more) ≡ StepsAreBuiltBy (λ a. leaf (f a)) (λ a. letter (f a)) more
     steps_built no_step = refl
     steps_built (cross_with e more) = let a = mapped_built e in let b = steps_built more in λ i. a i × b i
     steps_built (then e more) = let a = mapped_built e in let b = steps_built more in λ i. a i × b i
 
--- whether each operand that must be a language is one, where leaves of which what is listed has a property are the same if what
--- they are replaced by is
-module _ {A B C : Type 0} (f : A → B) (here : Leaves A) (there : Leaves B) (of : A → List C) (P : C → Type 0) (kinds : (a : A) → there.kind (f a) ≡ here.kind a)
+-- the kind, and whether each operand that must be a language is one, where leaves of which what is listed has a property have the
+-- kind of what they are replaced by, and are the same if that is
+module _ {A B C : Type 0} (f : A → B) (here : Leaves A) (there : Leaves B) (of : A → List C) (P : C → Type 0) (kinds : (a : A) → All P (of a) → there.kind (f a) ≡ here.kind a)
     (same : (a b : A) → All P (of a) → All P (of b) → there.same (f a) (f b) ≡ here.same a b) where
   -- what is known of a half
   abbrev Known : Half A → Type 0
@@ -306,11 +306,11 @@ module _ {A B C : Type 0} (f : A → B) (here : Leaves A) (there : Leaves B) (of
       ap (λ (t : Bool). cond t Language Relation) ((λ i. are_alike there.same (a i) (b i)) ∙ alike (half e) (half d) (half_known e p) (half_known d q))
 
   mutual
-    mapped_kind : (e : Term A) → All P (listed of e) → kind_of there (mapped f e) ≡ kind_of here e
+    pub mapped_kind : (e : Term A) → All P (listed of e) → kind_of there (mapped f e) ≡ kind_of here e
     mapped_kind empty held = refl
     mapped_kind any held = refl
     mapped_kind edge held = refl
-    mapped_kind (atom a) held = kinds a
+    mapped_kind (atom a) held = kinds a held
     mapped_kind (letters all) held = refl
     mapped_kind (group e) held = mapped_kind e held
     mapped_kind (maybe e) held = mapped_kind e held

@@ -3,6 +3,7 @@ use Rattle.std.proofs.Common.{◌≡◌, ℕ, ◌+◌, ◌<◌, ◌≤◌, Bool,
 use Rattle.std.proofs.lemmas.List.{take_more, map-append, take-append-drop, length-map, length-take}
 use Rattle.std.specs.List.{Contains, list_any}
 use Rattle.std.specs.Str.{bytes_eq}
+use Rattle.word_relations.proofs.Behind.{left_behind}
 use Rattle.regex_ast.specs.declared.expr.Raw.{Raw}
 use Rattle.regex_ast.specs.declared.expr.Define.{Define}
 use Rattle.regex_ast.specs.declared.fault.Fault.{Fault}
@@ -17,7 +18,6 @@ use Rattle.project_sources.proofs.Firsts.{first_past, none_append, none_more, pl
 use Rattle.project_model.specs.Answers.{IsRefusal, IsRefusedBy, definitions_in}
 use Rattle.project_model.specs.declared.plan_error.PlanError.{PlanError}
 use Rattle.project_model.specs.declared.plan_error.PlanError.TheVariants.{Refused, Memory}
-use Rattle.expr_leaves.proofs.Behind.{left_behind}
 use Rattle.project_model.proofs.Texts.{has_from_any, not_had}
 
 pub not_false : (b : Bool) → false ≡ not b → b ≡ true

@@ -1,5 +1,5 @@
 -- The plan of the statements of a file: loops over definitions and over the symbols of an alphabet.
-use Rattle.std.proofs.Common.{◌≡◌, ◌+◌, ◌<◌, ◌≤◌, ℕ, List, [], ◌∷◌, ◌++◌, length, map, take, drop, get_or, Option, Some, None, slice_get, refl, sym, ap, subst, ◌∙◌, inl, inr, arith, All, Contains, Result, Ok, Err}
+use Rattle.std.proofs.Common.{◌≡◌, ◌↔◌, ◌+◌, ◌<◌, ◌≤◌, ℕ, List, [], ◌∷◌, ◌++◌, length, map, take, drop, get_or, Option, Some, None, slice_get, refl, sym, ap, subst, ◌∙◌, inl, inr, arith, All, Contains, Result, Ok, Err}
 use Rattle.std.proofs.lemmas.List.{take_more, map-append, take-append-drop, take_all, take-append-le, length-take}
 use Rattle.std.proofs.lemmas.List.Elements.{All-append, All-cons, All-nil, All-head, All-tail, All-weaker, All-contains}
 use Rattle.std.proofs.lemmas.Simd.{map-map}
@@ -9,7 +9,10 @@ use Rattle.std.specs.Option.{option_map}
 use Rattle.fsm_base.specs.Symbols.{IsSymbol, IsTable, number_of, with_text}
 use Rattle.fsm_base.specs.declared.letters.Sym.{Sym}
 use Rattle.word_relations.specs.Words.{IsDistinct}
+use Rattle.word_relations.proofs.Behind.{left_behind}
+use Rattle.expr_kinds.specs.declared.form.Form.{Form}
 use Rattle.expr_leaves.specs.Mapped.{mapped}
+use Rattle.name_order.specs.Orders.{HasNoCycle as HasNoRound}
 use Rattle.regex_ast.specs.Terms.{Term}
 use Rattle.regex_ast.specs.declared.expr.Atom.{Atom}
 use Rattle.regex_ast.specs.declared.expr.Define.{Define}
@@ -24,12 +27,14 @@ use Rattle.project_sources.specs.Limits.{most_symbols}
 use Rattle.project_sources.specs.Manifests.{Placed, symbols_of}
 use Rattle.project_sources.specs.Rows.{First, HaveNone, Where}
 use Rattle.project_sources.specs.Sources.{Said, project_in, stated}
-use Rattle.project_sources.specs.Faults.{fault, in_names, many_symbols, SaidFault, NamesFault, definitions_so_far, said_so_far}
+use Rattle.project_sources.specs.Faults.{fault, in_names, many_symbols, cyclic, no_language, heavy, unbuilt, SaidFault, NamesFault, definitions_so_far, said_so_far}
 use Rattle.project_sources.proofs.Firsts.{first_past, none_more}
 use Rattle.project_model.specs.Answers.{DemandFault, DoesMeet, IsPlanBy, IsRefusal, IsRefusedBy, definitions_in, demands, said_by, why_not}
+use Rattle.project_model.specs.Forms.{AreDefined, AreForms}
 use Rattle.project_model.specs.Gathered.{gathered, symbols_beside, symbols_of_all}
 use Rattle.project_model.specs.Numbered.{IsBodyOver, numbered, numbers_in}
 use Rattle.project_model.specs.Plans.{IsPlan, IsSoundOver, PlanView}
+use Rattle.project_model.specs.Referring.{CycleFault, references_of}
 use Rattle.project_model.specs.Resolved.{atom_of}
 use Rattle.project_model.specs.Stands.{Entry, entry_in, entry_of}
 use Rattle.project_model.specs.declared.definition.Definition.{Definition}
@@ -37,13 +42,14 @@ use Rattle.project_model.specs.declared.demands.Demand.{Demand}
 use Rattle.project_model.specs.declared.demands.Demand.TheVariants as demand
 use Rattle.project_model.specs.declared.plan_error.PlanError.{PlanError}
 use Rattle.project_model.specs.declared.plan_error.PlanError.TheVariants.{Refused, Memory}
-use Rattle.expr_leaves.proofs.Behind.{left_behind}
 use Rattle.project_model.proofs.Alphabets.{numbers_distinct, put}
 use Rattle.project_model.proofs.Built.{All-front}
 use Rattle.project_model.proofs.Demanded.{demand_fault}
 use Rattle.project_model.proofs.Gathering.{with_texts-append, with_texts_behind}
 use Rattle.project_model.proofs.Mapped.{mapped_twice}
 use Rattle.project_model.proofs.NameSteps.{refused_by}
+use Rattle.project_model.proofs.Forming.{kind_there}
+use Rattle.project_model.proofs.Referring.{count, cycle_fault, none_cyclic}
 use Rattle.project_model.proofs.Expressions.{names_said}
 use Rattle.project_model.proofs.Sound.{definitions_over, sound_definitions}
 use Rattle.project_model.proofs.Texts.{one_longer}
@@ -61,22 +67,25 @@ pub all_more : {X : Type 0} (P : X → Type 0) (xs : List X) (i : ℕ) (x : X) �
 all_more {X} P xs i x below is so_far here =
     subst (All P) (sym (take_more xs i x below ∙ ap (λ (e : X). take i xs ++ e ∷ []) (sym is))) (All-append P (take i xs) (x ∷ []) so_far (All-cons P x [] here (All-nil P)))
 
-abbrev Fault_by : Demand → Definition → Fault → Type 0
-Fault_by asked d found = Where (DoesMeet asked d → ⊥) (fault d.file d.line (why_not asked)) found
+abbrev Fault_by : List Form → Demand → Definition → Fault → Type 0
+Fault_by forms asked d found = Where (DoesMeet forms asked d → ⊥) (fault d.file d.line (why_not asked)) found
 
 -- definitions that all meet what is asked have no fault by it
-pub all_pass : (asked : Demand) (xs : List Definition) → All (DoesMeet asked) xs → (found : Fault) → DemandFault xs asked found → ⊥
-all_pass asked [] all found h = h
-all_pass asked (x ∷ xs) all found h =
-    elim h as (λ _. ⊥) [ inl (fails, is) ↦ fails (All-head (DoesMeet asked) x xs all) | inr later ↦ all_pass asked xs (All-tail (DoesMeet asked) x xs all) found later.1 ]
+pub all_pass : (forms : List Form) (asked : Demand) (xs : List Definition) → All (DoesMeet forms asked) xs → (found : Fault) → DemandFault xs forms asked found → ⊥
+all_pass forms asked [] all found h = h
+all_pass forms asked (x ∷ xs) all found h =
+    elim h as (λ _. ⊥) [
+      | inl (fails, is) ↦ fails (All-head (DoesMeet forms asked) x xs all)
+      | inr later ↦ all_pass forms asked xs (All-tail (DoesMeet forms asked) x xs all) found later.1
+    ]
 
 -- the first definition that fails
-pub first_fails : (asked : Demand) (xs : List Definition) (i : ℕ) (x : Definition) → i < length xs → x ≡ get_or xs i x
-    → All (DoesMeet asked) (take i xs) → (DoesMeet asked x → ⊥) → DemandFault xs asked (fault x.file x.line (why_not asked))
-first_fails asked xs i x below is before fails =
-    let behind = first_past (Fault_by asked) (take i xs) (x ∷ drop (i + 1) xs) (fault x.file x.line (why_not asked)) (all_pass asked (take i xs) before) (inl (fails, refl)) in
+pub first_fails : (forms : List Form) (asked : Demand) (xs : List Definition) (i : ℕ) (x : Definition) → i < length xs → x ≡ get_or xs i x
+    → All (DoesMeet forms asked) (take i xs) → (DoesMeet forms asked x → ⊥) → DemandFault xs forms asked (fault x.file x.line (why_not asked))
+first_fails forms asked xs i x below is before fails =
+    let behind = first_past (Fault_by forms asked) (take i xs) (x ∷ drop (i + 1) xs) (fault x.file x.line (why_not asked)) (all_pass forms asked (take i xs) before) (inl (fails, refl)) in
     let split : xs ≡ take i xs ++ x ∷ drop (i + 1) xs = sym (take-append-drop i xs) ∙ ap (λ (z : List Definition). take i xs ++ z) (left_behind xs i x below is) in
-    subst (λ (z : List Definition). DemandFault z asked (fault x.file x.line (why_not asked))) (sym split) behind
+    subst (λ (z : List Definition). DemandFault z forms asked (fault x.file x.line (why_not asked))) (sym split) behind
 
 -- a list that is made of another by two functions
 pub made_both : {X Y Z W : Type 0} (f : Y → W) (g : Z → W) (h : X → Z) (xs : List X) (i : ℕ) (x : X) (found new : List Y) (y : Y) → i < length xs
@@ -163,43 +172,70 @@ module _ (file : List ℕ) (statements : List Statement) (names alphabet old new
   in_table : All (Contains new) (flat_map (λ (d : Meant). symbols_in d.body) (map (definition_in (names_of written)) written))
   in_table = All-weaker (Contains alphabet) (Contains new) (λ text among. All-contains (Contains new) alphabet text (subst (λ (t : List (List ℕ)). All (Contains t) alphabet) (sym new_is) (put alphabet old)) among) _ symbols_are
 
-  -- why there is no plan
-  pub why_no_plan : (manifest : List Placed) (error : PlanError) → IsRefusedBy (First (DemandFault definitions) demands) error
-      → IsPlanBy definitions_so_far (said_by manifest file statements) old new (Err error)
-  why_no_plan manifest (Refused found) h = (demand_fault (said_by manifest file statements) new definitions said_are in_table found).0 h
-  why_no_plan manifest (Memory refused) h = tt
+  module _ (apart : IsDistinct names) where
+    defined : (manifest : List Placed) → AreDefined (said_by manifest file statements) new definitions
+    defined manifest = record { entries = said_are; symbols = in_table; apart = subst IsDistinct names_are apart }
 
-  module _ (symbols : List Sym) (numbers_are : symbols ≡ numbers_in new alphabet) (distinct : IsDistinct alphabet) (fits : All (DoesMeet demand.Fits) definitions) (light : All (DoesMeet demand.Light) definitions)
-      (built : All (DoesMeet demand.Built) definitions) where
-    over : All (λ (d : Meant). IsBodyOver alphabet d.body) (map (definition_in (names_of written)) written)
-    over = definitions_over (names_of written) alphabet new definitions written said_are symbols_are built
+    -- why there is no order
+    pub why_no_order : (manifest : List Placed) (error : PlanError) → IsRefusedBy (CycleFault definitions) error
+        → IsPlanBy definitions_so_far (said_by manifest file statements) old new (Err error)
+    why_no_order manifest (Refused found) h = inl (cycle_fault (said_by manifest file statements) new definitions (defined manifest) found h)
+    why_no_order manifest (Memory refused) h = tt
 
-    pub is_plan : IsDistinct names → IsPlan (record { definitions = definitions; symbols = symbols })
-    is_plan apart = record {
-      distinct = subst IsDistinct (sym numbers_are) (numbers_distinct new alphabet (subst (λ (t : List (List ℕ)). All (Contains t) alphabet) (sym new_is) (put alphabet old)) distinct);
-      names = subst IsDistinct (names_are ∙ sym (names_said (names_of written) new definitions written said_are)) apart;
-      sound = subst (λ (z : List Sym). All (IsSoundOver z) definitions) (sym numbers_are) (sound_definitions (names_of written) alphabet new definitions written said_are fits over);
-    }
+    module _ (rounds : HasNoRound (references_of definitions)) (forms : List Form) (few : length forms ≡ length definitions)
+        (told : (said : Said) (table : List (List ℕ)) → AreDefined said table definitions → AreForms (names_of said.written) (project_in said) forms) where
+      no_cycle : (manifest : List Placed) (found : Fault) → SaidFault (said_by manifest file statements) cyclic found → ⊥
+      no_cycle manifest found h = none_cyclic (said_by manifest file statements) new definitions (defined manifest) rounds found h
 
-    none_fails : (manifest : List Placed) → HaveNone (SaidFault (said_by manifest file statements)) definitions_so_far
-    none_fails manifest found h =
-        let none = none_more (DemandFault definitions) demand.Fits (demand.Light ∷ demand.Built ∷ []) (all_pass demand.Fits definitions fits)
-        (none_more (DemandFault definitions) demand.Light (demand.Built ∷ []) (all_pass demand.Light definitions light)
-        (none_more (DemandFault definitions) demand.Built [] (all_pass demand.Built definitions built) (λ f p. p))) in
-        none found ((demand_fault (said_by manifest file statements) new definitions said_are in_table found).1 h)
+      alike : (manifest : List Placed) (found : Fault)
+          → First (DemandFault definitions forms) demands found ↔ First (SaidFault (said_by manifest file statements)) (no_language ∷ heavy ∷ unbuilt ∷ []) found
+      alike manifest found =
+          demand_fault (said_by manifest file statements) new definitions (defined manifest) forms few (told (said_by manifest file statements) new (defined manifest)) found
 
-    pub is_planned : (manifest : List Placed) → (project_in (said_by manifest file statements)).alphabet ≡ alphabet
-        → IsPlanBy definitions_so_far (said_by manifest file statements) old new (Ok (record { definitions = definitions; symbols = symbols }))
-    is_planned manifest is = (
-      none_fails manifest,
-      record {
-        definitions = said_are;
-        symbols = numbers_are ∙ ap (numbers_in new) (sym is);
-        table = new_is ∙ ap (with_texts old) (sym is);
-        leaves = subst (λ (a : List (List ℕ)). All (λ (d : Meant). IsBodyOver a d.body) (map (definition_in (names_of written)) written)) (sym is) over;
-        distinct = subst IsDistinct (sym is) distinct;
-      },
-    )
+      -- why there is no plan
+      pub why_no_plan : (manifest : List Placed) (error : PlanError) → IsRefusedBy (First (DemandFault definitions forms) demands) error
+          → IsPlanBy definitions_so_far (said_by manifest file statements) old new (Err error)
+      why_no_plan manifest (Refused found) h = inr (no_cycle manifest, (alike manifest found).0 h)
+      why_no_plan manifest (Memory refused) h = tt
+
+      module _ (symbols : List Sym) (numbers_are : symbols ≡ numbers_in new alphabet) (distinct : IsDistinct alphabet) (fits : All (DoesMeet forms demand.Fits) definitions)
+          (light : All (DoesMeet forms demand.Light) definitions) (built : All (DoesMeet forms demand.Built) definitions) where
+        many : length forms ≡ length (names_of written)
+        many = few ∙ count (said_by [] file statements) new definitions (defined [])
+
+        over : All (λ (d : Meant). IsBodyOver alphabet d.body) (map (definition_in (names_of written)) written)
+        over = definitions_over (names_of written) alphabet new forms many definitions written said_are symbols_are built
+
+        abbrev plan : PlanView
+        plan = record { definitions = definitions; symbols = symbols; forms = forms }
+
+        pub is_plan : IsPlan plan
+        is_plan = record {
+          distinct = subst IsDistinct (sym numbers_are) (numbers_distinct new alphabet (subst (λ (t : List (List ℕ)). All (Contains t) alphabet) (sym new_is) (put alphabet old)) distinct);
+          names = subst IsDistinct (names_are ∙ sym (names_said (names_of written) new definitions written said_are)) apart;
+          forms = record { count = few; kinds = kind_there (said_by [] file statements) new definitions (defined []) rounds forms few (told (said_by [] file statements) new (defined [])) };
+          sound = subst (λ (z : List Sym). All (IsSoundOver forms z) definitions) (sym numbers_are) (sound_definitions (names_of written) alphabet new forms many definitions written said_are fits over);
+        }
+
+        none_fails : (manifest : List Placed) → HaveNone (SaidFault (said_by manifest file statements)) definitions_so_far
+        none_fails manifest =
+            let none = none_more (DemandFault definitions forms) demand.Fits (demand.Light ∷ demand.Built ∷ []) (all_pass forms demand.Fits definitions fits)
+            (none_more (DemandFault definitions forms) demand.Light (demand.Built ∷ []) (all_pass forms demand.Light definitions light)
+            (none_more (DemandFault definitions forms) demand.Built [] (all_pass forms demand.Built definitions built) (λ f p. p))) in
+            none_more (SaidFault (said_by manifest file statements)) cyclic (no_language ∷ heavy ∷ unbuilt ∷ []) (no_cycle manifest) (λ found h. none found ((alike manifest found).1 h))
+
+        pub is_planned : (manifest : List Placed) → (project_in (said_by manifest file statements)).alphabet ≡ alphabet
+            → IsPlanBy definitions_so_far (said_by manifest file statements) old new (Ok plan)
+        is_planned manifest is = (
+          none_fails manifest,
+          record {
+            definitions = said_are;
+            symbols = numbers_are ∙ ap (numbers_in new) (sym is);
+            table = new_is ∙ ap (with_texts old) (sym is);
+            leaves = subst (λ (a : List (List ℕ)). All (λ (d : Meant). IsBodyOver a d.body) (map (definition_in (names_of written)) written)) (sym is) over;
+            distinct = subst IsDistinct (sym is) distinct;
+          },
+        )
 
 -- the alphabet of statements and of the further symbols that a manifest has
 module _ (file : List ℕ) (xs : List (Define Raw)) (further names alphabet : List (List ℕ)) (names_is : names ≡ names_of (definitions_in file (map statement_of xs)))

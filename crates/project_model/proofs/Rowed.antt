@@ -1,5 +1,7 @@
 -- Rows that are made item by item: what was made stands in front of what is left to make.
 use Rattle.std.proofs.Common.{◌≡◌, ◌+◌, ◌<◌, ◌≤◌, ℕ, List, [], ◌∷◌, ◌++◌, length, drop, get_or, map, refl, sym, ap, ◌∙◌}
+use Rattle.std.proofs.lemmas.List.{drop_all}
+use Rattle.word_relations.proofs.Behind.{left_behind}
 use Rattle.regex_ast.specs.Terms.{Terms, term, terms_of, links_of, contexts_of, steps_by, mappings_of, groups_of, then_term, no_term, no_link, no_context, no_step, no_mapping, no_group}
 use Rattle.regex_ast.specs.declared.expr.Expr.{Expr}
 use Rattle.regex_ast.specs.declared.expr.Context.{Context}
@@ -9,7 +11,6 @@ use Rattle.regex_ast.specs.declared.expr.Mapping.{Mapping, Plain, Markup, Insert
 use Rattle.regex_ast.specs.declared.expr.Step.{Step, CrossWith, Then}
 use Rattle.expr_leaves.specs.Mapped.{mapped, mapped_each, mapped_links, mapped_contexts, mapped_steps, mapped_mappings, mapped_groups}
 use Rattle.project_model.specs.Resolved.{link_before, step_before, context_before, mapping_before, group_before, IsLinkOf, IsStepOf, IsContextOf, IsMappingOf, IsGroupOf}
-use Rattle.expr_leaves.proofs.Behind.{left_behind, none_left}
 
 -- items in front of a row
 abbrev pub onto : {Y S : Type 0} → (Y → S → S) → List Y → S → S
@@ -38,7 +39,7 @@ module _ {X Y R S : Type 0} (row : List X → R) (put : X → R → R) (put_made
   ended : (xs : List X) (i : ℕ) (found : List Y) (all none : S) → length xs ≤ i → made (row []) ≡ none → all ≡ onto put_made found none
       → onto put_made found (made (row (drop i xs))) ≡ made (row xs) → all ≡ made (row xs)
   ended xs i found all none over none_is all_is so_far =
-      all_is ∙ ap (onto put_made found) (sym none_is ∙ ap (λ (z : List X). made (row z)) (sym (none_left xs i over))) ∙ so_far
+      all_is ∙ ap (onto put_made found) (sym none_is ∙ ap (λ (z : List X). made (row z)) (sym (drop_all i xs over))) ∙ so_far
 
 each_all : {A : Type 0} (found : List (Expr A)) → terms_of (map term found) ≡ onto expr_before found no_term
 each_all [] = refl

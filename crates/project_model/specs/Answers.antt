@@ -7,10 +7,11 @@ use Rattle.regex_ast.specs.declared.fault.Why.TheVariants as why
 use Rattle.regex_ast.specs.declared.expr.Atom.{Atom}
 use Rattle.regex_ast.specs.Terms.{Term}
 use Rattle.regex_reader.specs.Files.{Statement, FaultAt, ReadsAs}
-use Rattle.expr_kinds.specs.Atoms.{is_symbol, one, symbols}
-use Rattle.expr_kinds.specs.Built.{IsBuilt}
+use Rattle.expr_kinds.specs.Atoms.{is_known_at, is_symbol, leaves_at, weights_at}
+use Rattle.expr_kinds.specs.Built.{IsBuiltBy}
 use Rattle.expr_kinds.specs.Kinds.{Fits}
 use Rattle.expr_kinds.specs.Weights.{most_weight, weight_of}
+use Rattle.expr_kinds.specs.declared.form.Form.{Form}
 use Rattle.project_manifest.specs.Manifests.{ManifestView, IsManifest, project_name}
 use Rattle.project_meaning.specs.Projects.{Written}
 use Rattle.project_sources.specs.Rows.{First, HaveNone, Where}
@@ -75,24 +76,24 @@ definitions_in file statements = map (stated file) statements
 abbrev pub said_by : List Placed → List ℕ → List Statement → Said
 said_by manifest file statements = record { manifest = manifest; written = definitions_in file statements }
 
--- what is asked of a definition: that each operand that must be a language is one, that it isn't too heavy, and that its network
--- can be built
-abbrev pub Meets : Demand → Term Atom → Type 0
-Meets demand.Fits t = Fits symbols t
-Meets demand.Light t = weight_of one t ≤ most_weight
-Meets demand.Built t = IsBuilt is_symbol t
+-- what is asked of a definition where names have these forms: that each operand that must be a language is one, that it isn't
+-- too heavy, and that its network can be built
+abbrev pub Meets : List Form → Demand → Term Atom → Type 0
+Meets forms demand.Fits t = Fits (leaves_at forms) t
+Meets forms demand.Light t = weight_of (weights_at forms) t ≤ most_weight
+Meets forms demand.Built t = IsBuiltBy (is_known_at forms) is_symbol t
 
 abbrev pub why_not : Demand → Why
 why_not demand.Fits = why.NotALanguage
 why_not demand.Light = why.LimitWeight
 why_not demand.Built = why.NotBuilt
 
-abbrev pub DoesMeet : Demand → Definition → Type 0
-DoesMeet asked d = Meets asked (body_term d.body)
+abbrev pub DoesMeet : List Form → Demand → Definition → Type 0
+DoesMeet forms asked d = Meets forms asked (body_term d.body)
 
 -- the fault of the first definition that doesn't meet it
-abbrev pub DemandFault : List Definition → Demand → Fault → Type 0
-DemandFault definitions asked found = First (λ d. Where (DoesMeet asked d → ⊥) (fault d.file d.line (why_not asked))) definitions found
+abbrev pub DemandFault : List Definition → List Form → Demand → Fault → Type 0
+DemandFault definitions forms asked found = First (λ d. Where (DoesMeet forms asked d → ⊥) (fault d.file d.line (why_not asked))) definitions found
 
 abbrev pub demands : List Demand
 demands = demand.Fits ∷ demand.Light ∷ demand.Built ∷ []

@@ -1,8 +1,10 @@
 pub mod Answers
+pub mod Forms
 pub mod Gathered
 pub mod Names
 pub mod Numbered
 pub mod Plans
+pub mod Referring
 pub mod Resolved
 pub mod Sound
 pub mod Sources

@@ -1,12 +1,12 @@
 -- Leaves by the numbers of their symbols in a table.
-use Rattle.std.specs.Prelude.{ℕ, Bool, false, List, [], ◌∷◌, length, map}
+use Rattle.std.specs.Prelude.{ℕ, Bool, true, false, List, [], ◌∷◌, length, map}
 use Rattle.std.specs.List.{list_any}
 use Rattle.std.specs.Str.{bytes_eq}
 use Rattle.fsm_base.specs.declared.letters.Sym.{Sym as Symbol}
 use Rattle.fsm_base.specs.Symbols.{number_of}
 use Rattle.regex_ast.specs.declared.expr.Atom.{Atom}
 use Rattle.regex_ast.specs.declared.expr.Atom.TheVariants.{Sym, Name}
-use Rattle.expr_kinds.specs.Built.{IsBuilt}
+use Rattle.expr_kinds.specs.Built.{IsBuiltBy}
 use Rattle.project_meaning.specs.Trees.{Body, xfst, lexc, twolc}
 use Rattle.project_meaning.specs.Leaves.{Leaf, symbol, named}
 
@@ -22,13 +22,18 @@ abbrev pub numbers_in : List (List ℕ) → List (List ℕ) → List Symbol
 numbers_in table texts = map (λ text. record { 0 = number_of text table }) texts
 
 -- a symbol of this alphabet
-abbrev pub is_leaf_over : List (List ℕ) → Leaf → Bool
-is_leaf_over alphabet (symbol []) = false
-is_leaf_over alphabet (symbol (b ∷ bs)) = list_any (bytes_eq (b ∷ bs)) alphabet
-is_leaf_over alphabet (named name) = false
+abbrev pub is_symbol_over : List (List ℕ) → Leaf → Bool
+is_symbol_over alphabet (symbol []) = false
+is_symbol_over alphabet (symbol (b ∷ bs)) = list_any (bytes_eq (b ∷ bs)) alphabet
+is_symbol_over alphabet (named name) = false
 
--- an expression whose leaves are such symbols, without sets of rules
+-- such a symbol, or a name
+abbrev pub is_leaf_over : List (List ℕ) → Leaf → Bool
+is_leaf_over alphabet (symbol text) = is_symbol_over alphabet (symbol text)
+is_leaf_over alphabet (named name) = true
+
+-- an expression whose leaves are such symbols and names, without sets of rules
 abbrev pub IsBodyOver : List (List ℕ) → Body Leaf → Type 0
-IsBodyOver alphabet (xfst e) = IsBuilt (is_leaf_over alphabet) e
+IsBodyOver alphabet (xfst e) = IsBuiltBy (is_leaf_over alphabet) (is_symbol_over alphabet) e
 IsBodyOver alphabet (lexc lexicons) = ⊥
 IsBodyOver alphabet (twolc grammar) = ⊥

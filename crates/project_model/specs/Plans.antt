@@ -1,9 +1,12 @@
--- A plan as contracts see it: its definitions, and the symbols of its alphabet.
-use Rattle.std.specs.Prelude.{List, map, All}
+-- A plan as contracts see it: its definitions with their forms, and the symbols of its alphabet.
+use Rattle.std.specs.Prelude.{◌≡◌, ℕ, List, length, map, All, Some, slice_get}
 use Rattle.fsm_base.specs.declared.letters.Sym.{Sym}
 use Rattle.word_relations.specs.Words.{IsDistinct}
 use Rattle.regex_ast.specs.declared.expr.Atom.{Atom}
 use Rattle.regex_ast.specs.Terms.{Term, term}
+use Rattle.expr_kinds.specs.Atoms.{kind_at, leaves_at}
+use Rattle.expr_kinds.specs.Kinds.{kind_of}
+use Rattle.expr_kinds.specs.declared.form.Form.{Form}
 use Rattle.project_model.specs.Sound.{IsSound}
 use Rattle.project_model.specs.declared.definition.Body.{Body}
 use Rattle.project_model.specs.declared.definition.Body.TheVariants.{Xfst}
@@ -12,16 +15,24 @@ use Rattle.project_model.specs.declared.definition.Definition.{Definition}
 pub record PlanView : Type 0 where
   pub definitions : List Definition
   pub symbols : List Sym
+  pub forms : List Form
 
 abbrev pub body_term : Body → Term Atom
 body_term (Xfst e) = term e
 
--- the definition can be built over these symbols
-abbrev pub IsSoundOver : List Sym → Definition → Type 0
-IsSoundOver symbols d = IsSound symbols (body_term d.body)
+-- the definition can be built over these symbols, where names have these forms
+abbrev pub IsSoundOver : List Form → List Sym → Definition → Type 0
+IsSoundOver forms symbols d = IsSound forms symbols (body_term d.body)
 
--- each symbol stands once, and each definition has a name of its own and can be built over the symbols
+-- there is a form at the place of each definition. It has the kind of the definition's expression, where each name has the kind of
+-- the form at its place
+pub record HaveKinds (definitions : List Definition) (forms : List Form) : Type 0 where
+  pub count : length forms ≡ length definitions
+  pub kinds : (place : ℕ) (d : Definition) → slice_get definitions place ≡ Some d → kind_at forms place ≡ kind_of (leaves_at forms) (body_term d.body)
+
+-- each symbol stands once, and each definition has a name of its own, a form, and can be built over the symbols
 pub record IsPlan (plan : PlanView) : Type 0 where
   pub distinct : IsDistinct plan.symbols
   pub names : IsDistinct (map (λ d. d.name) plan.definitions)
-  pub sound : All (IsSoundOver plan.symbols) plan.definitions
+  pub forms : HaveKinds plan.definitions plan.forms
+  pub sound : All (IsSoundOver plan.forms plan.symbols) plan.definitions

@@ -4,7 +4,7 @@ ghost use Rattle.project_model.specs.Answers.{DemandFault, DoesMeet, Meets, why_
 ghost use Rattle.project_model.specs.Plans.{body_term};
 
 use crate::definition::{Body, Definition};
-use expr_kinds::{MOST_WEIGHT, form_of};
+use expr_kinds::{Form, MOST_WEIGHT, form_of};
 
 /// What is asked of each definition.
 #[derive(Clone, Copy, Debug, PartialEq, Eq)]
@@ -13,17 +13,17 @@ pub enum Demand {
     Fits,
     /// It weighs 4,000,000 at most.
     Light,
-    /// Its network can be built: it has no set of rules and no name.
+    /// Its network can be built: it has no set of rules.
     Built,
 }
 
-/// Whether a definition meets it.
+/// Whether a definition meets it, where names have these forms.
 #[tactic(auto, unfolding(expr_kinds::specs::Weights::most_weight))]
-fn meets(body: &Body, demand: Demand) -> bool
-    ensures { IsTrue result ↔ Meets demand (body_term body.now) }
+fn meets(forms: &[Form], body: &Body, demand: Demand) -> bool
+    ensures { IsTrue result ↔ Meets forms.now demand (body_term body.now) }
 {
     let Body::Xfst(expr) = body;
-    let form = form_of(expr);
+    let form = form_of(forms, expr);
     match demand {
         Demand::Fits => form.fits,
         Demand::Light => form.weight <= MOST_WEIGHT,
@@ -31,12 +31,16 @@ fn meets(body: &Body, demand: Demand) -> bool
     }
 }
 
-/// The first definition that doesn't meet it, or `None` where all do.
-pub fn first_failing(definitions: &[Definition], demand: Demand) -> Option<&Definition>
-    ensures { MatchOption result (All (DoesMeet demand) definitions.now) (λ d. DemandFault definitions.now demand (fault d.now.file d.now.line (why_not demand))) }
+/// The first definition that doesn't meet it where names have these forms, or `None` where all do.
+pub fn first_failing<'a>(
+    definitions: &'a [Definition],
+    forms: &[Form],
+    demand: Demand,
+) -> Option<&'a Definition>
+    ensures { MatchOption result (All (DoesMeet forms.now demand) definitions.now) (λ d. DemandFault definitions.now forms.now demand (fault d.now.file d.now.line (why_not demand))) }
 {
     'definitions: for definition in definitions {
-        if !meets(&definition.body, demand) {
+        if !meets(forms, &definition.body, demand) {
             return Some(definition);
         }
     }

@@ -8,10 +8,12 @@
 
 mod definition;
 mod demands;
+mod forms;
 mod names;
 mod plan;
 mod plan_error;
 mod read;
+mod references;
 mod resolve;
 mod sources;
 mod symbols;

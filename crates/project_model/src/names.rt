@@ -7,10 +7,10 @@ ghost use Rattle.regex_ast.specs.declared.fault.Fault.{Fault};
 ghost use Rattle.regex_reader.specs.Files.{statement_of};
 ghost use Rattle.project_meaning.specs.Leaves.{leaf_of};
 ghost use Rattle.project_meaning.specs.Projects.{names_of};
-ghost use Rattle.project_sources.specs.Faults.{NamesFault, is_built_leaf};
+ghost use Rattle.project_sources.specs.Faults.{NamesFault};
 ghost use Rattle.project_sources.specs.Limits.{most_names};
 ghost use Rattle.project_model.specs.Answers.{IsRefusedBy, definitions_in};
-ghost use Rattle.project_model.specs.Names.{is_named};
+ghost use Rattle.project_model.specs.Names.{is_named, is_symbol_leaf};
 
 use crate::plan_error::{PlanError, refused};
 use crate::symbols::symbol_text;
@@ -109,7 +109,7 @@ impl Names {
 
     /// Whether a leaf is a symbol where these names are defined: one without text isn't.
     pub fn is_symbol(&self, leaf: &Raw) -> bool
-        ensures { result ≡ is_built_leaf (leaf_of self.now leaf.now) }
+        ensures { result ≡ is_symbol_leaf (leaf_of self.now leaf.now) }
     {
         !self.is_name(leaf) && !symbol_text(leaf).is_empty()
     }

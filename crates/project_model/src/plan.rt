@@ -1,6 +1,7 @@
 ghost use Rattle.std.specs.Prelude.{◌≡◌, ◌≤◌, ◌+◌, ◌++◌, ◌∷◌, [], List, All, Contains, IfOk, IfErr, OnOk, length, map, take};
 ghost use Rattle.fsm_base.specs.Symbols.{IsSymbol};
 ghost use Rattle.word_relations.specs.Words.{IsDistinct};
+ghost use Rattle.name_order.specs.Orders.{IsOrder};
 ghost use Rattle.regex_reader.specs.Files.{statement_of};
 ghost use Rattle.project_meaning.specs.Projects.{names_of, with_texts};
 ghost use Rattle.project_sources.specs.Faults.{definitions_so_far, fault, said_so_far};
@@ -12,15 +13,19 @@ ghost use Rattle.project_model.specs.Answers.{DemandFault, DoesMeet, IsPlanBy, I
 ghost use Rattle.project_model.specs.Gathered.{gathered, symbols_of_all};
 ghost use Rattle.project_model.specs.Numbered.{numbers_in};
 ghost use Rattle.project_model.specs.Plans.{IsPlan};
+ghost use Rattle.project_model.specs.Referring.{references_of};
 ghost use Rattle.project_model.specs.Stands.{entry_in, entry_of};
 ghost use Rattle.project_model.specs.declared.demands.Demand.TheVariants as demand;
 
 use crate::definition::{Body, Definition};
 use crate::demands::{Demand, first_failing};
+use crate::forms::forms_of;
 use crate::names::{Names, names_of};
 use crate::plan_error::{PlanError, refused};
+use crate::references::order_in;
 use crate::resolve::resolve;
 use crate::symbols::symbols_of;
+use expr_kinds::Form;
 use fsm_base::{Sym, SymbolTable, Text};
 use project_sources::MOST_SYMBOLS;
 use regex_ast::{Define, Raw, Why};
@@ -34,6 +39,10 @@ pub struct Plan {
     definitions: Vec<Definition>,
     /// The symbols of the alphabet, each once.
     symbols: Vec<Sym>,
+    /// The places of the definitions, each behind those that it refers to.
+    order: Vec<usize>,
+    /// What each definition is by its form.
+    forms: Vec<Form>,
 }
 
 impl Model for Plan {
@@ -46,11 +55,11 @@ impl Model for Plan {
 
     ghost coded = { Prim.hlevel (codes, (expr.the_row atom.the_row).coded) };
 
-    ghost use Rattle.project_model.specs.Plans.{IsPlan};
+    ghost use Rattle.project_model.specs.Referring.{IsOrderedPlan};
 
-    ghost view = { λ p. record { definitions = p.definitions.items; symbols = p.symbols.items } };
+    ghost view = { λ p. record { definitions = p.definitions.items; symbols = p.symbols.items; forms = p.forms.items } };
 
-    ghost invariant = { λ p. IsPlan (record { definitions = p.definitions.items; symbols = p.symbols.items }) };
+    ghost invariant = { λ p. IsOrderedPlan (record { definitions = p.definitions.items; symbols = p.symbols.items; forms = p.forms.items }) p.order.items };
 }
 
 impl Plan {
@@ -68,6 +77,21 @@ impl Plan {
         ensures formed { IsPlan self.now }
     {
         &self.symbols
+    }
+
+    /// What each definition is by its form: whether it's a language or a relation, and its weight.
+    pub fn forms(&self) -> &[Form]
+        ensures forms { result.now ≡ self.now.forms }
+        ensures formed { IsPlan self.now }
+    {
+        &self.forms
+    }
+
+    /// The places of the definitions, counted from 0, each behind those that its definition refers to.
+    pub fn order(&self) -> &[usize]
+        ensures { IsOrder (references_of self.now.definitions) result.now }
+    {
+        &self.order
     }
 }
 
@@ -187,28 +211,28 @@ fn refused_at(alloc: Global, definition: &Definition, why: Why) -> PlanError
     refused(alloc, definition.file.as_str(), definition.line, why)
 }
 
-/// That definitions are sound: each fits, none is too heavy, each can be built.
-fn check(alloc: Global, definitions: &[Definition]) -> Result<(), PlanError>
-    ensures fits { OnOk result (All (DoesMeet demand.Fits) definitions.now) }
-    ensures light { OnOk result (All (DoesMeet demand.Light) definitions.now) }
-    ensures built { OnOk result (All (DoesMeet demand.Built) definitions.now) }
-    ensures error { IfErr result (IsRefusedBy (First (DemandFault definitions.now) demands)) }
+/// That definitions are sound where names have these forms: each fits, none is too heavy, each can be built.
+fn check(alloc: Global, definitions: &[Definition], forms: &[Form]) -> Result<(), PlanError>
+    ensures fits { OnOk result (All (DoesMeet forms.now demand.Fits) definitions.now) }
+    ensures light { OnOk result (All (DoesMeet forms.now demand.Light) definitions.now) }
+    ensures built { OnOk result (All (DoesMeet forms.now demand.Built) definitions.now) }
+    ensures error { IfErr result (IsRefusedBy (First (DemandFault definitions.now forms.now) demands)) }
 {
-    if let Some(definition) = first_failing(definitions, Demand::Fits) {
+    if let Some(definition) = first_failing(definitions, forms, Demand::Fits) {
         return Err(refused_at(alloc, definition, Why::NotALanguage));
     }
-    if let Some(definition) = first_failing(definitions, Demand::Light) {
+    if let Some(definition) = first_failing(definitions, forms, Demand::Light) {
         return Err(refused_at(alloc, definition, Why::LimitWeight));
     }
-    if let Some(definition) = first_failing(definitions, Demand::Built) {
+    if let Some(definition) = first_failing(definitions, forms, Demand::Built) {
         return Err(refused_at(alloc, definition, Why::NotBuilt));
     }
     Ok(())
 }
 
 /// The plan of definitions over an alphabet, whose symbols are put into the table. They are refused for their first
-/// fault: an operand that must be a language and isn't one, a definition that is too heavy, or one that can't be built
-/// yet. Whatever it answers, the table begins with what it was.
+/// fault: a definition that reaches itself, an operand that must be a language and isn't one, a definition that is too
+/// heavy, or one that can't be built yet. Whatever it answers, the table begins with what it was.
 fn plan_over(
     alloc: Global,
     file: &str,
@@ -227,7 +251,12 @@ fn plan_over(
 {
     intern_all(alphabet, table)?;
     let definitions = define_each(alloc, file, names, table, defines)?;
-    match check(alloc, &definitions) {
+    let order = match order_in(alloc, &definitions) {
+        Ok(order) => order,
+        Err(error) => return Err(error),
+    };
+    let forms = forms_of(alloc, &definitions, &order)?;
+    match check(alloc, &definitions, &forms) {
         Ok(()) => {}
         Err(error) => return Err(error),
     }
@@ -235,6 +264,8 @@ fn plan_over(
     Ok(Plan {
         definitions,
         symbols,
+        order,
+        forms,
     })
 }
 

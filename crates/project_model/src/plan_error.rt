@@ -4,13 +4,16 @@ ghost use Rattle.project_model.specs.Answers.{IsRefusal};
 use fsm_base::Text;
 use regex_ast::{Fault, Why};
 use std::alloc::{AllocError, Global};
+use thiserror::Error;
 
 /// Why there is no plan.
-#[derive(Debug, Drop)]
+#[derive(Debug, Drop, Error)]
 pub enum PlanError {
     /// The definitions have this first fault.
+    #[error("the definitions have a fault")]
     Refused(Fault),
     /// There was no memory.
+    #[error(transparent)]
     Memory(AllocError),
 }
 

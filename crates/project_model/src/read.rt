@@ -163,8 +163,10 @@ fn plan_by(
 /// - `LimitFile`, `NotUtf8` and `Control` of the file, and then the faults of its statements, as [`read_xfst`] tells them;
 /// - `Duplicate` at the first definition whose name an earlier one has, `LimitNames` at the 513th name;
 /// - `LimitSymbols` at the manifest, where the alphabet has more than 1,024 symbols;
-/// - `NotALanguage` at the first definition in which an operand that must be a language is a relation;
-/// - `LimitWeight` at the first one that weighs more than 4,000,000;
+/// - `Cycle` at the first definition that reaches itself by names;
+/// - `NotALanguage` at the first one in which an operand that must be a language is a relation, a name being what its
+///   definition is;
+/// - `LimitWeight` at the first one that weighs more than 4,000,000, a name weighing what its definition weighs;
 /// - `NotBuilt` at the first one that has a set of rules, or a run that is a name of the project.
 ///
 /// `Memory` where there was no memory. After an error the table is as before.

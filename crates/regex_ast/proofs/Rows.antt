@@ -1,13 +1,12 @@
 -- The terms of nodes with lists, from the items of the `Vec`s that hold them.
-use Rattle.std.proofs.Common.{◌≡◌, Bool, false, List, [], ◌∷◌, map, Vec, Box, Global, refl, ap, ◌∙◌}
-use Rattle.regex_ast.specs.Terms.{Term, empty, term, terms, then_term, ignore, concat, chain, links, or, and, less, only, contexts, between, rules, groups, then_group, mappings, plain, markup, insert, steps, steps_of, cross_with, then as compose, terms_of, links_of, contexts_of, steps_by, mappings_of, maps_of, side_of, contexts_in, groups_of}
+use Rattle.std.proofs.Common.{◌≡◌, Bool, List, [], map, Vec, Box, Global, refl, ap, ◌∙◌}
+use Rattle.regex_ast.specs.Terms.{Term, empty, term, terms, then_term, ignore, concat, chain, links, or, and, less, only, contexts, between, rules, groups, then_group, mappings, plain, markup, insert, steps, steps_of, cross_with, then as compose, terms_of, links_of, contexts_of, steps_by, mappings_of, groups_of}
 use Rattle.regex_ast.specs.declared.expr.Expr.{Expr, Ignore, Ignore', Concat, Concat', Chain, Chain', Only, Only', Rules, Steps, Steps', Row_of-Context, end_of-Context, more_of-Context, items-the_row-Context, items_hidden-the_row-Context-2, Row_of-Step, end_of-Step, more_of-Step, items-the_row-Step, items_hidden-the_row-Step-3, Row_of-Expr, items_hidden-the_row-Expr-0, end_of-Expr, more_of-Expr, items-the_row-Expr, Row_of-Link, end_of-Link, more_of-Link, items-the_row-Link, items_hidden-the_row-Link-1}
 use Rattle.regex_ast.specs.declared.expr.Context.{Context}
 use Rattle.regex_ast.specs.declared.expr.Group.{Group, Group' as Group_of, Row_of-Mapping, end_of-Mapping, more_of-Mapping, items-the_row-Mapping}
 use Rattle.regex_ast.specs.declared.expr.Link.{Link, Or, And, Less}
-use Rattle.regex_ast.specs.declared.expr.Mapping.{Mapping, Plain, Markup, Insert}
+use Rattle.regex_ast.specs.declared.expr.Mapping.{Plain, Markup, Insert}
 use Rattle.regex_ast.specs.declared.expr.RuleSet.{RuleSet, RuleSet', Row_of-Group, end_of-Group, more_of-Group, items-the_row-Group, items_hidden-the_row-Group-5, roll-RuleSet}
-use Rattle.regex_ast.specs.declared.expr.Side.{Side}
 use Rattle.regex_ast.specs.declared.expr.Step.{Step, CrossWith, Then}
 
 terms_of_row : {A : Type 0} {n : _} → (row : Row_of-Expr A n) → terms row ≡ terms_of (map term (items-the_row-Expr A n row))

@@ -2,8 +2,6 @@
 use Rattle.std.proofs.Common.{◌≡◌, sym, ap, ◌∙◌}
 use Rattle.regex_ast.specs.Terms.{term, rules, maps_of, contexts_in, groups_of}
 use Rattle.regex_ast.specs.declared.expr.Raw.{Raw}
-use Rattle.regex_ast.specs.declared.expr.Context.{Context}
-use Rattle.regex_ast.specs.declared.expr.Mapping.{Mapping}
 use Rattle.regex_ast.specs.declared.expr.Expr.{Rules, items_hidden-the_row-Context-2}
 use Rattle.regex_ast.specs.declared.expr.Expr.TheViews.{out-RuleSet, roll-out-RuleSet, out-Group, roll-Group, roll-out-Group}
 use Rattle.regex_ast.specs.declared.expr.RuleSet.{RuleSet}

@@ -27,8 +27,7 @@ pub data IsFlag (text : List ℕ) : Type 0 where
   valued : (kind : ℕ) (feature value : List ℕ) → HasValue kind → IsFeature feature → IsFeature value → text ≡ 64 ∷ kind ∷ 46 ∷ feature ++ 46 ∷ value ++ 64 ∷ [] → IsFlag text
   plain : (kind : ℕ) (feature : List ℕ) → HasNoValue kind → IsFeature feature → text ≡ 64 ∷ kind ∷ 46 ∷ feature ++ 64 ∷ [] → IsFlag text
 
--- `@N.F.V@`, a negative flag. No xfst text may have one as a token; the line `alphabet` of a manifest may name one as a symbol, until negative
--- flags are built
+-- `@N.F.V@`, a negative flag. No xfst text has one as a token; the line `alphabet` of a manifest may name one as a symbol
 pub record IsNegativeFlag (text : List ℕ) : Type 0 where
   pub feature : List ℕ
   pub value : List ℕ

@@ -1,5 +1,6 @@
 use fsm_base::Text;
-use std::alloc::AllocError;
+use std::alloc::{AllocError, AllocFailed};
+use thiserror::Error;
 
 /// Why a project or an edit of it is refused, in the order in which the reasons are numbered.
 #[derive(Clone, Copy, Debug, PartialEq, Eq, PartialOrd, Ord, Hash)]
@@ -66,9 +67,10 @@ pub struct Fault {
 }
 
 /// What a reader of one source answers in place of its tree.
-#[derive(Debug, Drop)]
+#[derive(Debug, Drop, Error)]
 pub enum ReadError {
     /// The source's first fault, and its line, counted from 1; 0 is the source as a whole.
+    #[error("line {line}: {why:?}")]
     Fault {
         /// The line.
         line: u32,
@@ -76,5 +78,28 @@ pub enum ReadError {
         why: Why,
     },
     /// There was no memory.
+    #[error(transparent)]
     Memory(AllocError),
+}
+
+impl From<AllocError> for ReadError {
+    ghost use Rattle.std.specs.Prelude.{◌≡◌};
+    ghost use Rattle.regex_ast.specs.declared.fault.ReadError.TheVariants.{Memory};
+
+    ghost from_gives = { λ refused error. error ≡ Memory refused };
+
+    fn from(refused: AllocError) -> ReadError {
+        ReadError::Memory(refused)
+    }
+}
+
+impl<T: Drop> From<AllocFailed<T>> for ReadError {
+    ghost use Rattle.std.specs.Prelude.{◌≡◌, alloc_error};
+    ghost use Rattle.regex_ast.specs.declared.fault.ReadError.TheVariants.{Memory};
+
+    ghost from_gives = { λ _ error. error ≡ Memory alloc_error };
+
+    fn from(_: AllocFailed<T>) -> ReadError {
+        ReadError::Memory(AllocError)
+    }
 }

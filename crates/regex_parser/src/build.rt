@@ -10,7 +10,7 @@ use std::alloc::{AllocError, Global};
 
 /// An operand behind so many backslashes; where there are none, the operand. With 2^32 of them or more there is no
 /// memory for it.
-pub fn with_backslashes(alloc: Global, marks: usize, operand: Parsed) -> Result<Parsed, AllocError>
+pub fn add_backslashes(alloc: Global, marks: usize, operand: Parsed) -> Result<Parsed, AllocError>
     ensures { IfOk result (λ made. term made.expr ≡ not_one_of marks (term operand.expr)) }
 {
     if marks == 0 {
@@ -53,7 +53,7 @@ pub fn cross(alloc: Global, upper: Parsed, lower: Parsed) -> Result<Parsed, Allo
 }
 
 /// An operand with its suffixes; where there are none, the operand.
-pub fn with_suffixes(
+pub fn add_suffixes(
     alloc: Global,
     operand: Parsed,
     suffixes: Vec<Suffix>,
@@ -69,7 +69,7 @@ pub fn with_suffixes(
 }
 
 /// Prefixes and their operand; where there are none, the operand.
-pub fn with_prefixes(
+pub fn add_prefixes(
     alloc: Global,
     prefixes: Vec<Prefix>,
     operand: Parsed,
@@ -85,7 +85,7 @@ pub fn with_prefixes(
 }
 
 /// Operands with `/` between them; one alone stands for itself.
-pub fn ignoring(first: Parsed, mut more: Vec<Expr<Raw>>) -> Result<Parsed, AllocError>
+pub fn ignore(first: Parsed, mut more: Vec<Expr<Raw>>) -> Result<Parsed, AllocError>
     ensures { IfOk result (λ made. term made.expr ≡ ignoring (term first.expr) (map term more.items)) }
 {
     if more.is_empty() {
@@ -98,7 +98,7 @@ pub fn ignoring(first: Parsed, mut more: Vec<Expr<Raw>>) -> Result<Parsed, Alloc
 }
 
 /// Operands side by side; one alone stands for itself.
-pub fn side_by_side(first: Parsed, mut more: Vec<Expr<Raw>>) -> Result<Parsed, AllocError>
+pub fn concatenate(first: Parsed, mut more: Vec<Expr<Raw>>) -> Result<Parsed, AllocError>
     ensures { IfOk result (λ made. term made.expr ≡ side_by_side (term first.expr) (map term more.items)) }
 {
     if more.is_empty() {
@@ -122,7 +122,7 @@ pub fn link(operator: LinkOperator, operand: Parsed) -> Link<Raw>
 }
 
 /// A row of `|`, `&` and `-`; an operand alone stands for itself.
-pub fn with_links(alloc: Global, first: Parsed, links: Vec<Link<Raw>>) -> Result<Parsed, AllocError>
+pub fn add_links(alloc: Global, first: Parsed, links: Vec<Link<Raw>>) -> Result<Parsed, AllocError>
     ensures { IfOk result (λ made. term made.expr ≡ with_links (term first.expr) (map link_value links.items)) }
 {
     if links.is_empty() {
@@ -144,7 +144,7 @@ pub fn step(operator: StepOperator, operand: Parsed) -> Step<Raw>
 }
 
 /// A row of `.x.` and `.o.`; an operand alone stands for itself.
-pub fn with_steps(alloc: Global, first: Parsed, steps: Vec<Step<Raw>>) -> Result<Parsed, AllocError>
+pub fn add_steps(alloc: Global, first: Parsed, steps: Vec<Step<Raw>>) -> Result<Parsed, AllocError>
     ensures { IfOk result (λ made. term made.expr ≡ with_steps (term first.expr) (map step_value steps.items)) }
 {
     if steps.is_empty() {

@@ -50,7 +50,7 @@ fn steps<'a>(alloc: Global, tokens: &'a [Token], depth: u32) -> Result<Read<'a, 
         found.push(build::step(operator, operand))?;
         rest = behind;
     }
-    Ok(Some((build::with_steps(alloc, first, found)?, rest)))
+    Ok(Some((build::add_steps(alloc, first, found)?, rest)))
 }
 
 /// Reads level 9.
@@ -351,7 +351,7 @@ fn chain<'a>(alloc: Global, tokens: &'a [Token], depth: u32) -> Result<Read<'a, 
         links.push(build::link(operator, operand))?;
         rest = behind;
     }
-    Ok(Some((build::with_links(alloc, first, links)?, rest)))
+    Ok(Some((build::add_links(alloc, first, links)?, rest)))
 }
 
 /// Reads level 7.
@@ -374,7 +374,7 @@ fn concatenation<'a>(
         more.push(operand.into_expr())?;
         rest = behind;
     }
-    Ok(Some((build::side_by_side(first, more)?, rest)))
+    Ok(Some((build::concatenate(first, more)?, rest)))
 }
 
 /// Reads level 6.
@@ -397,7 +397,7 @@ fn ignored<'a>(
         more.push(operand.into_expr())?;
         rest = behind;
     }
-    Ok(Some((build::ignoring(first, more)?, rest)))
+    Ok(Some((build::ignore(first, more)?, rest)))
 }
 
 /// Reads level 5.
@@ -413,7 +413,7 @@ fn prefixed<'a>(
     let Some((operand, rest)) = suffixed(alloc, rest, depth)? else {
         return Ok(None);
     };
-    Ok(Some((build::with_prefixes(alloc, marks, operand)?, rest)))
+    Ok(Some((build::add_prefixes(alloc, marks, operand)?, rest)))
 }
 
 /// Reads level 4.
@@ -431,7 +431,7 @@ fn suffixed<'a>(
     let Some((marks, rest)) = suffixes(alloc, rest)? else {
         return Ok(None);
     };
-    Ok(Some((build::with_suffixes(alloc, operand, marks)?, rest)))
+    Ok(Some((build::add_suffixes(alloc, operand, marks)?, rest)))
 }
 
 /// Reads level 3.
@@ -468,7 +468,7 @@ fn negated<'a>(
     let Some((operand, rest)) = primary(alloc, rest, depth)? else {
         return Ok(None);
     };
-    Ok(Some((build::with_backslashes(alloc, marks, operand)?, rest)))
+    Ok(Some((build::add_backslashes(alloc, marks, operand)?, rest)))
 }
 
 /// Reads level 1.

@@ -9,7 +9,7 @@ use regex_tokens::Token;
 use std::alloc::{AllocError, Global};
 
 /// The most brackets that may be open round a token.
-const MOST_OPEN: u32 = 64;
+pub const MOST_OPEN: u32 = 64;
 
 /// The expression that the tokens are, all of them; `None` where they aren't one, or where more than 64 brackets are open
 /// round a token. Its operators are as in Beesley and Karttunen, Finite State Morphology, 2003, chapters 2 and 3. A run is

@@ -2,6 +2,7 @@
 use Rattle.std.proofs.Common.{◌≡◌, ◌+◌, ◌<◌, ℕ, arith, Bool, true, false, ◌||◌, List, [], ◌∷◌, ◌++◌, map, length, drop, get_or, refl, sym, ap, ◌∙◌, append_assoc, append-nil}
 use Rattle.std.proofs.lemmas.List.Folds.{list_any-append}
 use Rattle.std.specs.List.{list_any}
+use Rattle.word_relations.proofs.Behind.{left_behind}
 use Rattle.regex_ast.specs.Terms.{Term, term, terms_of, links_of, contexts_of, steps_by, mappings_of, groups_of, maps_of, contexts_in}
 use Rattle.regex_ast.specs.declared.expr.Raw.{Raw}
 use Rattle.regex_ast.specs.declared.expr.Expr.{Expr}
@@ -13,7 +14,6 @@ use Rattle.regex_ast.specs.declared.expr.Mapping.{Mapping, Plain, Markup, Insert
 use Rattle.regex_reader.specs.declared.findings.Findings.{Findings}
 use Rattle.regex_reader.specs.Found.{found_in, either}
 use Rattle.regex_reader.specs.Tests.{Node, nodes, each_of, each_link, each_context, each_step, each_mapping, each_group, is_misplaced, has_high_power, has_large_rule, context_count, mapping_count, mappings_in, contexts_in as contexts_in_all}
-use Rattle.regex_reader.proofs.Rows.{left_behind}
 
 or_assoc : (a b c : Bool) → ((a || b) || c) ≡ (a || (b || c))
 or_assoc true b c = refl

@@ -1,6 +1,4 @@
-pub mod Rows
 pub mod Found
-pub mod Depths
 pub mod Placed
 pub mod Saying
 pub mod Readings
@@ -10,3 +8,4 @@ pub mod Stepping
 pub mod Texts
 pub mod Once
 pub mod Entries
+pub mod Errors

@@ -1,10 +1,8 @@
 ghost use Rattle.std.specs.Prelude.{◌≡◌, ◌<◌, ◌-◌, ◌^◌};
 ghost use Rattle.regex_reader.specs.Files.{is_too_deep, open_round, open_behind, opens, closes};
 
+use regex_parser::MOST_OPEN;
 use regex_tokens::{Operator, Token};
-
-/// The most brackets that may be open round a token.
-const MOST_OPEN: usize = 64;
 
 /// Whether a token stands inside more than 64 open brackets. Any closing bracket closes the last one that is open, and a
 /// bracket isn't inside the pair that it opens or closes.
@@ -13,7 +11,7 @@ pub fn is_too_deep(tokens: &[Token]) -> bool
 {
     let mut depth: usize = 0;
     'tokens: for token in tokens {
-        if depth_round(depth, token) > MOST_OPEN {
+        if depth_round(depth, token) > MOST_OPEN as usize {
             return true;
         }
         depth = depth_behind(depth, token);

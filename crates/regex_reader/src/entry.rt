@@ -29,10 +29,7 @@ pub fn read_expr(alloc: Global, text: &str, line: u32) -> Result<Expr<Raw>, Read
     requires { line + newlines text.now < 2 ^ 32 - 1 }
     ensures { IsReadExpression text.now line result }
 {
-    let found = match tokens(alloc, text, line, Comments::OfEntries) {
-        Ok(found) => found,
-        Err(error) => return Err(ReadError::Memory(error)),
-    };
+    let found = tokens(alloc, text, line, Comments::OfEntries)?;
     if let Ending::NoToken { line: at } = found.ending {
         return Err(ReadError::Fault {
             line: at,
@@ -58,10 +55,7 @@ fn entry(alloc: Global, line: u32, tokens: &[Token]) -> Result<Expr<Raw>, ReadEr
             why: Why::Statement,
         });
     }
-    let (expr, found) = match checked(alloc, line, tokens) {
-        Ok(checked) => checked,
-        Err(error) => return Err(error),
-    };
+    let (expr, found) = checked(alloc, line, tokens)?;
     if found.high_power {
         return Err(ReadError::Fault {
             line,

@@ -83,7 +83,7 @@ impl Findings {
 
 /// What is found in an expression, which stands inside a context or doesn't.
 #[cycle(walk)]
-pub fn in_expression(expr: &Expr<Raw>, inside: bool) -> Findings
+pub fn find_in_expression(expr: &Expr<Raw>, inside: bool) -> Findings
     ensures { result ≡ found_in (nodes inside (term expr.now)) }
 {
     match expr {
@@ -92,49 +92,55 @@ pub fn in_expression(expr: &Expr<Raw>, inside: bool) -> Findings
         Expr::Atom(_) => Findings::none(),
         Expr::Letters(_) => Findings::none(),
         Expr::Edge => Findings::of_edge(inside),
-        Expr::Group(inner) => in_expression(inner, inside),
-        Expr::Maybe(inner) => in_expression(inner, inside),
-        Expr::NotOne(_, inner) => in_expression(inner, inside),
-        Expr::Cross(upper, lower) => in_expression(upper, inside).or(in_expression(lower, inside)),
+        Expr::Group(inner) => find_in_expression(inner, inside),
+        Expr::Maybe(inner) => find_in_expression(inner, inside),
+        Expr::NotOne(_, inner) => find_in_expression(inner, inside),
+        Expr::Cross(upper, lower) => find_in_expression(upper, inside).or(find_in_expression(
+            lower, inside,
+        )),
         Expr::Suffixed(inner, suffixes) => {
-            Findings::of_suffixes(suffixes).or(in_expression(inner, inside))
+            Findings::of_suffixes(suffixes).or(find_in_expression(inner, inside))
         }
-        Expr::Prefixed(_, inner) => in_expression(inner, inside),
-        Expr::Ignore(operands) => in_each(operands, inside),
-        Expr::Concat(operands) => in_each(operands, inside),
-        Expr::Chain(first, links) => in_expression(first, inside).or(in_links(links, inside)),
+        Expr::Prefixed(_, inner) => find_in_expression(inner, inside),
+        Expr::Ignore(operands) => find_in_each(operands, inside),
+        Expr::Concat(operands) => find_in_each(operands, inside),
+        Expr::Chain(first, links) => find_in_expression(first, inside).or(find_in_links(
+            links, inside,
+        )),
         Expr::Only(centre, contexts) => Findings::of_size(contexts.len() > MOST_IN_RULES).or(
-            in_expression(centre, inside).or(in_contexts(contexts)),
+            find_in_expression(centre, inside).or(find_in_contexts(contexts)),
         ),
         Expr::Rules(rules) => {
-            Findings::of_size(are_large(&rules.groups)).or(in_groups(&rules.groups, inside))
+            Findings::of_size(are_large(&rules.groups)).or(find_in_groups(&rules.groups, inside))
         }
-        Expr::Steps(first, steps) => in_expression(first, inside).or(in_steps(steps, inside)),
+        Expr::Steps(first, steps) => find_in_expression(first, inside).or(find_in_steps(
+            steps, inside,
+        )),
     }
 }
 
 /// What is found in expressions.
 #[cycle(walk)]
-fn in_each(operands: &[Expr<Raw>], inside: bool) -> Findings
+fn find_in_each(operands: &[Expr<Raw>], inside: bool) -> Findings
     ensures { result ≡ found_in (each_of inside (terms_of (map term operands.now))) }
 {
     let mut found = Findings::none();
     'operands: for operand in operands {
-        found = found.or(in_expression(operand, inside));
+        found = found.or(find_in_expression(operand, inside));
     }
     found
 }
 
 /// What is found in the operands of a row.
 #[cycle(walk)]
-fn in_links(links: &[Link<Raw>], inside: bool) -> Findings
+fn find_in_links(links: &[Link<Raw>], inside: bool) -> Findings
     ensures { result ≡ found_in (each_link inside (links_of links.now)) }
 {
     let mut found = Findings::none();
     'links: for link in links {
         match link {
             Link::Or(operand) | Link::And(operand) | Link::Less(operand) => {
-                found = found.or(in_expression(operand, inside));
+                found = found.or(find_in_expression(operand, inside));
             }
         }
     }
@@ -143,12 +149,15 @@ fn in_links(links: &[Link<Raw>], inside: bool) -> Findings
 
 /// What is found in contexts.
 #[cycle(walk)]
-fn in_contexts(contexts: &[Context<Raw>]) -> Findings
+fn find_in_contexts(contexts: &[Context<Raw>]) -> Findings
     ensures { result ≡ found_in (each_context (contexts_of contexts.now)) }
 {
     let mut found = Findings::none();
     'contexts: for context in contexts {
-        let both = in_expression(&context.left, true).or(in_expression(&context.right, true));
+        let both = find_in_expression(&context.left, true).or(find_in_expression(
+            &context.right,
+            true,
+        ));
         found = found.or(both);
     }
     found
@@ -156,14 +165,14 @@ fn in_contexts(contexts: &[Context<Raw>]) -> Findings
 
 /// What is found in the operands of a row of `.x.` and `.o.`.
 #[cycle(walk)]
-fn in_steps(steps: &[Step<Raw>], inside: bool) -> Findings
+fn find_in_steps(steps: &[Step<Raw>], inside: bool) -> Findings
     ensures { result ≡ found_in (each_step inside (steps_by steps.now)) }
 {
     let mut found = Findings::none();
     'steps: for step in steps {
         match step {
             Step::CrossWith(operand) | Step::Then(operand) => {
-                found = found.or(in_expression(operand, inside));
+                found = found.or(find_in_expression(operand, inside));
             }
         }
     }
@@ -172,45 +181,47 @@ fn in_steps(steps: &[Step<Raw>], inside: bool) -> Findings
 
 /// What is found in the groups of a set of rules.
 #[cycle(walk)]
-fn in_groups(groups: &[Group<Raw>], inside: bool) -> Findings
+fn find_in_groups(groups: &[Group<Raw>], inside: bool) -> Findings
     ensures { result ≡ found_in (each_group inside (groups_of groups.now)) }
 {
     let mut found = Findings::none();
     'groups: for group in groups {
-        found = found.or(in_mappings(&group.maps, inside).or(in_contexts(&group.contexts)));
+        found = found.or(find_in_mappings(&group.maps, inside).or(find_in_contexts(
+            &group.contexts,
+        )));
     }
     found
 }
 
 /// What is found in mappings.
 #[cycle(walk)]
-fn in_mappings(mappings: &[Mapping<Raw>], inside: bool) -> Findings
+fn find_in_mappings(mappings: &[Mapping<Raw>], inside: bool) -> Findings
     ensures { result ≡ found_in (each_mapping inside (mappings_of mappings.now)) }
 {
     let mut found = Findings::none();
     'mappings: for mapping in mappings {
-        found = found.or(in_mapping(mapping, inside));
+        found = found.or(find_in_mapping(mapping, inside));
     }
     found
 }
 
 /// What is found in a mapping.
 #[cycle(walk)]
-fn in_mapping(mapping: &Mapping<Raw>, inside: bool) -> Findings
+fn find_in_mapping(mapping: &Mapping<Raw>, inside: bool) -> Findings
     ensures { result ≡ found_in (each_mapping inside (mappings_of (mapping.now ∷ []))) }
 {
     match mapping {
         Mapping::Plain { centre, result: by } => {
-            in_expression(centre, inside).or(in_expression(by, inside))
+            find_in_expression(centre, inside).or(find_in_expression(by, inside))
         }
         Mapping::Markup {
             centre,
             before,
             after,
-        } => in_expression(centre, inside).or(in_expression(before, inside).or(in_expression(
-            after, inside,
-        ))),
-        Mapping::Insert { result: by } => in_expression(by, inside),
+        } => find_in_expression(centre, inside).or(find_in_expression(before, inside).or(
+            find_in_expression(after, inside),
+        )),
+        Mapping::Insert { result: by } => find_in_expression(by, inside),
     }
 }
 

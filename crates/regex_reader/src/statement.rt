@@ -2,7 +2,7 @@ ghost use Rattle.std.specs.Prelude.{◌≡◌, ◌+◌, length};
 ghost use Rattle.regex_reader.specs.Verdicts.{placed, line_of, IsChecked, IsVerdict};
 
 use crate::brackets::is_too_deep;
-use crate::findings::{Findings, in_expression};
+use crate::findings::{Findings, find_in_expression};
 use crate::form::form_of;
 use regex_ast::{Define, Expr, Raw, ReadError, Why};
 use regex_parser::read_tokens;
@@ -35,10 +35,7 @@ pub fn statement(
             why: Why::Statement,
         });
     };
-    let (expr, found) = match checked(alloc, line, form.expression) {
-        Ok(checked) => checked,
-        Err(error) => return Err(error),
-    };
+    let (expr, found) = checked(alloc, line, form.expression)?;
     if found.high_power {
         return Err(ReadError::Fault {
             line,
@@ -51,10 +48,8 @@ pub fn statement(
             why: Why::LimitRule,
         });
     }
-    match form.name.clone() {
-        Ok(name) => Ok(Define { name, line, expr }),
-        Err(error) => Err(ReadError::Memory(error)),
-    }
+    let name = form.name.clone()?;
+    Ok(Define { name, line, expr })
 }
 
 /// The line of the first place.
@@ -79,17 +74,13 @@ pub fn checked(
 ) -> Result<(Expr<Raw>, Findings), ReadError>
     ensures { IsChecked line tokens.now result }
 {
-    let read = match read_tokens(alloc, tokens) {
-        Ok(read) => read,
-        Err(error) => return Err(ReadError::Memory(error)),
-    };
-    let Some(expr) = read else {
+    let Some(expr) = read_tokens(alloc, tokens)? else {
         return Err(ReadError::Fault {
             line,
             why: Why::Statement,
         });
     };
-    let found = in_expression(&expr, false);
+    let found = find_in_expression(&expr, false);
     if found.misplaced_edge {
         return Err(ReadError::Fault {
             line,

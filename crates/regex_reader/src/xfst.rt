@@ -34,10 +34,7 @@ pub fn read_xfst(alloc: Global, text: &str) -> Result<Vec<Define<Raw>>, ReadErro
     requires { newlines text.now + 1 < 2 ^ 32 - 1 }
     ensures { IsRead text.now result }
 {
-    let found = match tokens(alloc, text, 1, Comments::OfDefinitions) {
-        Ok(found) => found,
-        Err(error) => return Err(ReadError::Memory(error)),
-    };
+    let found = tokens(alloc, text, 1, Comments::OfDefinitions)?;
     statements(alloc, &found.tokens, &found.places, found.ending)
 }
 
@@ -57,21 +54,12 @@ fn statements(
     'statements: while let Some(last) = semicolon(rest) {
         let (one, behind) = rest.split_at(last + 1);
         let (one_places, places_behind) = rest_places.split_at(last + 1);
-        let define = match statement(alloc, one, one_places) {
-            Ok(define) => define,
-            Err(error) => return Err(error),
-        };
-        match defines.push(define) {
-            Ok(()) => {}
-            Err(error) => return Err(ReadError::Memory(error.into())),
-        }
+        defines.push(statement(alloc, one, one_places)?)?;
         rest = behind;
         rest_places = places_behind;
     }
-    match ended(rest, rest_places, ending) {
-        Ok(()) => Ok(defines),
-        Err(error) => Err(error),
-    }
+    ended(rest, rest_places, ending)?;
+    Ok(defines)
 }
 
 /// The place of the first `;`, counted from 0.

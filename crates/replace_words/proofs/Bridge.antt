@@ -31,13 +31,13 @@ module _ {P : Type 0} (of : Rules P) (syms : List Sym) (places : List P) where
   claim_of v (inr (k, (p, at, inl (c, r, is, does)))) = (replaced k c r, is, (p, at, does))
   claim_of v (inr (k, (p, at, inr (b, c, a, is, does)))) = (marked k b c a, is, (p, at, does))
 
-  blocks_of : (cs : List Claim) → All Is cs → (vs : List (List (Bound Mark))) × (flat_map encode cs ≡ flat_map (λ v. v) vs) × All Block vs
+  pub blocks_of : (cs : List Claim) → All Is cs → (vs : List (List (Bound Mark))) × (flat_map encode cs ≡ flat_map (λ v. v) vs) × All Block vs
   blocks_of [] h = ([], refl, All-nil Block)
   blocks_of (c ∷ cs) h =
       let r = blocks_of cs (All-tail Is c cs h) in
       (encode c ∷ r.0, ap (λ w. encode c ++ w) r.1, All-cons Block (encode c) r.0 (block_of c (All-head Is c cs h)) r.2)
 
-  claims_of : (vs : List (List (Bound Mark))) → All Block vs → (cs : List Claim) × (flat_map (λ v. v) vs ≡ flat_map encode cs) × All Is cs
+  pub claims_of : (vs : List (List (Bound Mark))) → All Block vs → (cs : List Claim) × (flat_map (λ v. v) vs ≡ flat_map encode cs) × All Is cs
   claims_of [] h = ([], refl, All-nil Is)
   claims_of (v ∷ vs) h =
       let r = claims_of vs (All-tail Block v vs h) in
@@ -46,10 +46,10 @@ module _ {P : Type 0} (of : Rules P) (syms : List Sym) (places : List P) where
       let rest : flat_map (λ v. v) vs ≡ flat_map encode r.0 = r.1 in
       (c.0 ∷ r.0, cc, All-cons Is c.0 r.0 c.2 r.2)
 
-  left_is : (p : P) (before : List Claim) → reading (on_left (of.side p)) (Edge ∷ flat_map encode before) ≡ Edge ∷ map Inner (flat_map (left_side (of.side p)) before)
+  pub left_is : (p : P) (before : List Claim) → reading (on_left (of.side p)) (Edge ∷ flat_map encode before) ≡ Edge ∷ map Inner (flat_map (left_side (of.side p)) before)
   left_is p before = reading_before (reads_left (of.side p)) before
 
-  right_is : (p : P) (behind : List Claim) → reading (on_right (of.side p)) (flat_map encode behind ++ Edge ∷ []) ≡ map Inner (flat_map (right_side (of.side p)) behind) ++ Edge ∷ []
+  pub right_is : (p : P) (behind : List Claim) → reading (on_right (of.side p)) (flat_map encode behind ++ Edge ∷ []) ≡ map Inner (flat_map (right_side (of.side p)) behind) ++ Edge ∷ []
   right_is p behind = reading_behind (reads_right (of.side p)) behind
 
   module _ (no_empty : (p : P) → Contains places p → of.centre p [] → ⊥) where

@@ -23,13 +23,13 @@ forget (copied s) = piece.copied s
 forget (replaced k c r) = piece.replaced c r
 forget (marked k b c a) = piece.replaced c (b ++ (c ++ a))
 
-uppers_forget : (cs : List Claim) → uppers (map forget cs) ≡ flat_map upper cs
+pub uppers_forget : (cs : List Claim) → uppers (map forget cs) ≡ flat_map upper cs
 uppers_forget [] = refl
 uppers_forget (copied s ∷ cs) = ap (λ (u : List Sym). s ∷ u) (uppers_forget cs)
 uppers_forget (replaced k c r ∷ cs) = ap (λ (u : List Sym). c ++ u) (uppers_forget cs)
 uppers_forget (marked k b c a ∷ cs) = ap (λ (u : List Sym). c ++ u) (uppers_forget cs)
 
-lowers_forget : (cs : List Claim) → lowers (map forget cs) ≡ flat_map lower cs
+pub lowers_forget : (cs : List Claim) → lowers (map forget cs) ≡ flat_map lower cs
 lowers_forget [] = refl
 lowers_forget (copied s ∷ cs) = ap (λ (u : List Sym). s ∷ u) (lowers_forget cs)
 lowers_forget (replaced k c r ∷ cs) = ap (λ (u : List Sym). r ++ u) (lowers_forget cs)
@@ -48,7 +48,7 @@ behind_forget UpLow cs = lowers_forget cs
 behind_forget LowLow cs = lowers_forget cs
 
 -- claims of pieces in parts
-split_claims : (cs : List Claim) (x y : List (Piece Sym)) → map forget cs ≡ x ++ y → (a : List Claim) × (b : List Claim) × (cs ≡ a ++ b) × (x ≡ map forget a) × (y ≡ map forget b)
+pub split_claims : (cs : List Claim) (x y : List (Piece Sym)) → map forget cs ≡ x ++ y → (a : List Claim) × (b : List Claim) × (cs ≡ a ++ b) × (x ≡ map forget a) × (y ≡ map forget b)
 split_claims cs [] y is = ([], cs, refl, refl, sym is)
 split_claims [] (p ∷ x) y is = let e : [] ≡ p ∷ (x ++ y) = is in absurd (cc)
 split_claims (c ∷ cs) (p ∷ x) y is =
@@ -58,7 +58,7 @@ split_claims (c ∷ cs) (p ∷ x) y is =
     let r = split_claims cs x y tail in
     (c ∷ r.0, r.1, ap (λ (z : List Claim). c ∷ z) r.2, ap (λ (q : Piece Sym). q ∷ x) head ∙ ap (λ (z : List (Piece Sym)). forget c ∷ z) r.3, r.4)
 
-first_claim : (cs : List Claim) (p : Piece Sym) (rest : List (Piece Sym)) → p ∷ rest ≡ map forget cs → (c : Claim) × (ds : List Claim) × (cs ≡ c ∷ ds) × (p ≡ forget c) × (rest ≡ map forget ds)
+pub first_claim : (cs : List Claim) (p : Piece Sym) (rest : List (Piece Sym)) → p ∷ rest ≡ map forget cs → (c : Claim) × (ds : List Claim) × (cs ≡ c ∷ ds) × (p ≡ forget c) × (rest ≡ map forget ds)
 first_claim [] p rest is = let e : p ∷ rest ≡ [] = is in absurd (cc)
 first_claim (c ∷ ds) p rest is =
     let e : p ∷ rest ≡ forget c ∷ map forget ds = is in
@@ -66,7 +66,7 @@ first_claim (c ∷ ds) p rest is =
     let tail : rest ≡ map forget ds = cc in
     (c, ds, refl, head, tail)
 
-copied_claims : (w : List Sym) (cs : List Claim) → map piece.copied w ≡ map forget cs → cs ≡ map copied w
+pub copied_claims : (w : List Sym) (cs : List Claim) → map piece.copied w ≡ map forget cs → cs ≡ map copied w
 copied_claims [] [] is = refl
 copied_claims [] (c ∷ cs) is = let e : [] ≡ forget c ∷ map forget cs = is in absurd (cc)
 copied_claims (s ∷ w) [] is = let e : piece.copied s ∷ map piece.copied w ≡ [] = is in absurd (cc)
@@ -78,7 +78,7 @@ copied_claims (s ∷ w) (copied t ∷ cs) is =
 copied_claims (s ∷ w) (replaced k c r ∷ cs) is = let e : piece.copied s ∷ map piece.copied w ≡ piece.replaced c r ∷ map forget cs = is in absurd (cc)
 copied_claims (s ∷ w) (marked k b c a ∷ cs) is = let e : piece.copied s ∷ map piece.copied w ≡ piece.replaced c (b ++ (c ++ a)) ∷ map forget cs = is in absurd (cc)
 
-forget_copies : (w : List Sym) → map forget (map copied w) ≡ map piece.copied w
+pub forget_copies : (w : List Sym) → map forget (map copied w) ≡ map piece.copied w
 forget_copies [] = refl
 forget_copies (s ∷ w) = ap (λ (z : List (Piece Sym)). piece.copied s ∷ z) (forget_copies w)
 
@@ -97,13 +97,13 @@ module _ {P : Type 0} (of : Rules P) (places : List P) where
   abbrev Holds_by : P → List (Piece Sym) → List (Piece Sym) → Type 0
   Holds_by p before behind = HoldsBetween of p before behind
 
-  holds_there : (syms : List Sym) (p : P) (before behind : List Claim) → HoldsAt of syms places p before behind → Holds_by p (map forget before) (map forget behind)
+  pub holds_there : (syms : List Sym) (p : P) (before behind : List Claim) → HoldsAt of syms places p before behind → Holds_by p (map forget before) (map forget behind)
   holds_there syms p before behind h = (
     subst (λ (u : List Sym). of.left p (Edge ∷ map Inner u)) (sym (before_forget (of.side p) before)) h.0,
     subst (λ (u : List Sym). of.right p (map Inner u ++ Edge ∷ [])) (sym (behind_forget (of.side p) behind)) h.1,
   )
 
-  holds_back : (syms : List Sym) (p : P) (before behind : List Claim) → Holds_by p (map forget before) (map forget behind) → HoldsAt of syms places p before behind
+  pub holds_back : (syms : List Sym) (p : P) (before behind : List Claim) → Holds_by p (map forget before) (map forget behind) → HoldsAt of syms places p before behind
   holds_back syms p before behind h = (
     subst (λ (u : List Sym). of.left p (Edge ∷ map Inner u)) (before_forget (of.side p) before) h.0,
     subst (λ (u : List Sym). of.right p (map Inner u ++ Edge ∷ [])) (behind_forget (of.side p) behind) h.1,

@@ -3,3 +3,4 @@ mod Encode
 mod Reading
 mod Bridge
 pub mod Claimed
+pub mod Inserted

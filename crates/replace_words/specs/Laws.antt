@@ -6,6 +6,7 @@ use Rattle.fsm_base.specs.declared.letters.Sym.{Sym}
 use Rattle.replace_words.specs.declared.marks.Mark.{Mark}
 use Rattle.replace_words.specs.Places.{Rules, HasNoEmptyCentre, IsRewrittenAt}
 use Rattle.replace_words.specs.Marked.{upper_of, lower_of, symbol_of, IsMarked}
+use Rattle.replace_words.specs.Filled.{InsertsOnly, IsFilledWord}
 
 -- some word of marks keeps the rules and has these two sides
 abbrev pub IsMarkedBy : {P : Type 0} → Rules P → List P → List Sym → Bool → List Sym → List Sym → Type 0
@@ -16,3 +17,14 @@ abbrev pub RewritingsAreMarkedWords : Type 1
 RewritingsAreMarkedWords =
     (P : Type 0) (of : Rules P) (places : List P) (symbols : List Sym) (optional : Bool) (u w : List Sym)
     → ((p : P) → Contains places p → HasNoEmptyCentre of p) → IsRewrittenAt of places symbols optional u w ↔ IsMarkedBy of places symbols optional u w
+
+-- some word of marks keeps what insertion asks and has these two sides
+abbrev pub IsFilledBy : {P : Type 0} → Rules P → List P → List Sym → Bool → List Sym → List Sym → Type 0
+IsFilledBy of places symbols optional u w =
+    (z : List (Bound Mark)) × IsFilledWord of symbols places optional z × (filter_map (symbol_of upper_of) z ≡ u) × (filter_map (symbol_of lower_of) z ≡ w)
+
+-- places that insert relate the two sides of these words, and nothing else
+abbrev pub InsertionsAreMarkedWords : Type 1
+InsertionsAreMarkedWords =
+    (P : Type 0) (of : Rules P) (places : List P) (symbols : List Sym) (optional : Bool) (u w : List Sym)
+    → ((p : P) → Contains places p → InsertsOnly of p) → IsRewrittenAt of places symbols optional u w ↔ IsFilledBy of places symbols optional u w

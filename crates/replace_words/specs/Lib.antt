@@ -1,4 +1,5 @@
 pub mod Places
 pub mod Claims
 pub mod Marked
+pub mod Filled
 pub mod Laws

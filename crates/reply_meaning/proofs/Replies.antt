@@ -1,5 +1,5 @@
 -- Lawful replies to one line.
-use Rattle.std.proofs.Common.{◌≡◌, ℕ, ◌⊎◌, List, ◌∷◌, ◌++◌, Option, None, Some, Result, Ok, Err, refl, sym, ap, subst, ◌∙◌, inl, inr, true≢false, true, false, Bool}
+use Rattle.std.proofs.Common.{◌≡◌, ℕ, ◌⊎◌, List, ◌∷◌, ◌++◌, Option, None, Some, Result, Ok, Err, sym, ap, subst, ◌∙◌, inl, inr, true≢false, true, false, Bool}
 use Rattle.std.specs.Prelude.{codes, decimal}
 use Rattle.fsm_base.specs.Cut.{cut}
 use Rattle.word_relations.specs.Answers.{Found, strings, more, loop, Answers}
@@ -8,7 +8,7 @@ use Rattle.lookup_answers.proofs.AnswerKinds.{same_kind}
 use Rattle.lookup_answers.proofs.OneList.{one_list}
 use Rattle.project_meaning.specs.Projects.{Project}
 use Rattle.reply_meaning.specs.Replies.{Replies, RepliesToWord, Related, no_net, no_symbol, answered, no_memory, long, no_word, word, answer_bytes, headed, word_of}
-use Rattle.reply_meaning.specs.OneReply.{IsMemory, ShowsLoop, AreLoops}
+use Rattle.reply_meaning.specs.OneReply.{IsMemory, AreLoops}
 use Rattle.lookup_answers.specs.declared.direction.Direction.{Direction}
 
 -- a cut is one

@@ -3,10 +3,13 @@
 //!
 //! - [`Ending`]: how the answering of an input ended, of which transcripts speak.
 //! - [`one_reply`]: the law that a line has one reply.
+//! - [`without_return`]: a line without a carriage return at its end.
 #![tactic(auto)]
 
 mod ending;
 mod laws;
+mod line;
 
 pub use ending::Ending;
 pub use laws::one_reply;
+pub use line::without_return;

@@ -17,7 +17,7 @@ use Rattle.network_sets.proofs.Inside.{over_left, over_right}
 use Rattle.two_level.specs.Marks.{marked, IsMarked, place_between, IsPlaceWhere, marked_letters}
 use Rattle.two_level.specs.Rules.{Holds}
 use Rattle.two_level.specs.declared.rule.PairContext.{PairContext}
-use Rattle.two_level.specs.declared.marks.NumberSet.{NumberSet}
+use Rattle.two_level.specs.declared.marks.MarkedLetter.{MarkedLetter}
 use Rattle.two_level.proofs.Letters.{inner_over, over_inner, edge_before, edge_behind, inside_all}
 use Rattle.two_level.proofs.MarkedStrings.{marked_same}
 
@@ -36,9 +36,9 @@ lang_only pairs lang m over used x h = subst (λ (z : List (Bound Pair)). Contai
 
 module _ (pairs : List Pair) where
   -- every place
-  pub place_words : (any edge before behind : Automaton (Bound Pair)) (m : Automaton NumberSet) → ((w : List (Bound Pair)) → Accepts any w ↔ IsOver (inner pairs) w) → ((w : List (Bound Pair)) → Accepts edge w ↔ (w ≡ Edge ∷ []))
+  pub place_words : (any edge before behind : Automaton (Bound Pair)) (m : Automaton MarkedLetter) → ((w : List (Bound Pair)) → Accepts any w ↔ IsOver (inner pairs) w) → ((w : List (Bound Pair)) → Accepts edge w ↔ (w ≡ Edge ∷ []))
       → ((w : List (Bound Pair)) → Accepts before w ↔ IsConcatenation (Accepts edge) (Accepts any) w) → ((w : List (Bound Pair)) → Accepts behind w ↔ IsConcatenation (Accepts any) (Accepts edge) w)
-      → ((v : List NumberSet) → Accepts m v ↔ IsMarked (Accepts before) (Accepts behind) v) → (v : List NumberSet) → Accepts m v ↔ IsPlaceWhere pairs (λ x z. Unit {0}) v
+      → ((v : List MarkedLetter) → Accepts m v ↔ IsMarked (Accepts before) (Accepts behind) v) → (v : List MarkedLetter) → Accepts m v ↔ IsPlaceWhere pairs (λ x z. Unit {0}) v
   place_words any edge before behind m any_is edge_is before_is behind_is language v = (there, upwards)
     where
       there : Accepts m v → IsPlaceWhere pairs (λ x z. Unit {0}) v
@@ -63,10 +63,10 @@ module _ (pairs : List Pair) where
           )
 
   -- a context
-  pub context_words : (P Q : List (Bound Pair) → Type 0) (left right any before behind : Automaton (Bound Pair)) (m : Automaton NumberSet) → ((w : List (Bound Pair)) → Accepts left w ↔ P w) → ((w : List (Bound Pair)) → Accepts right w ↔ Q w)
+  pub context_words : (P Q : List (Bound Pair) → Type 0) (left right any before behind : Automaton (Bound Pair)) (m : Automaton MarkedLetter) → ((w : List (Bound Pair)) → Accepts left w ↔ P w) → ((w : List (Bound Pair)) → Accepts right w ↔ Q w)
       → ((w : List (Bound Pair)) → Accepts any w ↔ IsOver (all_letters pairs) w)
       → ((w : List (Bound Pair)) → Accepts before w ↔ IsConcatenation (Accepts any) (Accepts left) w) → ((w : List (Bound Pair)) → Accepts behind w ↔ IsConcatenation (Accepts right) (Accepts any) w)
-      → ((v : List NumberSet) → Accepts m v ↔ IsMarked (Accepts before) (Accepts behind) v)
+      → ((v : List MarkedLetter) → Accepts m v ↔ IsMarked (Accepts before) (Accepts behind) v)
       → (x z : List (Bound Pair)) → IsOver (all_letters pairs) x → IsOver (all_letters pairs) z → Accepts m (marked x z) ↔ (HasSuffix P x × HasPrefix Q z)
   context_words P Q left right any before behind m left_is right_is any_is before_is behind_is language x z over_x over_z = (there, upwards)
     where
@@ -91,13 +91,13 @@ module _ (pairs : List Pair) where
           )
 
   -- the places at which a context of a row holds
-  abbrev pub TellsPlaces : List PairContext → Automaton NumberSet → Type 0
+  abbrev pub TellsPlaces : List PairContext → Automaton MarkedLetter → Type 0
   TellsPlaces contexts m = (x z : List Pair) → IsOver pairs x → IsOver pairs z → Accepts m (place_between x z) ↔ Holds contexts x z
 
-  pub none_hold : (m : Automaton NumberSet) → ((v : List NumberSet) → Accepts m v → ⊥) → TellsPlaces [] m
+  pub none_hold : (m : Automaton MarkedLetter) → ((v : List MarkedLetter) → Accepts m v → ⊥) → TellsPlaces [] m
   none_hold m none x z over_x over_z = (λ h. absurd (none (place_between x z) h), λ h. absurd (Contains-nil_cases h.0 h.1))
 
-  pub one_holds : (c : PairContext) (m : Automaton NumberSet)
+  pub one_holds : (c : PairContext) (m : Automaton MarkedLetter)
       → ((x z : List (Bound Pair)) → IsOver (all_letters pairs) x → IsOver (all_letters pairs) z → Accepts m (marked x z) ↔ (HasSuffix (complete.Accepts c.left) x × HasPrefix (complete.Accepts c.right) z)) → TellsPlaces (c ∷ []) m
   one_holds c m language x z over_x over_z =
       let same = language (Edge ∷ inner x) (inner z ++ Edge ∷ []) (edge_before pairs x over_x) (edge_behind pairs z over_z) in (
@@ -112,7 +112,7 @@ module _ (pairs : List Pair) where
             | inr none ↦ absurd (Contains-nil_cases d none)
           ]
 
-  pub halves_hold : (front back whole : List PairContext) (a b m : Automaton NumberSet) → front ++ back ≡ whole → TellsPlaces front a → TellsPlaces back b → ((v : List NumberSet) → Accepts m v ↔ (Accepts a v ⊎ Accepts b v)) → TellsPlaces whole m
+  pub halves_hold : (front back whole : List PairContext) (a b m : Automaton MarkedLetter) → front ++ back ≡ whole → TellsPlaces front a → TellsPlaces back b → ((v : List MarkedLetter) → Accepts m v ↔ (Accepts a v ⊎ Accepts b v)) → TellsPlaces whole m
   halves_hold front back whole a b m is f g language =
       subst (λ (cs : List PairContext). TellsPlaces cs m) is (λ x z over_x over_z. (there x z over_x over_z, upwards x z over_x over_z))
     where
@@ -131,7 +131,7 @@ module _ (pairs : List Pair) where
           ])
 
   -- the places of a language where contexts hold
-  pub places_holding : (contexts : List PairContext) (m : Automaton NumberSet) (every holding made : complete.Complete NumberSet) → TellsPlaces contexts m → IsLang (marked_letters pairs) (IsPlaceWhere pairs (λ x z. Unit {0})) every → IsLang (marked_letters pairs) (Accepts m) holding
+  pub places_holding : (contexts : List PairContext) (m : Automaton MarkedLetter) (every holding made : complete.Complete MarkedLetter) → TellsPlaces contexts m → IsLang (marked_letters pairs) (IsPlaceWhere pairs (λ x z. Unit {0})) every → IsLang (marked_letters pairs) (Accepts m) holding
       → IsLang every.letters (λ v. complete.Accepts every v × complete.Accepts holding v) made → IsLang (marked_letters pairs) (IsPlaceWhere pairs (Holds contexts)) made
   places_holding contexts m every holding made tells all of is =
       record {
@@ -140,7 +140,7 @@ module _ (pairs : List Pair) where
         words = λ v. (there v, upwards v);
       }
     where
-      there : (v : List NumberSet) → complete.Accepts made v → IsPlaceWhere pairs (Holds contexts) v
+      there : (v : List MarkedLetter) → complete.Accepts made v → IsPlaceWhere pairs (Holds contexts) v
       there v h =
           let r = (is.words v).0 h in
           let p = (all.words v).0 r.0 in
@@ -148,7 +148,7 @@ module _ (pairs : List Pair) where
           let z = p.1 in
           (x, z, p.2, p.3, p.4, (tells x z p.3 p.4).0 (subst (Accepts m) p.2 ((of.words v).0 r.1)))
 
-      upwards : (v : List NumberSet) → IsPlaceWhere pairs (Holds contexts) v → complete.Accepts made v
+      upwards : (v : List MarkedLetter) → IsPlaceWhere pairs (Holds contexts) v → complete.Accepts made v
       upwards v (x, z, e, over_x, over_z, holds) =
           (is.words v).1 ((all.words v).1 (x, z, e, over_x, over_z, tt), (of.words v).1 (subst (Accepts m) (sym e) ((tells x z over_x over_z).1 holds)))
 

@@ -25,7 +25,7 @@ use Rattle.two_level.specs.Marks.{place_between, IsPlaceWhere, marked_letters, f
 use Rattle.two_level.specs.Rules.{Holds, IsRuleOver, Keeps, KeepsPair, KeepsAll, GrammarRelates, IsOther, StandsNowhere}
 use Rattle.two_level.specs.declared.rule.PairContext.{PairContext}
 use Rattle.two_level.specs.declared.rule.LangRule.{LangRule}
-use Rattle.two_level.specs.declared.marks.NumberSet.{NumberSet}
+use Rattle.two_level.specs.declared.marks.MarkedLetter.{MarkedLetter}
 use Rattle.two_level.proofs.MarkedStrings.{between_same, filled, filled_back}
 
 -- the parts of a string round what stands between them
@@ -38,9 +38,9 @@ pub pair_over : (pairs x z : List Pair) (c : Pair) (p : List Pair) → IsOver pa
 pair_over pairs x z c p over is = All-head (Contains pairs) c z (over_right (Contains pairs) x (c ∷ z) (subst (IsOver pairs) is over))
 
 -- the strings without a filling at a place
-module _ (pairs : List Pair) (fillings : List (Option Pair)) (places : Complete NumberSet) (only : (v : List NumberSet) → Accepts places v → IsPlaceWhere pairs (λ x z. Unit {0}) v) (fsa : Automaton NumberSet) (wrong : Automaton Pair) (lang made : Complete Pair)
-    (fsa_is : (v : List NumberSet) → language.Accepts fsa v ↔ Accepts places v)
-    (wrong_is : (p : List Pair) → language.Accepts wrong p ↔ ((v : List NumberSet) × language.Accepts fsa v × Translates (filled_table pairs fillings) v p))
+module _ (pairs : List Pair) (fillings : List (Option Pair)) (places : Complete MarkedLetter) (only : (v : List MarkedLetter) → Accepts places v → IsPlaceWhere pairs (λ x z. Unit {0}) v) (fsa : Automaton MarkedLetter) (wrong : Automaton Pair) (lang made : Complete Pair)
+    (fsa_is : (v : List MarkedLetter) → language.Accepts fsa v ↔ Accepts places v)
+    (wrong_is : (p : List Pair) → language.Accepts wrong p ↔ ((v : List MarkedLetter) × language.Accepts fsa v × Translates (filled_table pairs fillings) v p))
     (of : IsLang pairs (language.Accepts wrong) lang) (is : IsLang lang.letters (λ p. IsOver lang.letters p × ¬ Accepts lang p) made) where
   abbrev pub Nowhere : List Pair → Type 0
   Nowhere p = StandsNowhere (Contains fillings) (λ x z. Accepts places (place_between x z)) p
@@ -78,20 +78,20 @@ module _ (pairs : List Pair) (fillings : List (Option Pair)) (places : Complete 
       upwards p (over, none) = (is.words p).1 (subst (λ (z : List Pair). IsOver z p) (sym of.over) over, λ h. refused p none ((of.words p).0 h))
 
 -- a place at which contexts hold
-pub place_holding : (pairs : List Pair) (P : List Pair → List Pair → Type 0) (holding : Complete NumberSet) → IsLang (marked_letters pairs) (IsPlaceWhere pairs P) holding → (x z : List Pair) → Accepts holding (place_between x z) → P x z
+pub place_holding : (pairs : List Pair) (P : List Pair → List Pair → Type 0) (holding : Complete MarkedLetter) → IsLang (marked_letters pairs) (IsPlaceWhere pairs P) holding → (x z : List Pair) → Accepts holding (place_between x z) → P x z
 place_holding pairs P holding is x z h =
     let r = (is.words (place_between x z)).0 h in
     let same = between_same x z r.0 r.1 r.2 in
     subst (λ a. P a z) (sym same.0) (subst (λ b. P r.0 b) (sym same.1) r.5)
 
-pub holding_place : (pairs : List Pair) (P : List Pair → List Pair → Type 0) (holding : Complete NumberSet) → IsLang (marked_letters pairs) (IsPlaceWhere pairs P) holding → (x z : List Pair) → IsOver pairs x → IsOver pairs z → P x z → Accepts holding (place_between x z)
+pub holding_place : (pairs : List Pair) (P : List Pair → List Pair → Type 0) (holding : Complete MarkedLetter) → IsLang (marked_letters pairs) (IsPlaceWhere pairs P) holding → (x z : List Pair) → IsOver pairs x → IsOver pairs z → P x z → Accepts holding (place_between x z)
 holding_place pairs P holding is x z over_x over_z p = (is.words (place_between x z)).1 (x, z, refl, over_x, over_z, p)
 
 -- a place of these is a place
-pub holding_only : (pairs : List Pair) (P : List Pair → List Pair → Type 0) (holding : Complete NumberSet) → IsLang (marked_letters pairs) (IsPlaceWhere pairs P) holding → (v : List NumberSet) → Accepts holding v → IsPlaceWhere pairs (λ x z. Unit {0}) v
+pub holding_only : (pairs : List Pair) (P : List Pair → List Pair → Type 0) (holding : Complete MarkedLetter) → IsLang (marked_letters pairs) (IsPlaceWhere pairs P) holding → (v : List MarkedLetter) → Accepts holding v → IsPlaceWhere pairs (λ x z. Unit {0}) v
 holding_only pairs P holding is v h = let r = (is.words v).0 h in (r.0, r.1, r.2, r.3, r.4, tt)
 
-pub lacking_only : (pairs : List Pair) (every holding lacking : Complete NumberSet) → IsLang (marked_letters pairs) (IsPlaceWhere pairs (λ x z. Unit {0})) every → IsLang every.letters (λ v. Accepts every v × ¬ Accepts holding v) lacking → (v : List NumberSet) → Accepts lacking v → IsPlaceWhere pairs (λ x z. Unit {0}) v
+pub lacking_only : (pairs : List Pair) (every holding lacking : Complete MarkedLetter) → IsLang (marked_letters pairs) (IsPlaceWhere pairs (λ x z. Unit {0})) every → IsLang every.letters (λ v. Accepts every v × ¬ Accepts holding v) lacking → (v : List MarkedLetter) → Accepts lacking v → IsPlaceWhere pairs (λ x z. Unit {0}) v
 lacking_only pairs every holding lacking all is v h = (all.words v).0 ((is.words v).0 h).0
 
 -- one filling, the pair itself
@@ -105,7 +105,7 @@ alone_known pairs pair x known h =
 alone_is : (pair : Pair) (o : Option Pair) → Contains (Some pair ∷ []) o → Some pair ≡ o
 alone_is pair o h = elim (Contains-cons_cases (Some pair) [] o h) as (λ _. Some pair ≡ o) [ inl e ↦ e | inr none ↦ absurd (Contains-nil_cases o none) ]
 
-module _ (pairs : List Pair) (pair : Pair) (contexts : List PairContext) (holding : Complete NumberSet) (holds : IsLang (marked_letters pairs) (IsPlaceWhere pairs (Holds contexts)) holding) where
+module _ (pairs : List Pair) (pair : Pair) (contexts : List PairContext) (holding : Complete MarkedLetter) (holds : IsLang (marked_letters pairs) (IsPlaceWhere pairs (Holds contexts)) holding) where
   -- `/<=`
   pub never_kept : (made : Complete Pair) → IsLang pairs (λ p. IsOver pairs p × StandsNowhere (Contains (Some pair ∷ [])) (λ x z. Accepts holding (place_between x z)) p) made → IsLang pairs (λ p. IsOver pairs p × KeepsPair Never pair contexts p) made
   never_kept made is =
@@ -150,7 +150,7 @@ module _ (pairs : List Pair) (pair : Pair) (contexts : List PairContext) (holdin
       upwards p h = (is.words p).1 (h.0, λ x z o filling e place. by p h.1 x z o ((others_are o).0 filling) e (place_holding pairs (Holds contexts) holding holds x z place))
 
   -- `=>`
-  pub only_kept : (every lacking : Complete NumberSet) (made : Complete Pair) → IsLang (marked_letters pairs) (IsPlaceWhere pairs (λ x z. Unit {0})) every → IsLang every.letters (λ v. Accepts every v × ¬ Accepts holding v) lacking
+  pub only_kept : (every lacking : Complete MarkedLetter) (made : Complete Pair) → IsLang (marked_letters pairs) (IsPlaceWhere pairs (λ x z. Unit {0})) every → IsLang every.letters (λ v. Accepts every v × ¬ Accepts holding v) lacking
       → IsLang pairs (λ p. IsOver pairs p × StandsNowhere (Contains (Some pair ∷ [])) (λ x z. Accepts lacking (place_between x z)) p) made → IsLang pairs (λ p. IsOver pairs p × KeepsPair Only pair contexts p) made
   only_kept every lacking made all lacks is =
       record {
@@ -164,10 +164,10 @@ module _ (pairs : List Pair) (pair : Pair) (contexts : List PairContext) (holdin
         where
           allowed : (x z : List Pair) → p ≡ x ++ pair ∷ z → IsOver pairs p → StandsNowhere (Contains (Some pair ∷ [])) (λ x z. Accepts lacking (place_between x z)) p → Holds contexts x z
           allowed x z e over none =
-              let v : List NumberSet = place_between x z in
+              let v : List MarkedLetter = place_between x z in
               let parts = parts_over pairs x z (Some pair) p over e in
               let place = holding_place pairs (λ x z. Unit {0}) every all x z parts.0 parts.1 tt in
-              let over_v : IsOver holding.letters v = subst (λ (l : List NumberSet). IsOver l v) (all.over ∙ sym holds.over) (accepted_over every all.complete place) in
+              let over_v : IsOver holding.letters v = subst (λ (l : List MarkedLetter). IsOver l v) (all.over ∙ sym holds.over) (accepted_over every all.complete place) in
               elim (accepts_or_not holding holds.complete v 0 holds.complete.start over_v) as (λ _. Holds contexts x z) [
                 | inl there_is ↦ place_holding pairs (Holds contexts) holding holds x z there_is
                 | inr none_is ↦ absurd (none x z (Some pair) (Contains-head (Some pair) []) e ((lacks.words v).1 (place, none_is)))

@@ -8,7 +8,7 @@ ghost use Rattle.expr_meaning.specs.Operators.{inner};
 ghost use Rattle.network_algebra.specs.Networks.{UsesOnly, all_letters};
 ghost use Rattle.network_algebra.specs.Renamed.{inside_of};
 ghost use Rattle.two_level.specs.Marks.{IsMarked, filled_table, marked_letters};
-ghost use Rattle.two_level.specs.declared.marks.NumberSet.TheVariants.{Letter};
+ghost use Rattle.two_level.specs.declared.marks.MarkedLetter.TheVariants.{Letter};
 
 use fsa::Fsa;
 use fsa_rational::concat;
@@ -18,32 +18,32 @@ use std::alloc::{AllocError, Global};
 
 /// A letter of a string of pairs in which a place is marked.
 #[derive(Clone, Copy, Debug, PartialEq, Eq, PartialOrd, Ord)]
-pub enum NumberSet {
+pub enum MarkedLetter {
     /// A pair of the string, or an edge of the word.
     Letter(Bound<Pair>),
     /// The place.
     Place,
 }
 
-impl Letter for NumberSet {
+impl Letter for MarkedLetter {
     ghost equal_is_same = { Prim.search rules };
 }
 
 /// Each letter as a letter of a marked string.
 struct AsLetter;
 
-impl Renaming<Bound<Pair>, NumberSet> for AsLetter {
+impl Renaming<Bound<Pair>, MarkedLetter> for AsLetter {
     ghost name = { λ _ x. Some (Letter x) };
 
-    fn name_of(&self, letter: Bound<Pair>) -> Option<NumberSet> {
-        Some(NumberSet::Letter(letter))
+    fn name_of(&self, letter: Bound<Pair>) -> Option<MarkedLetter> {
+        Some(MarkedLetter::Letter(letter))
     }
 }
 
 /// The strings of a language as parts of marked strings.
-fn as_part(alloc: Global, a: &Fsa<Bound<Pair>>) -> Result<Fsa<NumberSet>, AllocError>
-    ensures letters { IfOk result (λ m. (x : NumberSet) → UsesLetter m x → (y : Bound Pair) × UsesLetter a.now y × (x ≡ Letter y)) }
-    ensures words { IfOk result (λ m. (v : List NumberSet) → Accepts m v ↔ ((w : List (Bound Pair)) × Accepts a.now w × (v ≡ map Letter w))) }
+fn as_part(alloc: Global, a: &Fsa<Bound<Pair>>) -> Result<Fsa<MarkedLetter>, AllocError>
+    ensures letters { IfOk result (λ m. (x : MarkedLetter) → UsesLetter m x → (y : Bound Pair) × UsesLetter a.now y × (x ≡ Letter y)) }
+    ensures words { IfOk result (λ m. (v : List MarkedLetter) → Accepts m v ↔ ((w : List (Bound Pair)) × Accepts a.now w × (v ≡ map Letter w))) }
 {
     renamed(alloc, a, &AsLetter)
 }
@@ -53,12 +53,12 @@ pub fn marked_strings(
     alloc: Global,
     before: &Fsa<Bound<Pair>>,
     behind: &Fsa<Bound<Pair>>,
-) -> Result<Fsa<NumberSet>, AllocError>
+) -> Result<Fsa<MarkedLetter>, AllocError>
     ensures letters { IfOk result (λ m. (pairs : List Pair) → UsesOnly (all_letters pairs) before.now → UsesOnly (all_letters pairs) behind.now → UsesOnly (marked_letters pairs) m) }
-    ensures words { IfOk result (λ m. (v : List NumberSet) → Accepts m v ↔ IsMarked (Accepts before.now) (Accepts behind.now) v) }
+    ensures words { IfOk result (λ m. (v : List MarkedLetter) → Accepts m v ↔ IsMarked (Accepts before.now) (Accepts behind.now) v) }
 {
     let front = as_part(alloc, before)?;
-    let place = word(alloc, &[NumberSet::Place])?;
+    let place = word(alloc, &[MarkedLetter::Place])?;
     let back = as_part(alloc, behind)?;
     concat(alloc, &front, &concat(alloc, &place, &back)?)
 }
@@ -85,22 +85,22 @@ pub fn every_letter(alloc: Global, pairs: &[Pair]) -> Result<Vec<Bound<Pair>>, A
 }
 
 /// The letters of marked strings of these pairs.
-pub fn every_marked_letter(alloc: Global, pairs: &[Pair]) -> Result<Vec<NumberSet>, AllocError>
+pub fn every_marked_letter(alloc: Global, pairs: &[Pair]) -> Result<Vec<MarkedLetter>, AllocError>
     ensures { IfOk result (λ letters. letters.items ≡ marked_letters pairs.now) }
 {
     let mut letters = Vec::new(alloc);
-    letters.push(NumberSet::Place)?;
+    letters.push(MarkedLetter::Place)?;
     letters.extend_from_slice(&part_letters(alloc, &every_letter(alloc, pairs)?)?)?;
     Ok(letters)
 }
 
 /// Each letter as a letter of a marked string.
-fn part_letters(alloc: Global, letters: &[Bound<Pair>]) -> Result<Vec<NumberSet>, AllocError>
+fn part_letters(alloc: Global, letters: &[Bound<Pair>]) -> Result<Vec<MarkedLetter>, AllocError>
     ensures { IfOk result (λ parts. parts.items ≡ map Letter letters.now) }
 {
     let mut parts = Vec::new(alloc);
     for letter in letters {
-        parts.push(NumberSet::Letter(*letter))?;
+        parts.push(MarkedLetter::Letter(*letter))?;
     }
     Ok(parts)
 }
@@ -120,16 +120,16 @@ pub fn filled_rows(
     alloc: Global,
     pairs: &[Pair],
     fillings: &[Option<Pair>],
-) -> Result<Vec<(NumberSet, Option<Pair>)>, AllocError>
+) -> Result<Vec<(MarkedLetter, Option<Pair>)>, AllocError>
     ensures { IfOk result (λ rows. rows.items ≡ filled_table pairs.now fillings.now) }
 {
     let letters = every_letter(alloc, pairs)?;
     let mut rows = Vec::new(alloc);
     'letters: for letter in letters.as_slice() {
-        rows.push((NumberSet::Letter(*letter), inside(*letter)))?;
+        rows.push((MarkedLetter::Letter(*letter), inside(*letter)))?;
     }
     'fillings: for filling in fillings {
-        rows.push((NumberSet::Place, *filling))?;
+        rows.push((MarkedLetter::Place, *filling))?;
     }
     Ok(rows)
 }

@@ -11,7 +11,9 @@ ghost use Rattle.two_level.specs.Marks.{IsPlaceWhere, marked, marked_letters, pl
 ghost use Rattle.two_level.specs.Rules.{Holds, IsContextOver};
 ghost use Rattle.two_level.specs.declared.rule.PairContext.{PairContext};
 
-use crate::marks::{NumberSet, every_letter, every_marked_letter, inner_letters, marked_strings};
+use crate::marks::{
+    MarkedLetter, every_letter, every_marked_letter, inner_letters, marked_strings,
+};
 use crate::rule::PairContext;
 use fsa::Fsa;
 use fsa_rational::{concat, star, union};
@@ -29,9 +31,9 @@ pub fn any_of<L: Letter>(alloc: Global, letters: &[L]) -> Result<Fsa<L>, AllocEr
 }
 
 /// Every place in a string of these pairs.
-fn places(alloc: Global, pairs: &[Pair]) -> Result<Fsa<NumberSet>, AllocError>
+fn places(alloc: Global, pairs: &[Pair]) -> Result<Fsa<MarkedLetter>, AllocError>
     ensures letters { IfOk result (UsesOnly (marked_letters pairs.now)) }
-    ensures words { IfOk result (λ m. (v : List NumberSet) → Accepts m v ↔ IsPlaceWhere pairs.now (λ x z. Unit {0}) v) }
+    ensures words { IfOk result (λ m. (v : List MarkedLetter) → Accepts m v ↔ IsPlaceWhere pairs.now (λ x z. Unit {0}) v) }
 {
     let any = any_of(alloc, &inner_letters(alloc, pairs)?)?;
     let edge = word(alloc, &[Bound::Edge])?;
@@ -45,7 +47,7 @@ fn in_context(
     alloc: Global,
     pairs: &[Pair],
     context: &PairContext,
-) -> Result<Fsa<NumberSet>, AllocError>
+) -> Result<Fsa<MarkedLetter>, AllocError>
     requires { IsContextOver pairs.now context.now }
     ensures letters { IfOk result (UsesOnly (marked_letters pairs.now)) }
     ensures words { IfOk result (λ m. (x z : List (Bound Pair)) → IsOver (all_letters pairs.now) x → IsOver (all_letters pairs.now) z
@@ -64,7 +66,7 @@ fn in_contexts(
     alloc: Global,
     pairs: &[Pair],
     contexts: &[PairContext],
-) -> Result<Fsa<NumberSet>, AllocError>
+) -> Result<Fsa<MarkedLetter>, AllocError>
     requires { (c : PairContext) → Contains contexts.now c → IsContextOver pairs.now c }
     ensures letters { IfOk result (UsesOnly (marked_letters pairs.now)) }
     ensures words { IfOk result (λ m. (x z : List Pair) → IsOver pairs.now x → IsOver pairs.now z → Accepts m (place_between x z) ↔ Holds contexts.now x z) }
@@ -82,7 +84,7 @@ fn in_contexts(
 }
 
 /// Every place in a string of these pairs, as a language.
-pub fn every_place(alloc: Global, pairs: &[Pair]) -> Result<Lang<NumberSet>, AllocError>
+pub fn every_place(alloc: Global, pairs: &[Pair]) -> Result<Lang<MarkedLetter>, AllocError>
     requires { IsDistinct pairs.now }
     ensures { IfOk result (IsLang (marked_letters pairs.now) (IsPlaceWhere pairs.now (λ x z. Unit {0}))) }
 {
@@ -94,9 +96,9 @@ pub fn every_place(alloc: Global, pairs: &[Pair]) -> Result<Lang<NumberSet>, All
 pub fn places_in(
     alloc: Global,
     pairs: &[Pair],
-    every: &Lang<NumberSet>,
+    every: &Lang<MarkedLetter>,
     contexts: &[PairContext],
-) -> Result<Lang<NumberSet>, AllocError>
+) -> Result<Lang<MarkedLetter>, AllocError>
     requires distinct { IsDistinct pairs.now }
     requires every { IsLang (marked_letters pairs.now) (IsPlaceWhere pairs.now (λ x z. Unit {0})) every.now }
     requires contexts { (c : PairContext) → Contains contexts.now c → IsContextOver pairs.now c }

@@ -7,7 +7,7 @@ ghost use Rattle.regex_ast.specs.declared.twolc.RuleKind.{RuleKind};
 ghost use Rattle.two_level.specs.Marks.{IsPlaceWhere, marked_letters, place_between};
 ghost use Rattle.two_level.specs.Rules.{Holds, IsOther, IsRuleOver, Keeps, KeepsPair, StandsNowhere};
 
-use crate::marks::{NumberSet, filled_rows};
+use crate::marks::{MarkedLetter, filled_rows};
 use crate::places::places_in;
 use crate::rule::LangRule;
 use fsa_rational::image;
@@ -20,7 +20,7 @@ use std::alloc::{AllocError, Global};
 pub fn kept(
     alloc: Global,
     pairs: &[Pair],
-    every: &Lang<NumberSet>,
+    every: &Lang<MarkedLetter>,
     rule: &LangRule,
 ) -> Result<Lang<Pair>, AllocError>
     requires distinct { IsDistinct pairs.now }
@@ -45,8 +45,8 @@ pub fn kept(
 fn kept_only(
     alloc: Global,
     pairs: &[Pair],
-    every: &Lang<NumberSet>,
-    holding: &Lang<NumberSet>,
+    every: &Lang<MarkedLetter>,
+    holding: &Lang<MarkedLetter>,
     rule: &LangRule,
 ) -> Result<Lang<Pair>, AllocError>
     requires distinct { IsDistinct pairs.now }
@@ -64,7 +64,7 @@ fn kept_only(
 fn kept_must(
     alloc: Global,
     pairs: &[Pair],
-    holding: &Lang<NumberSet>,
+    holding: &Lang<MarkedLetter>,
     rule: &LangRule,
 ) -> Result<Lang<Pair>, AllocError>
     requires distinct { IsDistinct pairs.now }
@@ -79,7 +79,7 @@ fn kept_must(
 fn kept_never(
     alloc: Global,
     pairs: &[Pair],
-    holding: &Lang<NumberSet>,
+    holding: &Lang<MarkedLetter>,
     rule: &LangRule,
 ) -> Result<Lang<Pair>, AllocError>
     requires distinct { IsDistinct pairs.now }
@@ -117,12 +117,12 @@ fn others_than(alloc: Global, pairs: &[Pair], pair: Pair) -> Result<Vec<Option<P
 fn standing_nowhere(
     alloc: Global,
     pairs: &[Pair],
-    places: &Lang<NumberSet>,
+    places: &Lang<MarkedLetter>,
     fillings: &[Option<Pair>],
 ) -> Result<Lang<Pair>, AllocError>
     requires distinct { IsDistinct pairs.now }
     requires letters { places.now.letters ≡ marked_letters pairs.now }
-    requires places { (v : List NumberSet) → Accepts places.now v → IsPlaceWhere pairs.now (λ x z. Unit {0}) v }
+    requires places { (v : List MarkedLetter) → Accepts places.now v → IsPlaceWhere pairs.now (λ x z. Unit {0}) v }
     requires fillings { (x : Pair) → Contains fillings.now (Some x) → Contains pairs.now x }
     ensures { IfOk result (IsLang pairs.now (λ p. IsOver pairs.now p × StandsNowhere (Contains fillings.now) (λ x z. Accepts places.now (place_between x z)) p)) }
 {

@@ -7,8 +7,8 @@ use Rattle.regex_tokens.specs.declared.token.Token.TheVariants.{Operator as xfst
 use Rattle.project_meaning.specs.Trees.{nothing, anything, one, member, pair, called}
 use Rattle.twolc_grammar.specs.Atoms.{Names, part_in, symbols_in, centre_in, one_symbol_in}
 use Rattle.twolc_grammar.specs.Expressions.{as_xfst}
-use Rattle.twolc_grammar.specs.declared.token.Operator.TheVariants.{OpenSquare, Caret, Star, Semicolon}
-use Rattle.twolc_grammar.specs.declared.token.Token.TheVariants.{Operator as operator, Atom as atom}
+use Rattle.twolc_tokens.specs.declared.token.Operator.TheVariants.{OpenSquare, Caret, Star, Semicolon}
+use Rattle.twolc_tokens.specs.declared.token.Token.TheVariants.{Operator as operator, Atom as atom}
 
 abbrev known : Names
 known = record { sets = codes "V" ∷ []; definitions = codes "D" ∷ [] }

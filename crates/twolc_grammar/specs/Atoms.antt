@@ -1,25 +1,14 @@
 -- What an atom may be: a pair, of which either side is nothing, anything, a symbol or a symbol of a set; or a definition or a
 -- set by its name.
-use Rattle.std.specs.Prelude.{ℕ, Bool, true, false, ◌||◌, ◌==◌, List, [], ◌∷◌, ◌++◌, codes, Option, None, Some, cond}
+use Rattle.std.specs.Prelude.{Bool, true, false, ℕ, ◌&&◌, ◌||◌, ◌==◌, List, [], codes, Option, None, Some, cond}
 use Rattle.std.specs.List.{list_any}
 use Rattle.std.specs.Option.{option_map, option_and_then}
 use Rattle.std.specs.Str.{bytes_eq}
 use Rattle.regex_ast.specs.declared.expr.Raw.{Raw}
 use Rattle.regex_ast.specs.declared.expr.Raw.TheVariants.{Run, Quoted}
 use Rattle.regex_tokens.specs.Reading.{undone_from}
+use Rattle.twolc_tokens.specs.Spelling.{sides_of}
 use Rattle.project_meaning.specs.Trees.{Side, nothing, anything, one, member, Pair, Part, pair, called}
-
--- the parts of an atom before and behind its `:`, which no `%` escapes, where it has one
-abbrev pub before_byte : ℕ → Option (List ℕ × List ℕ) → Option (List ℕ × List ℕ)
-before_byte b parts = option_map (λ p. (b ∷ p.0, p.1)) parts
-
-abbrev pub split_from : Bool → List ℕ → Option (List ℕ × List ℕ)
-split_from escaped [] = None
-split_from true (b ∷ bs) = before_byte b (split_from false bs)
-split_from false (b ∷ bs) = cond (b == 58) (Some ([], bs)) (before_byte b (split_from (b == 37) bs))
-
-abbrev pub sides_of : List ℕ → Option (List ℕ × List ℕ)
-sides_of atom = split_from false atom
 
 -- an escape stands in it
 abbrev pub is_escaped : List ℕ → Bool
@@ -37,6 +26,9 @@ pub record Names : Type 0 where
 abbrev pub is_one_of : List (List ℕ) → List ℕ → Bool
 is_one_of names run = list_any (bytes_eq run) names
 
+abbrev pub is_known : Names → List ℕ → Bool
+is_known names run = is_one_of names.sets run || is_one_of names.definitions run
+
 -- a side: left out or `?`, anything; `0`, nothing; a set's name, one of its symbols; and any other run, unless it is a
 -- definition's name, that symbol. A run with an escape is no name and not `0`
 abbrev pub side_in : Names → List ℕ → Option (Side Raw)
@@ -45,20 +37,24 @@ side_in names run =
     (cond (bytes_eq run (codes "0")) (Some nothing)
     (cond (is_one_of names.sets run) (Some (member run)) (cond (is_one_of names.definitions run) None (Some (one (symbol_in run))))))
 
+abbrev pub is_nothing : Side Raw → Bool
+is_nothing nothing = true
+is_nothing _ = false
+
 -- two sides, not both nothing and not both left out
 abbrev pub pair_of : Side Raw → Side Raw → Option (Pair Raw)
-pair_of nothing nothing = None
-pair_of up low = Some (record { up = up; low = low })
+pair_of up low = cond (is_nothing up && is_nothing low) None (Some (record { up = up; low = low }))
 
 abbrev pub pair_in : Names → List ℕ → List ℕ → Option (Pair Raw)
-pair_in names [] [] = None
-pair_in names up low = option_and_then (λ u. option_and_then (pair_of u) (side_in names low)) (side_in names up)
+pair_in names up low =
+    cond (bytes_eq up [] && bytes_eq low []) None
+    (option_and_then (λ u. option_and_then (pair_of u) (side_in names low)) (side_in names up))
 
 -- a run alone: a set or a definition by its name, or a symbol on both sides
 abbrev pub alone_in : Names → List ℕ → Option (Part Raw)
 alone_in names run =
     cond (bytes_eq run (codes "0")) None
-    (cond (is_one_of (names.sets ++ names.definitions) run) (Some (called run)) (Some (pair (record { up = one (symbol_in run); low = one (symbol_in run) }))))
+    (cond (is_known names run) (Some (called run)) (Some (pair (record { up = one (symbol_in run); low = one (symbol_in run) }))))
 
 abbrev pub part_by : Names → List ℕ → Option (List ℕ × List ℕ) → Option (Part Raw)
 part_by names atom None = alone_in names atom
@@ -79,7 +75,7 @@ is_plain_side (one symbol) = true
 is_plain_side _ = false
 
 abbrev pub plain_pair : Part Raw → Option (Pair Raw)
-plain_pair (pair p) = cond (is_plain_side p.up) (cond (is_plain_side p.low) (Some p) None) None
+plain_pair (pair p) = cond (is_plain_side p.up && is_plain_side p.low) (Some p) None
 plain_pair (called name) = None
 
 -- `x`, which is `x:x`, or `x:y`

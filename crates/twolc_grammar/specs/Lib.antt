@@ -1,4 +1,3 @@
-pub mod Tokens
 pub mod Atoms
 pub mod Expressions
 pub mod Statements

@@ -1,6 +1,6 @@
 -- The statements of a twolc text: the list of the alphabet, `NAME = x y .. ;` in the sets, `NAME = EXPRESSION ;` in the
 -- definitions, and rules `"name" x:y ARROW L _ R ; ..`.
-use Rattle.std.specs.Prelude.{◌≡◌, ◌≢◌, ◌<◌, ◌+◌, ◌-◌, ℕ, Bool, true, false, ◌||◌, nat_lt, List, [], ◌∷◌, ◌++◌, length, map, Some, Result, Ok, Err, if◌then◌else◌}
+use Rattle.std.specs.Prelude.{◌≡◌, ◌≢◌, ◌<◌, ◌+◌, ◌-◌, ℕ, Bool, true, false, ◌||◌, nat_lt, List, [], ◌∷◌, ◌++◌, length, map, Option, None, Some, Result, Ok, Err, if◌then◌else◌}
 use Rattle.regex_ast.specs.Terms.{Contexts, no_context, between}
 use Rattle.regex_ast.specs.declared.expr.Raw.{Raw}
 use Rattle.regex_ast.specs.declared.fault.Why.{Why}
@@ -10,12 +10,12 @@ use Rattle.regex_ast.specs.declared.twolc.RuleKind.TheVariants as kinds
 use Rattle.regex_reader.specs.Files.{is_name}
 use Rattle.regex_reader.specs.Limits.{most_open, most_in_rules}
 use Rattle.project_meaning.specs.Trees.{Pair, Part, Set, PairDefinition, Rule}
-use Rattle.twolc_grammar.specs.Atoms.{Names, is_one_of, symbols_in, centre_in, one_symbol_in}
-use Rattle.twolc_grammar.specs.Expressions.{IsExpression, IsPart, has_edge, is_too_high}
-use Rattle.twolc_grammar.specs.declared.token.Operator.{Operator}
-use Rattle.twolc_grammar.specs.declared.token.Operator.TheVariants.{OpenSquare, CloseSquare, OpenRound, CloseRound, Semicolon, Underscore, Equals, Only, Must, Both, Never}
-use Rattle.twolc_grammar.specs.declared.token.Token.{Token}
-use Rattle.twolc_grammar.specs.declared.token.Token.TheVariants.{Operator as operator, Quoted as quoted, Atom as atom}
+use Rattle.twolc_grammar.specs.Atoms.{Names, is_known, symbols_in, centre_in, one_symbol_in}
+use Rattle.twolc_grammar.specs.Expressions.{IsExpression, IsPart, has_edge, has_high_power}
+use Rattle.twolc_tokens.specs.declared.token.Operator.{Operator}
+use Rattle.twolc_tokens.specs.declared.token.Operator.TheVariants.{OpenSquare, CloseSquare, OpenRound, CloseRound, Semicolon, Underscore, Equals, Only, Must, Both, Never}
+use Rattle.twolc_tokens.specs.declared.token.Token.{Token}
+use Rattle.twolc_tokens.specs.declared.token.Token.TheVariants.{Operator as operator, Quoted as quoted, Atom as atom}
 
 -- Brackets. Any closing bracket closes the last one that is open, and a bracket isn't inside the pair that it opens or closes.
 
@@ -64,18 +64,19 @@ IsList tokens atoms = tokens ≡ map atom atoms ++ operator Semicolon ∷ []
 abbrev pub IsNamed : List Token → List ℕ → List Token → Type 0
 IsNamed tokens name behind = (tokens ≡ atom name ∷ operator Equals ∷ behind) × (is_name name ≡ true)
 
--- the kind of rule that an arrow is
-pub data IsArrow : Operator → RuleKind → Type 0 where
-  only : IsArrow Only kinds.Only
-  must : IsArrow Must kinds.Must
-  both : IsArrow Both kinds.Both
-  never : IsArrow Never kinds.Never
+-- the kind of rule that an arrow is, if it is one
+abbrev pub kind_of : Operator → Option RuleKind
+kind_of Only = Some kinds.Only
+kind_of Must = Some kinds.Must
+kind_of Both = Some kinds.Both
+kind_of Never = Some kinds.Never
+kind_of _ = None
 
 -- contexts, each with its `;`
 abbrev pub AreContexts : Names → List Token → Contexts (Part Raw) → Type 0
 AreContexts names tokens no_context = tokens ≡ []
 AreContexts names tokens (between l r contexts) =
-    (left : List Token) × (right : List Token) × (rest : List Token) × (tokens ≡ left ++ operator Underscore ∷ right ++ operator Semicolon ∷ rest)
+    (left : List Token) × (right : List Token) × (rest : List Token) × (tokens ≡ left ++ (operator Underscore ∷ (right ++ (operator Semicolon ∷ rest))))
     × IsPart names left l × IsPart names right r × AreContexts names rest contexts
 
 -- the tokens are a statement of this section that says this, where these names are known
@@ -84,22 +85,13 @@ IsStatement names in_alphabet tokens (alphabet pairs) = (atoms : List (List ℕ)
 IsStatement names in_sets tokens (set s) =
     (list : List Token) × (atoms : List (List ℕ)) × IsNamed tokens s.name list × IsList list atoms × (0 < length atoms) × (map (λ x. Some x) s.symbols ≡ map one_symbol_in atoms)
 IsStatement names in_definitions tokens (definition d) =
-    (expression : List Token) × IsNamed tokens d.name (expression ++ operator Semicolon ∷ []) × IsExpression names expression d.term × (has_edge d.term ≡ false)
+    (expression : List Token) × IsNamed tokens d.name (expression ++ operator Semicolon ∷ []) × IsExpression names expression d.term × (has_edge expression ≡ false)
 IsStatement names in_rules tokens (rule r) =
     (centre : List ℕ) × (arrow : Operator) × (rest : List Token) × (tokens ≡ quoted r.name ∷ atom centre ∷ operator arrow ∷ rest)
-    × (centre_in names centre ≡ Some r.centre) × IsArrow arrow r.kind × AreContexts names rest r.contexts × (r.contexts ≢ no_context)
+    × (centre_in names centre ≡ Some r.centre) × (kind_of arrow ≡ Some r.kind) × AreContexts names rest r.contexts × (r.contexts ≢ no_context)
 IsStatement names section tokens _ = ⊥
 
 -- Limits, and names that are declared again.
-
-abbrev pub is_high_in : Contexts (Part Raw) → Bool
-is_high_in no_context = false
-is_high_in (between l r contexts) = is_too_high l || (is_too_high r || is_high_in contexts)
-
-abbrev pub has_high_power : Statement → Bool
-has_high_power (definition d) = is_too_high d.term
-has_high_power (rule r) = is_high_in r.contexts
-has_high_power _ = false
 
 abbrev pub count : Contexts (Part Raw) → ℕ
 count no_context = 0
@@ -111,15 +103,15 @@ is_large _ = false
 
 -- a set or a definition with a name that is known
 abbrev pub is_again : Names → Statement → Bool
-is_again names (set s) = is_one_of (names.sets ++ names.definitions) s.name
-is_again names (definition d) = is_one_of (names.sets ++ names.definitions) d.name
+is_again names (set s) = is_known names s.name
+is_again names (definition d) = is_known names d.name
 is_again names _ = false
 
 -- what is found in the tokens of one statement: what it says, or why it is refused
 pub data Verdict (names : Names) (section : Section) (tokens : List Token) : Result Statement Why → Type 0 where
   deep : is_too_deep 0 tokens ≡ true → Verdict names section tokens (Err why.LimitNesting)
   unread : is_too_deep 0 tokens ≡ false → ((s : Statement) → IsStatement names section tokens s → ⊥) → Verdict names section tokens (Err why.Statement)
-  power : (s : Statement) → is_too_deep 0 tokens ≡ false → IsStatement names section tokens s → has_high_power s ≡ true → Verdict names section tokens (Err why.LimitPower)
-  large : (s : Statement) → is_too_deep 0 tokens ≡ false → IsStatement names section tokens s → has_high_power s ≡ false → is_large s ≡ true → Verdict names section tokens (Err why.LimitRule)
-  again : (s : Statement) → is_too_deep 0 tokens ≡ false → IsStatement names section tokens s → has_high_power s ≡ false → is_large s ≡ false → is_again names s ≡ true → Verdict names section tokens (Err why.Duplicate)
-  fine : (s : Statement) → is_too_deep 0 tokens ≡ false → IsStatement names section tokens s → has_high_power s ≡ false → is_large s ≡ false → is_again names s ≡ false → Verdict names section tokens (Ok s)
+  power : (s : Statement) → is_too_deep 0 tokens ≡ false → IsStatement names section tokens s → has_high_power false tokens ≡ true → Verdict names section tokens (Err why.LimitPower)
+  large : (s : Statement) → is_too_deep 0 tokens ≡ false → IsStatement names section tokens s → has_high_power false tokens ≡ false → is_large s ≡ true → Verdict names section tokens (Err why.LimitRule)
+  again : (s : Statement) → is_too_deep 0 tokens ≡ false → IsStatement names section tokens s → has_high_power false tokens ≡ false → is_large s ≡ false → is_again names s ≡ true → Verdict names section tokens (Err why.Duplicate)
+  fine : (s : Statement) → is_too_deep 0 tokens ≡ false → IsStatement names section tokens s → has_high_power false tokens ≡ false → is_large s ≡ false → is_again names s ≡ false → Verdict names section tokens (Ok s)

@@ -1,11 +1,11 @@
-//! What a twolc text says: definitions, which the reader's contract cites (Koskenniemi, Two-level Morphology, 1983; the
-//! notation of Karttunen and Beesley, Two-Level Rule Compiler, 1992). In `specs/` stand the tokens of a text (`Tokens.antt`),
-//! atoms and what they may be (`Atoms.antt`), expressions over pairs (`Expressions.antt`), the statements (`Statements.antt`),
-//! and how they make a grammar or give the first fault (`Sections.antt`).
+//! What the tokens of a twolc text say: definitions, which the reader's contract is to cite (Koskenniemi, Two-level
+//! Morphology, 1983; the notation of Karttunen and Beesley, Two-Level Rule Compiler, 1992). In `specs/` stand atoms and what
+//! they may be (`Atoms.antt`), expressions over pairs (`Expressions.antt`), the statements (`Statements.antt`), and how they make
+//! a grammar or give the first fault (`Sections.antt`).
 //!
-//! - [`Token`], [`Operator`]: the tokens of a twolc text.
+//! - [`one_reading`]: the law that a text says one thing only.
 #![tactic(auto)]
 
-mod token;
+mod laws;
 
-pub use token::{Operator, Token};
+pub use laws::one_reading;

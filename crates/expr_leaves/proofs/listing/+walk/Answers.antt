@@ -4,7 +4,7 @@ use Rattle.regex_ast.proofs.Rows.{term-Concat, term-Chain, term-Ignore, term-Onl
 use Rattle.expr_leaves.specs.Leaves.{leaves_in}
 use Rattle.expr_leaves.specs.Leaves.{seen, leaves_in_links, leaves_in_contexts, leaves_in_steps, leaves_in_mappings}
 use Rattle.expr_leaves.proofs.Behind.{add_both_ok, flat_map-alone}
-use Rattle.expr_leaves.proofs.Parts.{group_alone}
+use Rattle.expr_leaves.proofs.LeafLists.{group_alone}
 use Rattle.expr_leaves.proofs.Sets.{term_rules, maps_of_is, contexts_in_is}
 use Rattle.expr_leaves.proofs.listing.+walk.Goals as goal
 

@@ -1,52 +1,38 @@
-use Rattle.std.proofs.Common.{sym, ◌∙◌}
+use Rattle.std.proofs.Common.{◌⊎◌, inl, List, ℕ, sym, subst, ◌∙◌}
 use Rattle.std.proofs.lemmas.Bool.{false≢true}
-use Rattle.flag_texts.proofs.Shapes.{no_between, no_letter, no_kind, parts_alone, parts_both, spelled_alone, spelled_both, value_of, is_value_of, no_value_of, is_no_value_of}
+use Rattle.regex_ast.specs.Flags.{IsFlag, IsNegativeFlag}
+use Rattle.flag_texts.proofs.Shapes.{is_no_negative, no_between, no_letter, no_kind, parts_alone, parts_both, spelled_alone, spelled_both}
 use Rattle.flag_texts.proofs.reading.parts_of.Goals as goal
 
-pub returns-in_default : goal.returns-in_default
-returns-in_default c = λ flag. no_between c.args.text.now flag c.in_default.ensures
+pub returns-then-not-is_flag : goal.returns-then-not-is_flag
+returns-then-not-is_flag c = λ flag. false≢true (sym c.if-not-is_flag.true ∙ c.is_flag.ensures.flag.1 (inl (subst IsFlag (sym c.as_bytes.ensures.value) flag)))
 
-pub returns-in_default-split_dot : goal.returns-in_default-split_dot
-returns-in_default-split_dot c = λ flag. no_letter c.args.text.now flag c.in-Some.inner.now c.in-Some.ensures c.in_default-split_dot.ensures
+pub returns-in_err-between : goal.returns-in_err-between
+returns-in_err-between c = rw c.from_residual.ensures (λ (flag : IsFlag c.args.text.now). no_between c.args.text.now flag c.in_err-between.ensures)
 
-pub returns-in_default-kind_of : goal.returns-in_default-kind_of
-returns-in_default-kind_of c = λ flag. no_kind c.args.text.now flag c.in-Some.inner.now c.in-Some.ensures c.in-Some-split_dot.letter.now c.in-Some-split_dot.rest.now c.in-Some-split_dot.ensures.0 c.in-Some-split_dot.ensures.1 c.in_default-kind_of.ensures
+pub returns-in_err-letter : goal.returns-in_err-letter
+returns-in_err-letter c = rw c.from_residual-in_err-letter.ensures (λ (flag : IsFlag c.args.text.now). no_letter c.args.text.now flag c.in_ok-between.field-0.now c.in_ok-between.ensures c.in_err-letter.ensures)
 
-pub returns-then-not-has_value : goal.returns-then-not-has_value
-returns-then-not-has_value c = λ flag.
-    let p = parts_both c.args.text.now flag c.in-Some.inner.now c.in-Some.ensures c.in-Some-split_dot.letter.now c.in-Some-split_dot.rest.now c.in-Some-split_dot.ensures.0 c.in-Some-split_dot.ensures.1 c.in-Some-kind_of.kind c.in-Some-kind_of.ensures c.in-Some-split_dot-2.feature.now c.in-Some-split_dot-2.value.now c.in-Some-split_dot-2.ensures.0 c.in-Some-split_dot-2.ensures.1 in
-    false≢true (sym c.if-not-has_value.true ∙ c.has_value.ensures ∙ is_value_of c.in-Some-kind_of.kind p.1.0)
+pub returns-in_err-kind : goal.returns-in_err-kind
+returns-in_err-kind c = rw c.from_residual-in_err-kind.ensures
+    (λ (flag : IsFlag c.args.text.now). no_kind c.args.text.now flag c.in_ok-between.field-0.now c.in_ok-between.ensures c.in_ok-letter.letter.now c.in_ok-letter.rest.now c.in_ok-letter.ensures.0 c.in_ok-letter.ensures.1 c.in_err-kind.ensures)
 
-pub returns-then-not-is_part : goal.returns-then-not-is_part
-returns-then-not-is_part c = λ flag.
-    let p = parts_both c.args.text.now flag c.in-Some.inner.now c.in-Some.ensures c.in-Some-split_dot.letter.now c.in-Some-split_dot.rest.now c.in-Some-split_dot.ensures.0 c.in-Some-split_dot.ensures.1 c.in-Some-kind_of.kind c.in-Some-kind_of.ensures c.in-Some-split_dot-2.feature.now c.in-Some-split_dot-2.value.now c.in-Some-split_dot-2.ensures.0 c.in-Some-split_dot-2.ensures.1 in
-    false≢true (sym c.if-not-is_part.true ∙ c.is_part.ensures.1 p.0)
+pub returns-in-Some : goal.returns-in-Some
+returns-in-Some c =
+    let either = subst (λ (text : List ℕ). IsFlag text ⊎ IsNegativeFlag text) c.as_bytes.ensures.value (c.is_flag.ensures.flag.0 c.if-not-is_flag.false) in
+    let flag = is_no_negative c.args.text.now c.in_ok-between.field-0.now c.in_ok-letter.letter.now c.in_ok-letter.rest.now c.in_ok-kind.kind c.in_ok-between.ensures c.in_ok-letter.ensures.1 c.in_ok-kind.ensures either in
+    let parts = parts_both c.args.text.now flag c.in_ok-between.field-0.now c.in_ok-between.ensures c.in_ok-letter.letter.now c.in_ok-letter.rest.now c.in_ok-letter.ensures.0 c.in_ok-letter.ensures.1 c.in_ok-kind.kind c.in_ok-kind.ensures c.in-Some.feature.now c.in-Some.value.now c.in-Some.ensures.0 c.in-Some.ensures.1 in (
+      parts.0,
+      spelled_both c.args.text.now c.in_ok-between.field-0.now c.in_ok-letter.letter.now c.in_ok-letter.rest.now c.in-Some.feature.now c.in-Some.value.now c.in_ok-kind.kind c.in_ok-between.ensures c.in_ok-letter.ensures.1 c.in_ok-kind.ensures c.in-Some.ensures.1,
+      parts.1,
+    )
 
-pub returns-then-not-is_part-2 : goal.returns-then-not-is_part-2
-returns-then-not-is_part-2 c = λ flag.
-    let p = parts_both c.args.text.now flag c.in-Some.inner.now c.in-Some.ensures c.in-Some-split_dot.letter.now c.in-Some-split_dot.rest.now c.in-Some-split_dot.ensures.0 c.in-Some-split_dot.ensures.1 c.in-Some-kind_of.kind c.in-Some-kind_of.ensures c.in-Some-split_dot-2.feature.now c.in-Some-split_dot-2.value.now c.in-Some-split_dot-2.ensures.0 c.in-Some-split_dot-2.ensures.1 in
-    false≢true (sym c.if-not-is_part-2.true ∙ c.is_part-in-Some-split_dot-2.ensures.1 p.1.1)
-
-pub returns-then-not-has_no_value : goal.returns-then-not-has_no_value
-returns-then-not-has_no_value c = λ flag.
-    let p = parts_alone c.args.text.now flag c.in-Some.inner.now c.in-Some.ensures c.in-Some-split_dot.letter.now c.in-Some-split_dot.rest.now c.in-Some-split_dot.ensures.0 c.in-Some-split_dot.ensures.1 c.in-Some-kind_of.kind c.in-Some-kind_of.ensures c.in-None.ensures in
-    false≢true (sym c.if-not-has_no_value.true ∙ c.has_no_value.ensures ∙ is_no_value_of c.in-Some-kind_of.kind p.1)
-
-pub returns-then-not-is_part-3 : goal.returns-then-not-is_part-3
-returns-then-not-is_part-3 c = λ flag.
-    let p = parts_alone c.args.text.now flag c.in-Some.inner.now c.in-Some.ensures c.in-Some-split_dot.letter.now c.in-Some-split_dot.rest.now c.in-Some-split_dot.ensures.0 c.in-Some-split_dot.ensures.1 c.in-Some-kind_of.kind c.in-Some-kind_of.ensures c.in-None.ensures in
-    false≢true (sym c.if-not-is_part-3.true ∙ c.is_part-in-None.ensures.1 p.0)
-
-pub returns-else-not-is_part-2 : goal.returns-else-not-is_part-2
-returns-else-not-is_part-2 c = (
-  c.is_part.ensures.0 c.if-not-is_part.false,
-  spelled_both c.args.text.now c.in-Some.inner.now c.in-Some-split_dot.letter.now c.in-Some-split_dot.rest.now c.in-Some-split_dot-2.feature.now c.in-Some-split_dot-2.value.now c.in-Some-kind_of.kind c.in-Some.ensures c.in-Some-split_dot.ensures.1 c.in-Some-kind_of.ensures c.in-Some-split_dot-2.ensures.1,
-  (value_of c.in-Some-kind_of.kind (sym c.has_value.ensures ∙ c.if-not-has_value.false), c.is_part-in-Some-split_dot-2.ensures.0 c.if-not-is_part-2.false),
-)
-
-pub returns-else-not-is_part-3 : goal.returns-else-not-is_part-3
-returns-else-not-is_part-3 c = (
-  c.is_part-in-None.ensures.0 c.if-not-is_part-3.false,
-  spelled_alone c.args.text.now c.in-Some.inner.now c.in-Some-split_dot.letter.now c.in-Some-split_dot.rest.now c.in-Some-kind_of.kind c.in-Some.ensures c.in-Some-split_dot.ensures.1 c.in-Some-kind_of.ensures,
-  no_value_of c.in-Some-kind_of.kind (sym c.has_no_value.ensures ∙ c.if-not-has_no_value.false),
-)
+pub returns-in-None : goal.returns-in-None
+returns-in-None c =
+    let either = subst (λ (text : List ℕ). IsFlag text ⊎ IsNegativeFlag text) c.as_bytes.ensures.value (c.is_flag.ensures.flag.0 c.if-not-is_flag.false) in
+    let flag = is_no_negative c.args.text.now c.in_ok-between.field-0.now c.in_ok-letter.letter.now c.in_ok-letter.rest.now c.in_ok-kind.kind c.in_ok-between.ensures c.in_ok-letter.ensures.1 c.in_ok-kind.ensures either in
+    let parts = parts_alone c.args.text.now flag c.in_ok-between.field-0.now c.in_ok-between.ensures c.in_ok-letter.letter.now c.in_ok-letter.rest.now c.in_ok-letter.ensures.0 c.in_ok-letter.ensures.1 c.in_ok-kind.kind c.in_ok-kind.ensures c.in-None.ensures in (
+      parts.0,
+      spelled_alone c.args.text.now c.in_ok-between.field-0.now c.in_ok-letter.letter.now c.in_ok-letter.rest.now c.in_ok-kind.kind c.in_ok-between.ensures c.in_ok-letter.ensures.1 c.in_ok-kind.ensures,
+      parts.1,
+    )

@@ -15,6 +15,20 @@ overflow_add-edge-in-loop-edge g c =
     let states = c.states-states.ensures.number in
     omega arith
 
+pub prove-unreachable-requires : goal.prove-unreachable-requires
+prove-unreachable-requires g c =
+    let fits = (c.requires c.edge-item.result (c.loop-edge.edge-index, c.loop-edge-test.true, sym c.edge-item.is)).0 in
+    let states = c.states-states.ensures.number in
+    let over = c.if-prove.true in
+    omega arith
+
+pub prove-unreachable-requires-in-loop-edge : goal.prove-unreachable-requires-in-loop-edge
+prove-unreachable-requires-in-loop-edge g c =
+    let fits = (c.requires c.edge-item.result (c.loop-edge.edge-index, c.loop-edge-test.true, sym c.edge-item.is)).1 in
+    let states = c.states-states.ensures.number in
+    let over = c.if-prove-2.true in
+    omega arith
+
 pub add_edge-requires-clause-from : goal.add_edge-requires-clause-from
 add_edge-requires-clause-from g c =
     rw c.loop-edge.invariant.finals (c.requires c.edge-item.result (c.loop-edge.edge-index, c.loop-edge-test.true, sym c.edge-item.is)).0

@@ -7,7 +7,7 @@ pub overflow_add-by : goal.overflow_add-by
 overflow_add-by g c =
     let next : c.loop-state.state + 1 ≤ c.args.bound = omega arith in
     let rows = mul-le-mul_right (length c.args.put.now.finals) next in
-    let all = c.states-states.ensures.number in
+    let all = c.states.ensures.number in
     let copy = c.states-by.ensures.number in
     let room = c.requires in
     let at = c.loop-state.invariant.at in

@@ -4,7 +4,7 @@ use Rattle.fsa_reduce.proofs.epsilon.is_cheap.Goals as goal
 
 pub edges_from-requires-clause-state : goal.edges_from-requires-clause-state
 edges_from-requires-clause-state g c =
-    let within = rw c.in_ok-entered.ensures at c.found-state-items.ensures.bounded.within in
+    let within = rw c.in_ok-entered.ensures.bound at c.found-state-items.ensures.bounded.within in
     let items : All (λ k. k < length c.args.a.now.finals) c.found-state-items.result.now = rw c.found-state-items.ensures.found within in
     rw c.loop-state.invariant (items c.loop-state.state-index 0 c.loop-state-test.true)
 

@@ -1,21 +1,20 @@
 use Rattle.std.proofs.Common.{subst, sym}
+use Rattle.std.proofs.lemmas.Option.{slice_get_within}
 use Rattle.lookup.specs.Answering.{IsOverAlphabet}
-use Rattle.project_model.specs.Plans.{IsSoundOver}
-use Rattle.fsm_base.specs.Alphabet.{symbols_of}
 use Rattle.fsm_program.proofs.Shown.{shows_name, shows_none}
 use Rattle.fsm_program.proofs.network.find_net.Goals as goal
 
-pub build-requires : goal.build-requires
-build-requires c = subst (λ alphabet. IsSoundOver (symbols_of alphabet) c.in-Some.definition.now) (sym c.alphabet.ensures) c.in-Some.ensures.2
+pub network_at-requires : goal.network_at-requires
+network_at-requires c = let (d, at, named) = c.in-Some.ensures in slice_get_within c.args.project.now.definitions c.in-Some.place d at
 
-pub returns-in-Ok-clause-over : goal.returns-in-Ok-clause-over
-returns-in-Ok-clause-over c = subst (λ alphabet. IsOverAlphabet alphabet c.in-Ok.compiled.net) c.alphabet.ensures c.in-Ok.ensures.alphabet
+pub returns-in_ok-of-in-Some-clause-over : goal.returns-in_ok-of-in-Some-clause-over
+returns-in_ok-of-in-Some-clause-over c = c.in_ok-of-in-Some.ensures.alphabet c.args.project.now.alphabet c.in_ok-network-in-Some.ensures.over
 
-pub returns-in-Ok-clause-shows : goal.returns-in-Ok-clause-shows
-returns-in-Ok-clause-shows c said from =
-    let relation = rw c.alphabet.ensures at c.in-Ok.ensures.relation in
-    let over = rw c.alphabet.ensures at c.in-Ok.ensures.alphabet in
-    shows_name said c.args.project.now from c.args.name.now c.in-Some.definition.now c.in-Some.ensures.0 c.in-Some.ensures.1 c.in-Ok.compiled.net over relation
+pub returns-in_ok-of-in-Some-clause-shows : goal.returns-in_ok-of-in-Some-clause-shows
+returns-in_ok-of-in-Some-clause-shows c said from =
+    let (d, at, named) = c.in-Some.ensures in
+    let over = c.in_ok-of-in-Some.ensures.alphabet c.args.project.now.alphabet c.in_ok-network-in-Some.ensures.over in
+    shows_name said c.args.project.now from c.in-Some.place d at c.args.name.now named c.in_ok-network-in-Some.network c.in_ok-of-in-Some.field-0.net c.in_ok-network-in-Some.ensures c.in_ok-of-in-Some.ensures.relation over
 
 pub returns-in-None-clause-shows : goal.returns-in-None-clause-shows
 returns-in-None-clause-shows c said from = shows_none said c.args.project.now from c.args.name.now c.in-None.ensures

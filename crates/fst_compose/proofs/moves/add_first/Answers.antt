@@ -1,5 +1,5 @@
 use Rattle.std.proofs.Common.{◌≡◌}
-use Rattle.fst_compose.proofs.Gaining.{one_more, some_all}
+use Rattle.fsa_trim.proofs.Gaining.{one_more, some_all}
 use Rattle.fst_compose.proofs.Moving.{first_move, first_moves}
 use Rattle.fst_compose.proofs.moves.add_first.Goals as goal
 

@@ -1,5 +1,5 @@
 use Rattle.std.proofs.Common.{◌≡◌, take}
-use Rattle.fst_compose.specs.Gains.{Gains, ForSome}
+use Rattle.fsa_trim.specs.Gains.{Gains, ForSome}
 use Rattle.fst_compose.proofs.Moving.{first_move}
 use Rattle.fst_compose.proofs.moves.add_first.Given as goal
 

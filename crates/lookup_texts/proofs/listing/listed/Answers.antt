@@ -1,5 +1,6 @@
 use Rattle.std.proofs.Common.{◌≡◌, ◌<◌, ◌≤◌, ◌+◌, ◌++◌, [], ◌∷◌, ℕ, Some, length, MatchBool, subst, ap, refl, arith, ◌∙◌, length-append}
 use Rattle.std.specs.List.{slice_get}
+use Rattle.word_relations.specs.Answers.{most_answers}
 use Rattle.lookup_texts.specs.Listings.{AddsText}
 use Rattle.lookup_texts.specs.Walks.{Follows, IsLeast, WritesText}
 use Rattle.lookup_texts.proofs.ListingSteps.{all_listed, first_holds, follows_short, listing_enter, listing_first, listing_leave, more_listed}
@@ -14,7 +15,7 @@ moves-init c =
     let old = c.new-found.result.items in
     let none : old ≡ [] = c.new-found.ensures.items in
     let added : AddsText rows walk.text.items old new =
-    first_holds c.in_ok-add.field-0 (AddsText rows walk.text.items old new) (WritesText rows walk.text.items × (new ≡ old) × (length old ≡ 4096))
+    first_holds c.in_ok-add.field-0 (AddsText rows walk.text.items old new) (WritesText rows walk.text.items × (new ≡ old) × (length old ≡ most_answers))
     c.in_ok-add.ensures.added (λ h. let e = ap length none in let f = h.2 in omega arith) in
     let first = listing_first rows new (subst (λ t. AddsText rows t [] new) c.requires.text (subst (λ o. AddsText rows walk.text.items o new) none added)) in
     record {
@@ -84,7 +85,7 @@ moves-preserved-else-not-branch c =
     let least = next.passes byte c.in-Some.is in
     let old = c.moves.found.items in
     let found = c.add-in-Some.new.found.items in
-    let at_new = subst (λ b. MatchBool b (AddsText new.rows new.text.items old found) (WritesText new.rows new.text.items × (found ≡ old) × (length old ≡ 4096))) c.if-not-branch.false c.in_ok-add-in-Some.ensures.added in
+    let at_new = subst (λ b. MatchBool b (AddsText new.rows new.text.items old found) (WritesText new.rows new.text.items × (found ≡ old) × (length old ≡ most_answers))) c.if-not-branch.false c.in_ok-add-in-Some.ensures.added in
     let added : AddsText rows (walk.text.items ++ byte ∷ []) old found =
     subst (λ t. AddsText rows t old found) entered.text (subst (λ rs. AddsText rs new.text.items old found) (entered.rows ∙ inv.rows) at_new) in
     record {
@@ -109,7 +110,7 @@ returns-then-not-branch-clause-more c =
     let least = next.passes byte c.in-Some.is in
     let old = c.moves.found.items in
     let found = c.add-in-Some.new.found.items in
-    let full = subst (λ b. MatchBool b (AddsText new.rows new.text.items old found) (WritesText new.rows new.text.items × (found ≡ old) × (length old ≡ 4096))) c.if-not-branch.true c.in_ok-add-in-Some.ensures.added in
+    let full = subst (λ b. MatchBool b (AddsText new.rows new.text.items old found) (WritesText new.rows new.text.items × (found ≡ old) × (length old ≡ most_answers))) c.if-not-branch.true c.in_ok-add-in-Some.ensures.added in
     let written : WritesText rows (walk.text.items ++ byte ∷ []) =
     subst (λ t. WritesText rows t) entered.text (subst (λ rs. WritesText rs new.text.items) (entered.rows ∙ inv.rows) full.0) in
     more_listed rows walk.text.items walk.floor old inv.listing c.args.walk.now.marked.bound byte least.0 (λ other low goes. next.least byte other c.in-Some.is (low, goes))

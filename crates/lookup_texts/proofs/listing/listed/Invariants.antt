@@ -1,4 +1,5 @@
 use Rattle.std.proofs.Common.{◌≡◌, ◌≤◌, ◌++◌, [], ◌∷◌, length}
+use Rattle.word_relations.specs.Answers.{most_answers}
 use Rattle.lookup_texts.specs.Listings.{IsListing}
 use Rattle.lookup_texts.specs.Walks.{IsWalk}
 use Rattle.lookup_texts.proofs.OrderOfBytes.{left}
@@ -11,7 +12,7 @@ invariant-moves l = record {
   bound : l.walk.marked.bound ≡ l.fn.walk.marked.bound;
   short : length l.walk.text.items ≤ l.fn.walk.marked.bound;
   listing : IsListing l.fn.walk.rows l.walk.text.items l.walk.floor l.found.items;
-  few : length l.found.items ≤ 4096;
+  few : length l.found.items ≤ most_answers;
 }
 
 abbrev pub decreases-moves : goal.decreases-moves

@@ -1,17 +1,12 @@
+use Rattle.std.proofs.Common.{inr}
 use Rattle.regex_ast.specs.Terms.{term}
-use Rattle.network_build.proofs.Sounds.{no_ground, over_alphabet_built, sound_fits, transducer_over_alphabet}
+use Rattle.network_build.proofs.Sounds.{network_made, plain_is_built}
 use Rattle.network_build.proofs.expression.over_alphabet.Goals as goal
 
-pub relation_of-requires-clause-ground : goal.relation_of-requires-clause-ground
-relation_of-requires-clause-ground c = no_ground c.args.alphabet.now c.requires.distinct
-
-pub relation_of-requires-clause-built : goal.relation_of-requires-clause-built
-relation_of-requires-clause-built c = over_alphabet_built c.args.alphabet.now (term c.args.expr.now) c.requires.sound
-
-pub relation_of-requires-clause-fits : goal.relation_of-requires-clause-fits
-relation_of-requires-clause-fits c = sound_fits c.args.alphabet.now (term c.args.expr.now) c.requires.sound
+pub network_of-requires-clause-built : goal.network_of-requires-clause-built
+network_of-requires-clause-built c = plain_is_built c.args.parts.now c.args.alphabet.now (term c.args.expr.now) c.requires.built
 
 pub returns : goal.returns
 returns c =
-    let made = c.relation_of.ensures in
-    transducer_over_alphabet c.args.alphabet.now (term c.args.expr.now) c.relation_of.result c.requires.uses made.symbols made.relation
+    let alphabet = c.args.alphabet.now in
+    network_made c.args.parts.now alphabet alphabet (term c.args.expr.now) c.network_of.result (λ s at. at) (λ s at. inr (c.requires.uses, at)) (λ u w. (λ r. r, λ r. r)) c.network_of.ensures.letters c.network_of.ensures.meaning

@@ -1,4 +1,4 @@
-use Rattle.std.proofs.Common.{◌↔◌, ◌∷◌, [], ◌/◌, List, IfOk, All, length, map, refl, sym, ap, subst, ◌∙◌, arith}
+use Rattle.std.proofs.Common.{◌↔◌, ◌+◌, ◌∷◌, [], ◌/◌, List, take, IfOk, All, length, map, refl, sym, ap, subst, ◌∙◌, arith}
 use Rattle.std.proofs.lemmas.Result.{IfOk-weaker}
 use Rattle.fsm_base.specs.declared.letters.Bound.{Bound}
 use Rattle.fsm_base.specs.declared.letters.Sym.{Sym}
@@ -8,9 +8,12 @@ use Rattle.regex_ast.specs.declared.expr.Expr.{Expr}
 use Rattle.regex_ast.specs.declared.expr.Link.{Link}
 use Rattle.regex_ast.specs.declared.expr.Step.{Step}
 use Rattle.regex_ast.specs.declared.expr.Context.{Context}
-use Rattle.regex_ast.specs.Terms.{term, terms_of, links_of, contexts_of, steps_by, concat, ignore, maybe, no_term, no_link, or}
+use Rattle.regex_ast.specs.declared.expr.Expr.TheViews.{out-Group}
+use Rattle.regex_ast.specs.declared.expr.Group.{Group}
+use Rattle.regex_ast.specs.declared.expr.Mapping.{Mapping}
+use Rattle.regex_ast.specs.Terms.{term, terms_of, links_of, contexts_of, steps_by, mappings_of, groups_of, concat, ignore, maybe, no_term, no_link, or}
 use Rattle.regex_ast.proofs.Rows.{term-Concat, term-Ignore, term-Chain, term-Only, term-Steps}
-use Rattle.expr_kinds.specs.Kinds.{ChainFits, ContextsFit, EachFits, EachFitsAsLanguage, Fits, StepsFit, kind_of, kind_of_chain}
+use Rattle.expr_kinds.specs.Kinds.{ChainFits, ContextsFit, EachFits, EachFitsAsLanguage, Fits, MappingsFit, StepsFit, kind_of, kind_of_chain}
 use Rattle.expr_kinds.specs.declared.form.Kind.TheVariants.{Language}
 use Rattle.expr_meaning.specs.Meaning.{In, InChain, InIgnoring, Relates, RelatesChain}
 use Rattle.network_algebra.specs.Networks.{all_letters, kind_of_network, WordsOf, PairsOf}
@@ -20,10 +23,20 @@ use Rattle.network_sets.proofs.Inside.{over_left, over_right, inside_all}
 use Rattle.network_sets.proofs.Splits.{both_only}
 use Rattle.network_sets.proofs.Restrictions.{edge_only}
 use Rattle.network_expr.specs.Parts.{kinds, stands}
-use Rattle.network_expr.specs.Built.{AreBuiltOver, ContextsAreBuiltOver, IsBuiltOver, IsChoice, IsMeant, LinksAreBuiltOver, StepsAreBuiltOver}
-use Rattle.network_expr.proofs.Weights.{weight, each_halves, links_halves, contexts_halves, steps_halves as steps_lighter}
+use Rattle.network_expr.specs.Built.{AreBuiltOver, ContextsAreBuiltOver, IsBuiltOver, IsChoice, IsMeant, IsNarrowing, LinksAreBuiltOver, MappingsAreBuiltOver, StepsAreBuiltOver}
+use Rattle.network_expr.proofs.Weights.{weight, weight_contexts, weight_mappings, weight_groups, each_halves, links_halves, contexts_halves, steps_halves as steps_lighter}
 use Rattle.network_expr.proofs.Rows.{each_built, each_fits, each_language, chain_built, chain_fits, choice_fits, contexts_built, contexts_fit, steps_built, steps_fit, no_item, one_item, halves_joined, terms_joined, some_terms}
-use Rattle.network_expr.proofs.Meant.{IsChosen, IsChained, IsStepped, AreIn, reduced_for, alone_chosen, or_chained, chain_for, chain_halves, chain_choice, choice_halves, none_chosen, none_accepted, steps_for, steps_halves, then_stepped, context_one, context_halves, no_contexts, only_meant, words_meant, meant_words, letters_meant, colon_language, maybe_meant, same_meant, turn_alone, turns_meant, suffixed_for, prefixed_meant, not_one_meant, ignore_row, ignore_one, ignore_halves, each_kind_language, empty_only, given_one, given_two}
+use Rattle.network_expr.proofs.Meant.{IsChosen, IsChained, IsStepped, AreIn, reduced_for, alone_chosen, chain_for, chain_halves, chain_choice, choice_halves, none_chosen, none_accepted, steps_for, steps_halves, then_stepped, context_one, context_halves, no_contexts, only_meant, words_meant, meant_words, letters_meant, colon_language, maybe_meant, same_meant, turn_alone, turns_meant, prefixed_meant, not_one_meant, ignore_row, ignore_one, ignore_halves, each_kind_language, language_meant, empty_only, given_one, given_two}
+use Rattle.network_affixes.proofs.Suffixed.{suffixed_for}
+use Rattle.network_expr.proofs.Narrowed.{fails, two_links, before_narrowing, halves_fit, narrowed_halves, narrowed_meant, narrowed_only}
+use Rattle.expr_kinds.proofs.Sets.{term_rules, maps_of_is, contexts_in_is}
+use Rattle.network_expr.proofs.Ruled.{MapsReady, ContextsReady, GroupsReady, map_ready, context_ready, group_ready, side_of_is, take_whole, rules_meant}
+use Rattle.network_rules.specs.Rules.{AreMaps, AreContexts, AreGroups}
+use Rattle.network_rules.proofs.Rows.{maps_more, contexts_more, groups_more}
+use Rattle.network_rules.proofs.Meaning.{groups_over}
+use Rattle.replace_rules.specs.declared.rules.LangMap.{LangMap}
+use Rattle.replace_rules.specs.declared.rules.LangContext.{LangContext}
+use Rattle.replace_rules.specs.declared.rules.LangGroup.{LangGroup}
 use Rattle.network_expr.proofs.build.+build.Goals as goal
 
 pub union_operands-union_operands-requires : goal.union_operands-union_operands-requires
@@ -142,24 +155,26 @@ in_chain-in_chain-requires t c =
     let back = c.split_at.result.1.now in
     let whole = c.args.links.now in
     let is = halves_joined front back whole (length whole / 2) c.split_at.ensures.front c.split_at.ensures.back in
-    let light = links_halves front back whole is (omega arith) (omega arith) in
+    let two = two_links whole (omega arith) (fails (All IsChoice whole) c.are_choices.result c.are_choices.ensures c.if-are_choices.false) (fails (All IsNarrowing whole) c.are_narrowing.result c.are_narrowing.ensures c.if-are_narrowing.false) in
+    let light = links_halves front back whole is (omega (arith, two)) (omega (arith, two)) in
     let built = chain_built c.args.parts.now A front back (subst (λ (z : List (Link Atom)). LinksAreBuiltOver c.args.parts.now A (links_of z)) (sym is) c.requires.built) in
     let fits = chain_fits c.args.parts.now front back K (subst (λ (z : List (Link Atom)). ChainFits (kinds c.args.parts.now) K (links_of z)) (sym is) c.requires.fits) in
     (omega (arith, c.decreases, light.0), (c.requires.ground, (c.requires.before, (built.0, fits.0))))
 
-pub in_chain-in_chain-requires-in_default-2 : goal.in_chain-in_chain-requires-in_default-2
-in_chain-in_chain-requires-in_default-2 t c =
+pub in_chain-in_chain-requires-in_default-3 : goal.in_chain-in_chain-requires-in_default-3
+in_chain-in_chain-requires-in_default-3 t c =
     let A = c.args.alphabet.now in
     let K = kind_of_network c.args.before in
     let front = c.split_at.result.0.now in
     let back = c.split_at.result.1.now in
     let whole = c.args.links.now in
     let is = halves_joined front back whole (length whole / 2) c.split_at.ensures.front c.split_at.ensures.back in
-    let light = links_halves front back whole is (omega arith) (omega arith) in
+    let two = two_links whole (omega arith) (fails (All IsChoice whole) c.are_choices.result c.are_choices.ensures c.if-are_choices.false) (fails (All IsNarrowing whole) c.are_narrowing.result c.are_narrowing.ensures c.if-are_narrowing.false) in
+    let light = links_halves front back whole is (omega (arith, two)) (omega (arith, two)) in
     let built = chain_built c.args.parts.now A front back (subst (λ (z : List (Link Atom)). LinksAreBuiltOver c.args.parts.now A (links_of z)) (sym is) c.requires.built) in
     let fits = chain_fits c.args.parts.now front back K (subst (λ (z : List (Link Atom)). ChainFits (kinds c.args.parts.now) K (links_of z)) (sym is) c.requires.fits) in
-    let kind = c.in_ok-first-in_default-2.ensures.meaning.kind_is in
-    (omega (arith, c.decreases, light.1), (c.requires.ground, (c.in_ok-first-in_default-2.ensures.letters, (built.1, subst (λ k. ChainFits (kinds c.args.parts.now) k (links_of back)) (sym kind) fits.1))))
+    let kind = c.in_ok-first-in_default-3.ensures.meaning.kind_is in
+    (omega (arith, c.decreases, light.1), (c.requires.ground, (c.in_ok-first-in_default-3.ensures.letters, (built.1, subst (λ k. ChainFits (kinds c.args.parts.now) k (links_of back)) (sym kind) fits.1))))
 
 pub in_chain-returns-in_ok-either-in_default-clause-letters : goal.in_chain-returns-in_ok-either-in_default-clause-letters
 in_chain-returns-in_ok-either-in_default-clause-letters t c =
@@ -178,15 +193,28 @@ in_chain-returns-in_ok-either-in_default-clause-meaning t c =
     let chained = chain_choice c.args.parts.now A before c.in_ok-union_operands-in_default.field-0 either links all c.in_ok-union_operands-in_default.ensures.meaning c.in_ok-either-in_default.ensures.meaning in
     IfOk-weaker _ _ _ (λ r. reduced_for (kind_of_chain (kinds c.args.parts.now) (kind_of_network before) (links_of links)) (InChain (stands c.args.parts.now) A (WordsOf before) (links_of links)) (RelatesChain (stands c.args.parts.now) A (WordsOf before) (PairsOf before) (links_of links)) either r chained) c.reduced.ensures.meaning
 
-pub in_chain-returns-in_ok-first-in_default-2-clause-meaning : goal.in_chain-returns-in_ok-first-in_default-2-clause-meaning
-in_chain-returns-in_ok-first-in_default-2-clause-meaning t c =
+pub in_chain-returns-in_ok-first-in_default-3-clause-meaning : goal.in_chain-returns-in_ok-first-in_default-3-clause-meaning
+in_chain-returns-in_ok-first-in_default-3-clause-meaning t c =
     let K = kind_of_network c.args.before in
     let front = c.split_at.result.0.now in
     let back = c.split_at.result.1.now in
     let whole = c.args.links.now in
     let is = halves_joined front back whole (length whole / 2) c.split_at.ensures.front c.split_at.ensures.back in
     let fits = chain_fits c.args.parts.now front back K (subst (λ (z : List (Link Atom)). ChainFits (kinds c.args.parts.now) K (links_of z)) (sym is) c.requires.fits) in
-    IfOk-weaker _ _ _ (λ r. chain_halves c.args.parts.now c.args.alphabet.now c.args.before c.in_ok-first-in_default-2.first r front back whole is fits.1 c.in_ok-first-in_default-2.ensures.meaning) c.in_chain-in_default-2.ensures.meaning
+    IfOk-weaker _ _ _ (λ r. chain_halves c.args.parts.now c.args.alphabet.now c.args.before c.in_ok-first-in_default-3.first r front back whole is fits.1 c.in_ok-first-in_default-3.ensures.meaning) c.in_chain-in_default-3.ensures.meaning
+
+pub in_chain-into_words-requires : goal.in_chain-into_words-requires
+in_chain-into_words-requires t c =
+    before_narrowing c.args.parts.now c.args.links.now (omega arith) (c.are_narrowing.ensures.0 c.if-are_narrowing.true) (kind_of_network c.args.before) c.requires.fits
+
+pub in_chain-returns-in_ok-to_fsa-in_default-2-clause-letters : goal.in_chain-returns-in_ok-to_fsa-in_default-2-clause-letters
+in_chain-returns-in_ok-to_fsa-in_default-2-clause-letters t c =
+    narrowed_only (all_letters c.args.alphabet.now) c.in_ok-kept-in_default-2.kept c.in_ok-to_fsa-in_default-2.field-0 c.in_ok-kept-in_default-2.ensures.over c.in_ok-to_fsa-in_default-2.ensures.letters
+
+pub in_chain-returns-in_ok-to_fsa-in_default-2-clause-meaning : goal.in_chain-returns-in_ok-to_fsa-in_default-2-clause-meaning
+in_chain-returns-in_ok-to_fsa-in_default-2-clause-meaning t c =
+    narrowed_meant c.args.parts.now c.args.alphabet.now c.args.before c.into_words.result c.in_ok-to_fsa-in_default-2.field-0 c.in_ok-words-in_default-2.words c.in_ok-kept-in_default-2.kept c.args.links.now
+    (c.are_narrowing.ensures.0 c.if-are_narrowing.true) c.into_words.ensures c.requires.fits c.in_ok-words-in_default-2.ensures.words c.in_ok-kept-in_default-2.ensures.words c.in_ok-to_fsa-in_default-2.ensures.language
 
 pub in_contexts-in_contexts-requires : goal.in_contexts-in_contexts-requires
 in_contexts-in_contexts-requires t c =
@@ -277,23 +305,6 @@ in_ignoring-returns-in_ok-first-in_default-clause-words t c =
     let whole = c.args.operands.now in
     let is = halves_joined front back whole (length whole / 2) c.split_at.ensures.front c.split_at.ensures.back in
     IfOk-weaker _ _ _ (λ m. ignore_halves c.args.parts.now c.args.alphabet.now (map term front) (map term back) (map term whole) c.args.before c.in_ok-first-in_default.first m (terms_joined front back whole is) c.in_ok-first-in_default.ensures.words) c.in_ignoring-in_default.ensures.words
-
-pub in_link-returns-in_ok-either-in-Or-clause-letters : goal.in_link-returns-in_ok-either-in-Or-clause-letters
-in_link-returns-in_ok-either-in-Or-clause-letters t c =
-    let A = c.args.alphabet.now in
-    let either = c.in_ok-either-in-Or.either in
-    let letters = given_two A c.args.before c.in_ok-network_of-in-Or.field-0 either c.requires.before c.in_ok-network_of-in-Or.ensures.letters c.in_ok-either-in-Or.ensures.letters in
-    IfOk-weaker _ _ _ (λ r. given_one A either r letters) c.reduced.ensures.letters
-
-pub in_link-returns-in_ok-either-in-Or-clause-meaning : goal.in_link-returns-in_ok-either-in-Or-clause-meaning
-in_link-returns-in_ok-either-in-Or-clause-meaning t c =
-    let A = c.args.alphabet.now in
-    let before = c.args.before in
-    let either = c.in_ok-either-in-Or.either in
-    let links = or (term c.in-Or.operand) no_link in
-    let chained = or_chained c.args.parts.now A before c.in_ok-network_of-in-Or.field-0 either (term c.in-Or.operand) c.in_ok-network_of-in-Or.ensures.meaning c.in_ok-either-in-Or.ensures.meaning in
-    subst (λ (z : Link Atom). IfOk c.reduced.result (IsChained c.args.parts.now A before (z ∷ []))) (sym c.in-Or.is)
-    (IfOk-weaker _ _ _ (λ r. reduced_for (kind_of_chain (kinds c.args.parts.now) (kind_of_network before) links) (InChain (stands c.args.parts.now) A (WordsOf before) links) (RelatesChain (stands c.args.parts.now) A (WordsOf before) (PairsOf before) links) either r chained) c.reduced.ensures.meaning)
 
 pub in_step-returns-in_ok-network-in-Then-clause-meaning : goal.in_step-returns-in_ok-network-in-Then-clause-meaning
 in_step-returns-in_ok-network-in-Then-clause-meaning t c =
@@ -451,6 +462,17 @@ network_of-in_steps-requires t c =
     let kind = rw c.deref-in-Steps.ensures at c.in_ok-network_of-in-Steps.ensures.meaning.kind_is in
     (rw slice (omega (arith, c.decreases, ap weight is)), (c.requires.ground, (c.in_ok-network_of-in-Steps.ensures.letters, (rw slice built.1, rw slice (subst (λ k. StepsFit (kinds c.args.parts.now) k (steps_by c.in-Steps.steps.items)) (sym kind) fits.1)))))
 
+pub network_of-replaced-requires : goal.network_of-replaced-requires
+network_of-replaced-requires t c =
+    let is = ap term c.in-Rules.is ∙ term_rules c.in-Rules.rules in
+    let slice = c.deref-in-Rules.ensures.value in
+    (rw slice (omega (arith, c.decreases, ap weight is)), (c.requires.ground, (rw slice (subst (λ e. IsBuiltOver c.args.parts.now c.args.alphabet.now e) is c.requires.built), rw slice (subst (λ e. Fits (kinds c.args.parts.now) e) is c.requires.fits))))
+
+pub network_of-returns-in-Rules-clause-meaning : goal.network_of-returns-in-Rules-clause-meaning
+network_of-returns-in-Rules-clause-meaning t c =
+    let is = ap term c.in-Rules.is ∙ term_rules c.in-Rules.rules in
+    subst (λ e. IfOk c.replaced.result (IsMeant c.args.parts.now c.args.alphabet.now e)) (sym is) (rw c.deref-in-Rules.ensures.value at c.replaced.ensures.meaning)
+
 pub network_of-returns-in_ok-word-in-Empty-clause-letters : goal.network_of-returns-in_ok-word-in-Empty-clause-letters
 network_of-returns-in_ok-word-in-Empty-clause-letters t c = empty_only (all_letters c.args.alphabet.now) c.in_ok-word-in-Empty.field-0 c.in_ok-word-in-Empty.ensures.letters
 
@@ -572,3 +594,182 @@ perhaps-returns-clause-meaning t c =
 
 pub words_of-returns-clause-words : goal.words_of-returns-clause-words
 words_of-returns-clause-words t c = meant_words c.args.parts.now c.args.alphabet.now (term c.args.expr.now) c.in_ok-network_of.field-0 c.into_words.result c.requires.language c.into_words.ensures c.in_ok-network_of.ensures.meaning
+
+pub narrowed-narrowed-requires : goal.narrowed-narrowed-requires
+narrowed-narrowed-requires t c =
+    let A = c.args.alphabet.now in
+    let front = c.split_at.result.0.now in
+    let back = c.split_at.result.1.now in
+    let whole = c.args.links.now in
+    let is = halves_joined front back whole (length whole / 2) c.split_at.ensures.front c.split_at.ensures.back in
+    let light = links_halves front back whole is (omega arith) (omega arith) in
+    let built = chain_built c.args.parts.now A front back (subst (λ (z : List (Link Atom)). LinksAreBuiltOver c.args.parts.now A (links_of z)) (sym is) c.requires.built) in
+    let fits = chain_fits c.args.parts.now front back Language (subst (λ (z : List (Link Atom)). ChainFits (kinds c.args.parts.now) Language (links_of z)) (sym is) c.requires.fits) in
+    (omega (arith, c.decreases, light.0), (c.requires.ground, (c.requires.letters, (over_left IsNarrowing front back (subst (All IsNarrowing) (sym is) c.requires.narrowing), (built.0, fits.0)))))
+
+pub narrowed-narrowed-requires-in_default : goal.narrowed-narrowed-requires-in_default
+narrowed-narrowed-requires-in_default t c =
+    let A = c.args.alphabet.now in
+    let front = c.split_at.result.0.now in
+    let back = c.split_at.result.1.now in
+    let whole = c.args.links.now in
+    let is = halves_joined front back whole (length whole / 2) c.split_at.ensures.front c.split_at.ensures.back in
+    let light = links_halves front back whole is (omega arith) (omega arith) in
+    let built = chain_built c.args.parts.now A front back (subst (λ (z : List (Link Atom)). LinksAreBuiltOver c.args.parts.now A (links_of z)) (sym is) c.requires.built) in
+    let fits = chain_fits c.args.parts.now front back Language (subst (λ (z : List (Link Atom)). ChainFits (kinds c.args.parts.now) Language (links_of z)) (sym is) c.requires.fits) in
+    let all = subst (All IsNarrowing) (sym is) c.requires.narrowing in
+    (omega (arith, c.decreases, light.1), (c.requires.ground, (c.in_ok-first-in_default.ensures.over, (over_right IsNarrowing front back all, (built.1, halves_fit c.args.parts.now front back (over_left IsNarrowing front back all) fits.0 fits.1)))))
+
+pub narrowed-returns-in_ok-first-in_default : goal.narrowed-returns-in_ok-first-in_default
+narrowed-returns-in_ok-first-in_default t c =
+    let A = c.args.alphabet.now in
+    let front = c.split_at.result.0.now in
+    let back = c.split_at.result.1.now in
+    let whole = c.args.links.now in
+    let is = halves_joined front back whole (length whole / 2) c.split_at.ensures.front c.split_at.ensures.back in
+    IfOk-weaker _ _ _ (λ r. narrowed_halves c.args.parts.now A (all_letters A) c.args.before c.in_ok-first-in_default.first r front back whole is c.in_ok-first-in_default.ensures) c.narrowed-in_default.ensures
+
+pub lang_contexts-words_of-requires : goal.lang_contexts-words_of-requires
+lang_contexts-words_of-requires t c =
+    let P = c.args.parts.now in
+    let A = c.args.alphabet.now in
+    let whole = c.args.contexts.now in
+    let item = c.context-item.result in
+    let most = weight_contexts (contexts_of whole) in
+    let all : ContextsReady P A whole most = record { built = c.requires.built; fits = c.requires.fits; light = omega arith } in
+    let ready = subst (λ (z : Context Atom). ContextsReady P A (z ∷ []) most) (sym c.context-item.is) (context_ready P A whole most c.contexts.context-index item c.contexts-test.true all) in
+    let light = ready.light in
+    (omega (arith, c.decreases, light), (c.requires.ground, (ready.built.0, (ready.fits.1, ready.fits.0))))
+
+pub lang_contexts-words_of-requires-in-contexts : goal.lang_contexts-words_of-requires-in-contexts
+lang_contexts-words_of-requires-in-contexts t c =
+    let P = c.args.parts.now in
+    let A = c.args.alphabet.now in
+    let whole = c.args.contexts.now in
+    let item = c.context-item.result in
+    let most = weight_contexts (contexts_of whole) in
+    let all : ContextsReady P A whole most = record { built = c.requires.built; fits = c.requires.fits; light = omega arith } in
+    let ready = subst (λ (z : Context Atom). ContextsReady P A (z ∷ []) most) (sym c.context-item.is) (context_ready P A whole most c.contexts.context-index item c.contexts-test.true all) in
+    let light = ready.light in
+    (omega (arith, c.decreases, light), (c.requires.ground, (ready.built.1, (ready.fits.3, ready.fits.2))))
+
+pub lang_contexts-contexts-preserved : goal.lang_contexts-contexts-preserved
+lang_contexts-contexts-preserved t c =
+    let P = c.args.parts.now in
+    let A = c.args.alphabet.now in
+    let whole = c.args.contexts.now in
+    let item = c.context-item.result in
+    let left = c.in_ok-language.field-0 in
+    let right = c.in_ok-language-2.field-0 in
+    let lang : LangContext = record { left = left; right = right } in
+    let here : AreContexts (stands P) A (contexts_of (item ∷ [])) (lang ∷ []) = (language_meant P A (term item.left) c.in_ok-left.left left c.in_ok-left.ensures.words c.in_ok-language.ensures, language_meant P A (term item.right) c.in_ok-right.right right c.in_ok-right.ensures.words c.in_ok-language-2.ensures, tt) in
+    let one = subst (λ (z : Context Atom). AreContexts (stands P) A (contexts_of (z ∷ [])) (lang ∷ [])) c.context-item.is here in
+    subst (λ (z : List LangContext). AreContexts (stands P) A (contexts_of (take (c.contexts.context-index + 1) whole)) z) (sym c.in_ok-push.ensures.items)
+    (contexts_more (stands P) A whole c.contexts.context-index item c.contexts.langs.items lang c.contexts-test.true c.contexts.invariant one)
+
+pub lang_map-part_language-requires-in-Plain : goal.lang_map-part_language-requires-in-Plain
+lang_map-part_language-requires-in-Plain t c =
+    let is = c.in-Plain.is in
+    let built = subst (λ (z : Mapping Atom). MappingsAreBuiltOver c.args.parts.now c.args.alphabet.now (mappings_of (z ∷ []))) is c.requires.built in
+    let fits = subst (λ (z : Mapping Atom). MappingsFit (kinds c.args.parts.now) (mappings_of (z ∷ []))) is c.requires.fits in
+    let weighs = ap (λ (z : Mapping Atom). weight_mappings (mappings_of (z ∷ []))) is in
+    (omega (arith, c.decreases, weighs), (c.requires.ground, (built.2, (fits.3, fits.2))))
+
+pub lang_map-part_language-requires-in-Markup-2 : goal.lang_map-part_language-requires-in-Markup-2
+lang_map-part_language-requires-in-Markup-2 t c =
+    let is = c.in-Markup.is in
+    let built = subst (λ (z : Mapping Atom). MappingsAreBuiltOver c.args.parts.now c.args.alphabet.now (mappings_of (z ∷ []))) is c.requires.built in
+    let fits = subst (λ (z : Mapping Atom). MappingsFit (kinds c.args.parts.now) (mappings_of (z ∷ []))) is c.requires.fits in
+    let weighs = ap (λ (z : Mapping Atom). weight_mappings (mappings_of (z ∷ []))) is in
+    (omega (arith, c.decreases, weighs), (c.requires.ground, (built.2, (fits.3, fits.2))))
+
+pub lang_map-part_language-requires-in-Markup-3 : goal.lang_map-part_language-requires-in-Markup-3
+lang_map-part_language-requires-in-Markup-3 t c =
+    let is = c.in-Markup.is in
+    let built = subst (λ (z : Mapping Atom). MappingsAreBuiltOver c.args.parts.now c.args.alphabet.now (mappings_of (z ∷ []))) is c.requires.built in
+    let fits = subst (λ (z : Mapping Atom). MappingsFit (kinds c.args.parts.now) (mappings_of (z ∷ []))) is c.requires.fits in
+    let weighs = ap (λ (z : Mapping Atom). weight_mappings (mappings_of (z ∷ []))) is in
+    (omega (arith, c.decreases, weighs), (c.requires.ground, (built.3, (fits.5, fits.4))))
+
+pub lang_maps-lang_map-requires : goal.lang_maps-lang_map-requires
+lang_maps-lang_map-requires t c =
+    let P = c.args.parts.now in
+    let A = c.args.alphabet.now in
+    let whole = c.args.maps.now in
+    let item = c.map-item.result in
+    let most = weight_mappings (mappings_of whole) in
+    let all : MapsReady P A whole most = record { built = c.requires.built; fits = c.requires.fits; light = omega arith } in
+    let ready = subst (λ (z : Mapping Atom). MapsReady P A (z ∷ []) most) (sym c.map-item.is) (map_ready P A whole most c.maps.map-index item c.maps-test.true all) in
+    let light = ready.light in
+    (omega (arith, c.decreases, light), (c.requires.ground, (ready.built, ready.fits)))
+
+pub lang_maps-maps-preserved : goal.lang_maps-maps-preserved
+lang_maps-maps-preserved t c =
+    let P = c.args.parts.now in
+    let A = c.args.alphabet.now in
+    let whole = c.args.maps.now in
+    let item = c.map-item.result in
+    let lang = c.in_ok-lang_map.field-0 in
+    let one = subst (λ (z : Mapping Atom). AreMaps (stands P) A (mappings_of (z ∷ [])) (lang ∷ [])) c.map-item.is c.in_ok-lang_map.ensures in
+    subst (λ (z : List LangMap). AreMaps (stands P) A (mappings_of (take (c.maps.map-index + 1) whole)) z) (sym c.in_ok-push.ensures.items)
+    (maps_more (stands P) A whole c.maps.map-index item c.maps.langs.items lang c.maps-test.true c.maps.invariant one)
+
+pub replaced-lang_maps-requires : goal.replaced-lang_maps-requires
+replaced-lang_maps-requires t c =
+    let P = c.args.parts.now in
+    let A = c.args.alphabet.now in
+    let whole = c.args.groups.now in
+    let item = c.group-item.result in
+    let most = weight_groups (groups_of whole) in
+    let all : GroupsReady P A whole most = record { built = c.requires.built; fits = c.requires.fits; light = omega arith } in
+    let ready = subst (λ (z : Group Atom). GroupsReady P A (z ∷ []) most) (sym c.group-item.is) (group_ready P A whole most c.groups.group-index item c.groups-test.true all) in
+    let light = ready.light in
+    let same = c.deref.ensures.value ∙ sym (maps_of_is item) in
+    let weighs = ap (λ (z : List (Mapping Atom)). weight_mappings (mappings_of z)) same in
+    (omega (arith, c.decreases, light, weighs), (c.requires.ground, (subst (λ (z : List (Mapping Atom)). MappingsAreBuiltOver P A (mappings_of z)) (sym same) ready.built.0, subst (λ (z : List (Mapping Atom)). MappingsFit (kinds P) (mappings_of z)) (sym same) ready.fits.0)))
+
+pub replaced-lang_contexts-requires : goal.replaced-lang_contexts-requires
+replaced-lang_contexts-requires t c =
+    let P = c.args.parts.now in
+    let A = c.args.alphabet.now in
+    let whole = c.args.groups.now in
+    let item = c.group-item.result in
+    let most = weight_groups (groups_of whole) in
+    let all : GroupsReady P A whole most = record { built = c.requires.built; fits = c.requires.fits; light = omega arith } in
+    let ready = subst (λ (z : Group Atom). GroupsReady P A (z ∷ []) most) (sym c.group-item.is) (group_ready P A whole most c.groups.group-index item c.groups-test.true all) in
+    let light = ready.light in
+    let same = c.deref-in-groups.ensures.value ∙ sym (contexts_in_is item) in
+    let weighs = ap (λ (z : List (Context Atom)). weight_contexts (contexts_of z)) same in
+    (omega (arith, c.decreases, light, weighs), (c.requires.ground, (subst (λ (z : List (Context Atom)). ContextsAreBuiltOver P A (contexts_of z)) (sym same) ready.built.1, subst (λ (z : List (Context Atom)). ContextsFit (kinds P) (contexts_of z)) (sym same) ready.fits.1)))
+
+pub replaced-groups-preserved : goal.replaced-groups-preserved
+replaced-groups-preserved t c =
+    let P = c.args.parts.now in
+    let A = c.args.alphabet.now in
+    let whole = c.args.groups.now in
+    let item = c.group-item.result in
+    let maps = subst (λ (z : List (Mapping Atom)). AreMaps (stands P) A (mappings_of z) c.in_ok-maps.maps.items) (c.deref.ensures.value ∙ sym (maps_of_is item)) c.in_ok-maps.ensures in
+    let contexts = subst (λ (z : List (Context Atom)). AreContexts (stands P) A (contexts_of z) c.in_ok-contexts.contexts.items) (c.deref-in-groups.ensures.value ∙ sym (contexts_in_is item)) c.in_ok-contexts.ensures in
+    let lang : LangGroup = record { maps = c.in_ok-maps.maps; side = (out-Group Atom item).side; contexts = c.in_ok-contexts.contexts } in
+    let here : AreGroups (stands P) A (groups_of (item ∷ [])) (lang ∷ []) = (maps, sym (side_of_is item), contexts, tt) in
+    let one = subst (λ (z : Group Atom). AreGroups (stands P) A (groups_of (z ∷ [])) (lang ∷ [])) c.group-item.is here in
+    subst (λ (z : List LangGroup). AreGroups (stands P) A (groups_of (take (c.groups.group-index + 1) whole)) z) (sym c.in_ok-push.ensures.items)
+    (groups_more (stands P) A whole c.groups.group-index item c.groups.langs.items lang c.groups-test.true c.groups.invariant one)
+
+pub replaced-replace-requires-clause-over : goal.replaced-replace-requires-clause-over
+replaced-replace-requires-clause-over t c =
+    let P = c.args.parts.now in
+    let A = c.args.alphabet.now in
+    let whole = c.args.groups.now in
+    let so_far = subst (λ (z : List (Group Atom)). AreGroups (stands P) A (groups_of z) c.groups.langs.items) (take_whole whole c.groups.group-index c.groups-test.false) c.groups.invariant in
+    let are = subst (λ (z : List LangGroup). AreGroups (stands P) A (groups_of whole) z) (sym c.deref-2.ensures.value) so_far in
+    groups_over (stands P) A (groups_of whole) c.deref-2.result.now are
+
+pub replaced-returns-clause-meaning : goal.replaced-returns-clause-meaning
+replaced-returns-clause-meaning t c =
+    let P = c.args.parts.now in
+    let A = c.args.alphabet.now in
+    let whole = c.args.groups.now in
+    let so_far = subst (λ (z : List (Group Atom)). AreGroups (stands P) A (groups_of z) c.groups.langs.items) (take_whole whole c.groups.group-index c.groups-test.false) c.groups.invariant in
+    let are = subst (λ (z : List LangGroup). AreGroups (stands P) A (groups_of whole) z) (sym c.deref-2.ensures.value) so_far in
+    rules_meant P A c.args.optional whole c.deref-2.result.now c.in_ok-replace.field-0 are c.in_ok-replace.ensures.relation

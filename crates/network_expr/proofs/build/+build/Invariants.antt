@@ -1,6 +1,8 @@
-use Rattle.std.proofs.Common.{◌+◌, map}
-use Rattle.regex_ast.specs.Terms.{term, terms_of, links_of, contexts_of, steps_by}
-use Rattle.network_expr.proofs.Weights.{weight, weight_each, weight_links, weight_contexts, weight_steps, link_weight, step_weight}
+use Rattle.std.proofs.Common.{◌+◌, [], ◌∷◌, map, take}
+use Rattle.regex_ast.specs.Terms.{term, terms_of, links_of, contexts_of, steps_by, mappings_of, groups_of}
+use Rattle.network_expr.specs.Parts.{stands}
+use Rattle.network_expr.proofs.Weights.{weight, weight_each, weight_links, weight_contexts, weight_steps, weight_mappings, weight_groups, link_weight, step_weight}
+use Rattle.network_rules.specs.Rules.{AreMaps, AreContexts, AreGroups}
 use Rattle.network_expr.proofs.build.+build.Given as goal
 
 abbrev pub decreases-network_of : goal.decreases-network_of
@@ -36,8 +38,11 @@ decreases-union_operands l = weight_links (links_of l.links.now)
 abbrev pub decreases-chosen : goal.decreases-chosen
 decreases-chosen l = link_weight l.link.now
 
-abbrev pub decreases-in_link : goal.decreases-in_link
-decreases-in_link l = link_weight l.link.now
+abbrev pub decreases-narrowed : goal.decreases-narrowed
+decreases-narrowed l = weight_links (links_of l.links.now)
+
+abbrev pub decreases-narrowed_by : goal.decreases-narrowed_by
+decreases-narrowed_by l = link_weight l.link.now
 
 abbrev pub decreases-in_steps : goal.decreases-in_steps
 decreases-in_steps l = weight_steps (steps_by l.steps.now)
@@ -50,3 +55,28 @@ decreases-only_in l = weight (term l.centre.now) + weight_contexts (contexts_of 
 
 abbrev pub decreases-in_contexts : goal.decreases-in_contexts
 decreases-in_contexts l = weight_contexts (contexts_of l.contexts.now)
+
+abbrev pub decreases-replaced : goal.decreases-replaced
+decreases-replaced l = weight_groups (groups_of l.groups.now) + 3
+
+abbrev pub decreases-lang_maps : goal.decreases-lang_maps
+decreases-lang_maps l = weight_mappings (mappings_of l.maps.now) + 2
+
+abbrev pub decreases-lang_map : goal.decreases-lang_map
+decreases-lang_map l = weight_mappings (mappings_of (l.map.now ∷ [])) + 1
+
+abbrev pub decreases-part_language : goal.decreases-part_language
+decreases-part_language l = weight (term l.expr.now) + 2
+
+abbrev pub decreases-lang_contexts : goal.decreases-lang_contexts
+decreases-lang_contexts l = weight_contexts (contexts_of l.contexts.now) + 2
+
+-- the languages of the rules so far
+abbrev pub invariant-replaced-groups : goal.invariant-replaced-groups
+invariant-replaced-groups l = AreGroups (stands l.parts) l.alphabet (groups_of (take l.group-index l.groups)) l.langs.items
+
+abbrev pub invariant-lang_maps-maps : goal.invariant-lang_maps-maps
+invariant-lang_maps-maps l = AreMaps (stands l.parts) l.alphabet (mappings_of (take l.map-index l.maps)) l.langs.items
+
+abbrev pub invariant-lang_contexts-contexts : goal.invariant-lang_contexts-contexts
+invariant-lang_contexts-contexts l = AreContexts (stands l.parts) l.alphabet (contexts_of (take l.context-index l.contexts)) l.langs.items

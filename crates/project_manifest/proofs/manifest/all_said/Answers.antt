@@ -1,8 +1,7 @@
 use Rattle.std.proofs.Common.{◌+◌, ◌++◌, ◌∷◌, length, map, append-nil, ap, sym, ◌∙◌, arith}
-use Rattle.std.proofs.lemmas.List.{length-map}
+use Rattle.std.proofs.lemmas.List.{drop_all, length-map}
 use Rattle.project_manifest.specs.Manifests.{sayings, statements_in}
 use Rattle.project_manifest.specs.Sayings.{as_written, saying_of}
-use Rattle.project_manifest.proofs.Behind.{none_left}
 use Rattle.project_manifest.proofs.Worded.{said_more}
 use Rattle.project_manifest.proofs.manifest.all_said.Goals as goal
 
@@ -18,7 +17,7 @@ lines-preserved c =
 
 pub returns : goal.returns
 returns c =
-    sym (ap (λ z. map saying_of c.lines.found.items ++ sayings (c.lines.index + 1) (as_written z)) (none_left c.deref-line-items.result.now c.lines.index (omega arith)) ∙ append-nil (map saying_of c.lines.found.items)) ∙ c.lines.invariant
+    sym (ap (λ z. map saying_of c.lines.found.items ++ sayings (c.lines.index + 1) (as_written z)) (drop_all c.lines.index c.deref-line-items.result.now (omega arith)) ∙ append-nil (map saying_of c.lines.found.items)) ∙ c.lines.invariant
 
 pub add_said-requires : goal.add_said-requires
 add_said-requires c = omega (arith, c.requires, ap length c.in_ok-lines.ensures, length-map c.in_ok-lines.lines.items (λ w. w.items), ap length c.deref-line-items.ensures.value, c.lines-test.true)

@@ -1,10 +1,9 @@
 use Rattle.std.proofs.Common.{map, sym, ap, subst, ◌∙◌, arith}
-use Rattle.std.proofs.lemmas.List.{take_all}
+use Rattle.std.proofs.lemmas.List.{drop_all, take_all}
 use Rattle.std.specs.List.{list_all}
 use Rattle.std.specs.Str.{IsUtf8}
 use Rattle.project_manifest.specs.Manifests.{is_symbol_word, text_of}
 use Rattle.project_manifest.specs.Sayings.{as_written}
-use Rattle.project_manifest.proofs.Behind.{none_left}
 use Rattle.project_manifest.proofs.Utf8.{word_at}
 use Rattle.project_manifest.proofs.Worded.{symbol_never, symbols_left, symbols_more}
 use Rattle.project_manifest.proofs.words.symbols_of.Goals as goal
@@ -24,7 +23,7 @@ words-preserved c =
 
 pub returns : goal.returns
 returns c = (
-  sym c.words.invariant.all ∙ ap (λ z. list_all is_symbol_word (as_written z)) (none_left c.args.words.now c.words.word-index (omega arith)),
+  sym c.words.invariant.all ∙ ap (λ z. list_all is_symbol_word (as_written z)) (drop_all c.words.word-index c.args.words.now (omega arith)),
   c.words.invariant.so_far ∙ ap (λ z. map text_of (as_written z)) (take_all c.words.word-index c.args.words.now (omega arith)),
 )
 

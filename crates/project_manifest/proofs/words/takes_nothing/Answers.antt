@@ -1,6 +1,6 @@
 use Rattle.std.proofs.Common.{false, ap, sym, ◌∙◌, arith}
+use Rattle.std.proofs.lemmas.List.{drop_all}
 use Rattle.project_manifest.specs.Manifests.{takes_nothing}
-use Rattle.project_manifest.proofs.Behind.{none_left}
 use Rattle.project_manifest.proofs.Worded.{wasted_here, wasted_later}
 use Rattle.project_manifest.proofs.words.takes_nothing.Goals as goal
 
@@ -11,4 +11,4 @@ pub bytes-preserved : goal.bytes-preserved
 bytes-preserved c = wasted_later c.bytes.taking c.takes-taking.result c.args.word.now c.bytes.byte-index (takes_nothing false c.args.word.now) (omega arith) (sym c.is_wasted.ensures ∙ c.if-is_wasted.false) c.takes-taking.ensures c.bytes.invariant
 
 pub returns : goal.returns
-returns c = sym (ap (takes_nothing c.bytes.taking) (none_left c.args.word.now c.bytes.byte-index (omega arith))) ∙ c.bytes.invariant
+returns c = sym (ap (takes_nothing c.bytes.taking) (drop_all c.bytes.byte-index c.args.word.now (omega arith))) ∙ c.bytes.invariant

@@ -4,4 +4,4 @@ use Rattle.project_model.proofs.demands.first_failing.Given as goal
 
 -- the definitions so far meet it
 abbrev pub invariant-definitions : goal.invariant-definitions
-invariant-definitions l = All (DoesMeet l.demand) (take l.definition-index l.definitions)
+invariant-definitions l = All (DoesMeet l.forms l.demand) (take l.definition-index l.definitions)

@@ -1,5 +1,5 @@
 use Rattle.std.proofs.Common.{◌+◌, [], ◌∷◌, drop, arith}
-use Rattle.expr_leaves.proofs.Behind.{left_behind}
+use Rattle.word_relations.proofs.Behind.{left_behind}
 use Rattle.project_model.proofs.Gathering.{gather_more, still_short}
 use Rattle.project_model.proofs.plan.add_texts.Goals as goal
 

@@ -11,16 +11,16 @@ use Rattle.project_model.proofs.plan.check.Goals as goal
 pub returns-in-Some-clause-error : goal.returns-in-Some-clause-error
 returns-in-Some-clause-error c =
     let d = c.in-Some.definition.now in
-    refused_by (First (DemandFault c.args.definitions.now) demands) (fault d.file d.line why.NotALanguage) c.refused_at.result (inl c.in-Some.ensures) c.refused_at.ensures
+    refused_by (First (DemandFault c.args.definitions.now c.args.forms.now) demands) (fault d.file d.line why.NotALanguage) c.refused_at.result (inl c.in-Some.ensures) c.refused_at.ensures
 
 pub returns-in-Some-first_failing-clause-error : goal.returns-in-Some-first_failing-clause-error
 returns-in-Some-first_failing-clause-error c =
     let d = c.in-Some-first_failing.definition.now in
-    refused_by (First (DemandFault c.args.definitions.now) demands) (fault d.file d.line why.LimitWeight) c.refused_at-in-Some-first_failing.result
-    (inr (all_pass demand.Fits c.args.definitions.now c.in_default.ensures, inl c.in-Some-first_failing.ensures)) c.refused_at-in-Some-first_failing.ensures
+    refused_by (First (DemandFault c.args.definitions.now c.args.forms.now) demands) (fault d.file d.line why.LimitWeight) c.refused_at-in-Some-first_failing.result
+    (inr (all_pass c.args.forms.now demand.Fits c.args.definitions.now c.in_default.ensures, inl c.in-Some-first_failing.ensures)) c.refused_at-in-Some-first_failing.ensures
 
 pub returns-in-Some-first_failing-2-clause-error : goal.returns-in-Some-first_failing-2-clause-error
 returns-in-Some-first_failing-2-clause-error c =
     let d = c.in-Some-first_failing-2.definition.now in
-    refused_by (First (DemandFault c.args.definitions.now) demands) (fault d.file d.line why.NotBuilt) c.refused_at-in-Some-first_failing-2.result
-    (inr (all_pass demand.Fits c.args.definitions.now c.in_default.ensures, inr (all_pass demand.Light c.args.definitions.now c.in_default-first_failing.ensures, inl c.in-Some-first_failing-2.ensures))) c.refused_at-in-Some-first_failing-2.ensures
+    refused_by (First (DemandFault c.args.definitions.now c.args.forms.now) demands) (fault d.file d.line why.NotBuilt) c.refused_at-in-Some-first_failing-2.result
+    (inr (all_pass c.args.forms.now demand.Fits c.args.definitions.now c.in_default.ensures, inr (all_pass c.args.forms.now demand.Light c.args.definitions.now c.in_default-first_failing.ensures, inl c.in-Some-first_failing-2.ensures))) c.refused_at-in-Some-first_failing-2.ensures

@@ -1,11 +1,11 @@
 use Rattle.std.proofs.Common.{◌≡◌, ◌+◌, map, drop, sym, ap, ◌∙◌, arith}
 use Rattle.std.specs.List.{flat_map}
+use Rattle.word_relations.proofs.Behind.{left_behind}
 use Rattle.regex_ast.specs.Terms.{term}
 use Rattle.regex_reader.specs.Files.{statement_of}
 use Rattle.project_meaning.specs.Leaves.{leaf_of, symbol_in}
 use Rattle.project_model.specs.Gathered.{gathered, symbol_beside, symbols_beside, symbols_of_all}
 use Rattle.expr_leaves.specs.Leaves.{seen}
-use Rattle.expr_leaves.proofs.Behind.{left_behind}
 use Rattle.project_model.proofs.Gathering.{gather_more, still_short, listed_is}
 use Rattle.project_model.proofs.Mapped.{mapped_listed}
 use Rattle.project_model.proofs.symbols.symbols_of.Goals as goal

@@ -38,7 +38,7 @@ ignored-operands-preserved t c =
 
 pub ignored-returns : goal.ignored-returns
 ignored-returns t c =
-    ignored_read c.args.depth c.args.tokens.now c.in-Some.first.expr c.in-Some.first.expr c.in-Some.rest.now c.operands.more.items c.operands.rest.now (term c.in_ok-ignoring.field-0.expr) (search rules) c.operands.invariant (search rules) c.in_ok-ignoring.ensures
+    ignored_read c.args.depth c.args.tokens.now c.in-Some.first.expr c.in-Some.first.expr c.in-Some.rest.now c.operands.more.items c.operands.rest.now (term c.in_ok-ignore.field-0.expr) (search rules) c.operands.invariant (search rules) c.in_ok-ignore.ensures
 
 pub ignored-returns-in_default-2 : goal.ignored-returns-in_default-2
 ignored-returns-in_default-2 t c =
@@ -67,7 +67,7 @@ concatenation-operands-preserved t c =
 
 pub concatenation-returns : goal.concatenation-returns
 concatenation-returns t c =
-    concat_read c.args.depth c.args.tokens.now c.in-Some.first.expr c.in-Some.first.expr c.in-Some.rest.now c.operands.more.items c.operands.rest.now (term c.in_ok-side_by_side.field-0.expr) (search rules) c.operands.invariant (search rules) c.in_ok-side_by_side.ensures
+    concat_read c.args.depth c.args.tokens.now c.in-Some.first.expr c.in-Some.first.expr c.in-Some.rest.now c.operands.more.items c.operands.rest.now (term c.in_ok-concatenate.field-0.expr) (search rules) c.operands.invariant (search rules) c.in_ok-concatenate.ensures
 
 pub concatenation-returns-in_default-2 : goal.concatenation-returns-in_default-2
 concatenation-returns-in_default-2 t c =
@@ -96,7 +96,7 @@ chain-links-preserved t c =
 
 pub chain-returns : goal.chain-returns
 chain-returns t c =
-    chain_read c.args.depth c.args.tokens.now c.in-Some.first.expr c.in-Some.first.expr c.in-Some.rest.now c.links.links.items c.links.rest.now (term c.in_ok-with_links.field-0.expr) (search rules) c.links.invariant (search rules) c.in_ok-with_links.ensures
+    chain_read c.args.depth c.args.tokens.now c.in-Some.first.expr c.in-Some.first.expr c.in-Some.rest.now c.links.links.items c.links.rest.now (term c.in_ok-add_links.field-0.expr) (search rules) c.links.invariant (search rules) c.in_ok-add_links.ensures
 
 pub chain-returns-in_default-2 : goal.chain-returns-in_default-2
 chain-returns-in_default-2 t c =
@@ -125,7 +125,7 @@ steps-steps-preserved t c =
 
 pub steps-returns : goal.steps-returns
 steps-returns t c =
-    steps_read c.args.depth c.args.tokens.now c.in-Some.first.expr c.in-Some.first.expr c.in-Some.rest.now c.steps.found.items c.steps.rest.now (term c.in_ok-with_steps.field-0.expr) (search rules) c.steps.invariant (search rules) c.in_ok-with_steps.ensures
+    steps_read c.args.depth c.args.tokens.now c.in-Some.first.expr c.in-Some.first.expr c.in-Some.rest.now c.steps.found.items c.steps.rest.now (term c.in_ok-add_steps.field-0.expr) (search rules) c.steps.invariant (search rules) c.in_ok-add_steps.ensures
 
 pub steps-returns-in_default-2 : goal.steps-returns-in_default-2
 steps-returns-in_default-2 t c =
@@ -271,7 +271,7 @@ ruling-returns t c =
 
 pub negated-returns : goal.negated-returns
 negated-returns t c =
-    negated_read c.args.depth c.args.tokens.now c.backslashes-marks.result.0 c.backslashes-marks.result.1.now (term c.in-Some.operand.expr) c.in-Some.rest.now (term c.in_ok-with_backslashes.field-0.expr) c.backslashes-marks.ensures (search rules) c.in_ok-with_backslashes.ensures
+    negated_read c.args.depth c.args.tokens.now c.backslashes-marks.result.0 c.backslashes-marks.result.1.now (term c.in-Some.operand.expr) c.in-Some.rest.now (term c.in_ok-add_backslashes.field-0.expr) c.backslashes-marks.ensures (search rules) c.in_ok-add_backslashes.ensures
 
 pub negated-returns-in_default : goal.negated-returns-in_default
 negated-returns-in_default t c =
@@ -295,7 +295,7 @@ crossed-returns t c =
 
 pub suffixed-returns : goal.suffixed-returns
 suffixed-returns t c =
-    suffixed_read c.args.depth c.args.tokens.now (term c.in-Some.operand.expr) c.in-Some.rest.now c.in-Some-2.marks.items c.in-Some-2.rest.now (term c.in_ok-with_suffixes.field-0.expr) (search rules) (search rules) c.in_ok-with_suffixes.ensures
+    suffixed_read c.args.depth c.args.tokens.now (term c.in-Some.operand.expr) c.in-Some.rest.now c.in-Some-2.marks.items c.in-Some-2.rest.now (term c.in_ok-add_suffixes.field-0.expr) (search rules) (search rules) c.in_ok-add_suffixes.ensures
 
 pub suffixed-returns-in_default : goal.suffixed-returns-in_default
 suffixed-returns-in_default t c =
@@ -307,7 +307,7 @@ suffixed-returns-in_default-2 t c =
 
 pub prefixed-returns : goal.prefixed-returns
 prefixed-returns t c =
-    prefixed_read c.args.depth c.args.tokens.now c.in_ok-marks.marks.items c.in_ok-marks.rest.now (term c.in-Some.operand.expr) c.in-Some.rest.now (term c.in_ok-with_prefixes.field-0.expr) (search rules) (search rules) c.in_ok-with_prefixes.ensures
+    prefixed_read c.args.depth c.args.tokens.now c.in_ok-marks.marks.items c.in_ok-marks.rest.now (term c.in-Some.operand.expr) c.in-Some.rest.now (term c.in_ok-add_prefixes.field-0.expr) (search rules) (search rules) c.in_ok-add_prefixes.ensures
 
 pub prefixed-returns-in_default : goal.prefixed-returns-in_default
 prefixed-returns-in_default t c =

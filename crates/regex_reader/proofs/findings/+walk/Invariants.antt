@@ -6,20 +6,20 @@ use Rattle.regex_reader.proofs.findings.+walk.Given as goal
 
 -- what was found with what is in the other items
 
-abbrev pub invariant-in_contexts-contexts : goal.invariant-in_contexts-contexts
-invariant-in_contexts-contexts l = either l.found (found_in (each_context (contexts_of (drop l.context-index l.contexts)))) ≡ found_in (each_context (contexts_of l.contexts))
+abbrev pub invariant-find_in_contexts-contexts : goal.invariant-find_in_contexts-contexts
+invariant-find_in_contexts-contexts l = either l.found (found_in (each_context (contexts_of (drop l.context-index l.contexts)))) ≡ found_in (each_context (contexts_of l.contexts))
 
-abbrev pub invariant-in_each-operands : goal.invariant-in_each-operands
-invariant-in_each-operands l = either l.found (found_in (each_of l.inside (terms_of (map term (drop l.operand-index l.operands))))) ≡ found_in (each_of l.inside (terms_of (map term l.operands)))
+abbrev pub invariant-find_in_each-operands : goal.invariant-find_in_each-operands
+invariant-find_in_each-operands l = either l.found (found_in (each_of l.inside (terms_of (map term (drop l.operand-index l.operands))))) ≡ found_in (each_of l.inside (terms_of (map term l.operands)))
 
-abbrev pub invariant-in_groups-groups : goal.invariant-in_groups-groups
-invariant-in_groups-groups l = either l.found (found_in (each_group l.inside (groups_of (drop l.group-index l.groups)))) ≡ found_in (each_group l.inside (groups_of l.groups))
+abbrev pub invariant-find_in_groups-groups : goal.invariant-find_in_groups-groups
+invariant-find_in_groups-groups l = either l.found (found_in (each_group l.inside (groups_of (drop l.group-index l.groups)))) ≡ found_in (each_group l.inside (groups_of l.groups))
 
-abbrev pub invariant-in_links-links : goal.invariant-in_links-links
-invariant-in_links-links l = either l.found (found_in (each_link l.inside (links_of (drop l.link-index l.links)))) ≡ found_in (each_link l.inside (links_of l.links))
+abbrev pub invariant-find_in_links-links : goal.invariant-find_in_links-links
+invariant-find_in_links-links l = either l.found (found_in (each_link l.inside (links_of (drop l.link-index l.links)))) ≡ found_in (each_link l.inside (links_of l.links))
 
-abbrev pub invariant-in_mappings-mappings : goal.invariant-in_mappings-mappings
-invariant-in_mappings-mappings l = either l.found (found_in (each_mapping l.inside (mappings_of (drop l.mapping-index l.mappings)))) ≡ found_in (each_mapping l.inside (mappings_of l.mappings))
+abbrev pub invariant-find_in_mappings-mappings : goal.invariant-find_in_mappings-mappings
+invariant-find_in_mappings-mappings l = either l.found (found_in (each_mapping l.inside (mappings_of (drop l.mapping-index l.mappings)))) ≡ found_in (each_mapping l.inside (mappings_of l.mappings))
 
-abbrev pub invariant-in_steps-steps : goal.invariant-in_steps-steps
-invariant-in_steps-steps l = either l.found (found_in (each_step l.inside (steps_by (drop l.step-index l.steps)))) ≡ found_in (each_step l.inside (steps_by l.steps))
+abbrev pub invariant-find_in_steps-steps : goal.invariant-find_in_steps-steps
+invariant-find_in_steps-steps l = either l.found (found_in (each_step l.inside (steps_by (drop l.step-index l.steps)))) ≡ found_in (each_step l.inside (steps_by l.steps))

@@ -10,6 +10,6 @@ use Rattle.regex_reader.proofs.statement.checked.Goals as goal
 
 pub returns-then-found : goal.returns-then-found
 returns-then-found c =
-    let misplaced = ap (λ (f : Findings). f.misplaced_edge) (sym c.in_expression-found.ensures) ∙ c.if-found.true in
-    let reads : IsReading c.args.tokens.now (Some (term c.in-Some.expr)) = subst (λ (r : Option (Expr Raw)). IsReading c.args.tokens.now (option_map term r)) c.in-Some.is c.in-Ok.ensures in
+    let misplaced = ap (λ (f : Findings). f.misplaced_edge) (sym c.find_in_expression-found.ensures) ∙ c.if-found.true in
+    let reads : IsReading c.args.tokens.now (Some (term c.in-Some.expr)) = subst (λ (r : Option (Expr Raw)). IsReading c.args.tokens.now (option_map term r)) c.in-Some.is c.in_ok-expr.ensures in
     (refl, refl, no_other_term c.args.tokens.now (term c.in-Some.expr) reads misplaced)

@@ -3,4 +3,4 @@ use Rattle.fsm_program.proofs.project.Project.find.Given as goal
 
 -- no definition so far has the name
 abbrev pub invariant-definitions : goal.invariant-definitions
-invariant-definitions l = All (λ d. d.name ≡ l.name → ⊥) (take l.definition-index l.definition-items)
+invariant-definitions l = All (λ d. d.name ≡ l.name → ⊥) (take l.place l.all)

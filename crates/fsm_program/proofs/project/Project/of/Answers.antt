@@ -10,6 +10,6 @@ invariant_of-result c =
     (c.symbols.ensures.formed, c.in_ok-alphabet.ensures.formed, ap symbols_of is ∙ symbols_of-listed c.args.table.now c.args.plan.symbols)
 
 pub returns : goal.returns
-returns c said is =
+returns c said is sound =
     let alphabet = rw c.symbols.ensures.symbols at c.in_ok-alphabet.ensures.alphabet in
-    loaded_is said c.args.plan c.args.table.now c.in_ok-alphabet.alphabet is c.symbols.ensures.formed alphabet c.in_ok-alphabet.ensures.formed
+    loaded_is said c.args.plan c.args.table.now c.in_ok-alphabet.alphabet is sound c.symbols.ensures.formed alphabet c.in_ok-alphabet.ensures.formed

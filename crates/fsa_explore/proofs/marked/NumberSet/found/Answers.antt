@@ -1,5 +1,0 @@
-use Rattle.fsa_explore.proofs.Marking.{IsMarking-bounded}
-use Rattle.fsa_explore.proofs.marked.NumberSet.found.Goals as goal
-
-pub returns-clause-bounded : goal.returns-clause-bounded
-returns-clause-bounded c = rw (← c.self.view_is) (IsMarking-bounded _ _ c.self.invariant)

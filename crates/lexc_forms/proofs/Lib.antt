@@ -1,0 +1,6 @@
+pub mod Encoding
+pub mod Positions
+pub mod Marks
+pub mod Symbols
+pub mod Pieces
+pub mod Sides

@@ -1,0 +1,4 @@
+pub mod Letters
+pub mod Fronts
+pub mod Forms
+pub mod Kept

@@ -1,0 +1,4 @@
+pub mod Limits
+pub mod Lexicons
+pub mod Entries
+pub mod Files

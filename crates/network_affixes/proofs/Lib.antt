@@ -1,0 +1,4 @@
+pub mod Alike
+pub mod Suffixed
+pub mod Repeats
+pub mod PrefixRows

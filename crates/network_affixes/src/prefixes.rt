@@ -1,0 +1,63 @@
+ghost use Rattle.std.specs.Prelude.{◌≡◌, ◌↔◌, IfOk, IsTrue, List, Some};
+ghost use Rattle.fsm_base.specs.declared.letters.Bound.{Bound};
+ghost use Rattle.fsm_base.specs.declared.letters.Sym.{Sym};
+ghost use Rattle.word_relations.specs.Words.{IsDistinct};
+ghost use Rattle.fsa.specs.Language.{Accepts};
+ghost use Rattle.expr_meaning.specs.Operators.{ArePrefixed, IsNotOne};
+ghost use Rattle.network_algebra.specs.Networks.{UsesOnly, all_letters};
+
+use fsa::Fsa;
+use fsm_base::{Bound, Sym};
+use network_sets::{apply_prefix, not_one};
+use regex_ast::Prefix;
+use std::alloc::{AllocError, Global};
+
+/// Whether a prefix makes nothing new before the last one: `$` before `$`.
+fn makes_nothing_new(prefix: Prefix, last: Option<Prefix>) -> bool
+    ensures { IsTrue result → (prefix ≡ Prefix.Contains) × (last ≡ Some Prefix.Contains) }
+{
+    matches!((prefix, last), (Prefix::Contains, Some(Prefix::Contains)))
+}
+
+/// A language with prefixes, of which the last stands at it.
+pub fn apply_prefixes(
+    alloc: Global,
+    alphabet: &[Sym],
+    prefixes: &[Prefix],
+    mut words: Fsa<Bound<Sym>>,
+) -> Result<Fsa<Bound<Sym>>, AllocError>
+    requires distinct { IsDistinct alphabet.now }
+    requires only { UsesOnly (all_letters alphabet.now) words }
+    ensures letters { IfOk result (UsesOnly (all_letters alphabet.now)) }
+    ensures words { IfOk result (λ m. (w : List (Bound Sym)) → Accepts m w ↔ ArePrefixed alphabet.now prefixes.now (Accepts words) w) }
+{
+    let mut rest = prefixes;
+    let mut last = None;
+    'prefixes: while let Some((prefix, front)) = rest.split_last() {
+        rest = front;
+        if makes_nothing_new(*prefix, last) {
+            continue;
+        }
+        words = apply_prefix(alloc, alphabet, *prefix, &words)?;
+        last = Some(*prefix);
+    }
+    Ok(words)
+}
+
+/// A language with so many backslashes.
+pub fn not_one_times(
+    alloc: Global,
+    alphabet: &[Sym],
+    count: u32,
+    mut words: Fsa<Bound<Sym>>,
+) -> Result<Fsa<Bound<Sym>>, AllocError>
+    requires distinct { IsDistinct alphabet.now }
+    requires only { UsesOnly (all_letters alphabet.now) words }
+    ensures letters { IfOk result (UsesOnly (all_letters alphabet.now)) }
+    ensures words { IfOk result (λ m. (w : List (Bound Sym)) → Accepts m w ↔ IsNotOne alphabet.now count (Accepts words) w) }
+{
+    'times: for _ in 0..count {
+        words = not_one(alloc, alphabet, &words)?;
+    }
+    Ok(words)
+}

@@ -1,0 +1,9 @@
+//! Rules of replacement by the languages of their parts. Read `specs/Rules.antt`: when rules of languages are those of an
+//! expression. Where they are, `replace` (replace_rules) relates what the expression relates (`proofs/Meaning.antt`).
+//!
+//! - [`inner_language`]: a part as a language over the symbols of an alphabet.
+#![tactic(auto)]
+
+mod langs;
+
+pub use langs::inner_language;

@@ -1,0 +1,38 @@
+-- Which definitions refer to which, by their places: an order of them, and the first of them that reaches itself.
+use Rattle.std.specs.Prelude.{◌≡◌, ℕ, List, [], ◌∷◌, cond, length, map, nat_lt, Some, slice_get}
+use Rattle.regex_ast.specs.declared.expr.Atom.{Atom}
+use Rattle.regex_ast.specs.declared.expr.Atom.TheVariants.{Sym, Name}
+use Rattle.regex_ast.specs.declared.fault.Fault.{Fault}
+use Rattle.regex_ast.specs.declared.fault.Why.TheVariants as why
+use Rattle.regex_ast.specs.Terms.{Term}
+use Rattle.expr_leaves.specs.Leaves.{listed}
+use Rattle.name_order.specs.Orders.{IsFirstCycle, IsOrder}
+use Rattle.project_sources.specs.Faults.{fault}
+use Rattle.project_model.specs.Plans.{IsPlan, PlanView, body_term}
+use Rattle.project_model.specs.declared.definition.Definition.{Definition}
+
+-- the place of a leaf that is a name, where it is the place of a definition
+abbrev pub place_in : ℕ → Atom → List ℕ
+place_in count (Sym s) = []
+place_in count (Name place) = cond (nat_lt place count) (place ∷ []) []
+
+-- the places of the names in an expression
+abbrev pub places_in : ℕ → Term Atom → List ℕ
+places_in count t = listed (place_in count) t
+
+-- for each definition, the places of those that it refers to
+abbrev pub references_of : List Definition → List (List ℕ)
+references_of definitions = map (λ d. places_in (length definitions) (body_term d.body)) definitions
+
+-- the fault of the first definition that reaches itself
+pub record CycleFault (definitions : List Definition) (found : Fault) : Type 0 where
+  pub place : ℕ
+  pub definition : Definition
+  pub first : IsFirstCycle (references_of definitions) place
+  pub at : slice_get definitions place ≡ Some definition
+  pub is : found ≡ fault definition.file definition.line why.Cycle
+
+-- a plan, with the places of its definitions in an order in which each stands behind those that it refers to
+pub record IsOrderedPlan (plan : PlanView) (order : List ℕ) : Type 0 where
+  pub formed : IsPlan plan
+  pub ordered : IsOrder (references_of plan.definitions) order
