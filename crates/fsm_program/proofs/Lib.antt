@@ -1,9 +1,9 @@
-pub mod Building
 pub mod Endings
 pub mod LastByte
 pub mod Lawful
 pub mod Loading
 pub mod Named
+pub mod Networks
 pub mod Ordered
 pub mod Parts
 pub mod Runs

@@ -15,7 +15,8 @@ use std::alloc::{AllocError, Global};
 
 /// Puts the number of a leaf that is a name at its place, if there is such a place.
 fn add_name(leaf: &Atom, names: &mut [Option<u32>])
-    ensures { (before : List Leaf) → AreNamesAmong before names.old → AreNamesAmong (before ++ leaf.now ∷ []) names.new }
+    ensures count { length names.new ≡ length names.old }
+    ensures names { (before : List Leaf) → AreNamesAmong before names.old → AreNamesAmong (before ++ leaf.now ∷ []) names.new }
 {
     let Atom::Name(name) = *leaf else {
         return;

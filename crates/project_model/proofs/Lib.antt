@@ -2,15 +2,15 @@ mod Filed
 mod Rowed
 mod Texts
 mod NameSteps
-mod Gathering
+pub mod Gathering
 mod Built
 pub mod Mapped
 pub mod Alphabets
-mod Leaves
+pub mod Leaves
 mod Adding
 pub mod Expressions
 mod Told
-mod Referring
+pub mod Referring
 mod Demanded
 mod Forming
 mod Sound

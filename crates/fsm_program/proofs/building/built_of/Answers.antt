@@ -1,7 +1,7 @@
 use Rattle.std.proofs.Common.{◌≡◌, ◌<◌, ◌∙◌, List, Some, length, refl, slice_get, subst, sym}
 use Rattle.std.proofs.lemmas.Option.{slice_get_read}
 use Rattle.project_model.specs.declared.definition.Definition.{Definition}
-use Rattle.fsm_program.proofs.Building.{built_at, built_over, fits, ground}
+use Rattle.fsm_program.proofs.Networks.{built_at, built_over, fits, ground}
 use Rattle.fsm_program.proofs.building.built_of.Goals as goal
 
 pub bounds-all-place : goal.bounds-all-place

@@ -1,4 +1,4 @@
-use Rattle.fsm_program.proofs.Building.{BuiltSoFar}
+use Rattle.fsm_program.proofs.Networks.{BuiltSoFar}
 use Rattle.fsm_program.proofs.building.network_at.Given as goal
 
 -- the networks so far

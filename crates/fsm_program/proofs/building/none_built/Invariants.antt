@@ -5,6 +5,6 @@ use Rattle.fsm_program.proofs.building.none_built.Given as goal
 -- none is built
 abbrev pub invariant-places : goal.invariant-places
 invariant-places l = record {
-  count : length l.built.items ≡ length l.yielded;
+  count : length l.built.items ≡ l.counter;
   none : (place : ℕ) (n : Network) → slice_get l.built.items place ≡ Some (Some n) → ⊥;
 }

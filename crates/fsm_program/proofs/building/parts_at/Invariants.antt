@@ -1,4 +1,4 @@
-use Rattle.fsm_program.proofs.Building.{PartsSoFar}
+use Rattle.fsm_program.proofs.Networks.{PartsSoFar}
 use Rattle.fsm_program.proofs.building.parts_at.Given as goal
 
 -- the parts of the places so far

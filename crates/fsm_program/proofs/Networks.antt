@@ -3,14 +3,15 @@ use Rattle.std.proofs.Common.{◌≡◌, ◌<◌, ◌≤◌, ◌+◌, ◌++◌, 
 use Rattle.std.proofs.Math.ListN.{replicate, set}
 use Rattle.std.proofs.lemmas.Bool.{cases_eq}
 use Rattle.std.proofs.lemmas.Bool.Decides.{nat_tests}
-use Rattle.std.proofs.lemmas.List.{get_or-replicate, length-map, length-replicate, length-set, take_all, take_more}
+use Rattle.std.proofs.lemmas.List.{get_or-replicate, length-append, length-map, length-replicate, length-set, map-append, take_all, take_more}
 use Rattle.std.proofs.lemmas.List.Elements.{All-contains, All-contains_itself, All-weaker, Contains-append_left, Contains-append_right, Contains-push, Contains-push_cases, Contains-get_or}
 use Rattle.std.proofs.lemmas.List.Quantifiers.{all_pairs_push}
 use Rattle.std.proofs.lemmas.Option.{slice_get-get_or, slice_get-map, slice_get_within, same_Some}
+use Rattle.std.specs.Borrow.{Bor}
 use Rattle.std.specs.List.{flat_map}
 use Rattle.std.specs.Option.{option_map}
 use Rattle.word_relations.proofs.Members.{Contains-nil_cases, Contains-cons_cases, Contains-head}
-use Rattle.word_relations.proofs.Places.{Contains-from_slice_get, slice_get-set_other, slice_get-set_same}
+use Rattle.word_relations.proofs.Places.{Contains-from_slice_get, slice_get-append_left, slice_get-append_right, slice_get-set_other, slice_get-set_same}
 use Rattle.word_relations.specs.Relations.{AreSame}
 use Rattle.fsm_base.specs.Alphabet.{symbols_of}
 use Rattle.fsm_base.specs.declared.letters.Sym.{Sym as Symbol}
@@ -23,7 +24,7 @@ use Rattle.expr_kinds.specs.Built.{IsBuilt}
 use Rattle.expr_kinds.specs.Kinds.{Fits, kind_of}
 use Rattle.expr_kinds.specs.declared.form.Kind.{Kind}
 use Rattle.expr_kinds.proofs.LeafLaws.{fits_alike, kind_alike}
-use Rattle.expr_leaves.specs.Leaves.{leaves_in}
+use Rattle.expr_leaves.specs.Leaves.{leaves_in, seen}
 use Rattle.name_order.specs.Graph.{Refers}
 use Rattle.name_order.specs.Orders.{IsOrder}
 use Rattle.network_algebra.specs.Networks.{IsNetwork, kind_of_network}
@@ -188,6 +189,17 @@ module _ (before : List Atom) (leaf : Atom) (names : List (Option ℕ)) (are : A
               slice_get-set_other names p q (Some p) apart
               ∙ are.all q (omega (arith, inside, length-set names p (Some p))) (other_leaf (Name q) h (λ same. apart (sym (same_name q (sym is ∙ same)))))
 
+seen_more : (leaves : List (Bor Atom)) (i : ℕ) (d : Bor Atom) → i < length leaves → seen (take (i + 1) leaves) ≡ seen (take i leaves) ++ (get_or leaves i d).now ∷ []
+seen_more leaves i d below =
+    ap (λ (xs : List (Bor Atom)). seen xs) (take_more leaves i d below)
+    ∙ map-append (λ (x : Bor Atom). x.now) (take i leaves) (get_or leaves i d ∷ [])
+
+-- the names of a front of the leaves, and of one leaf more
+pub names_next : (leaves : List (Bor Atom)) (i : ℕ) (d : Bor Atom) (old new : List (Option ℕ)) → i < length leaves
+    → ((before : List Atom) → AreNamesAmong before old → AreNamesAmong (before ++ (get_or leaves i d).now ∷ []) new) → AreNamesAmong (seen (take i leaves)) old → AreNamesAmong (seen (take (i + 1) leaves)) new
+names_next leaves i d old new below more so_far =
+    subst (λ (xs : List Atom). AreNamesAmong xs new) (sym (seen_more leaves i d below)) (more (seen (take i leaves)) so_far)
+
 -- each item of a list of one item many times
 replicate_same : {X : Type 0} (n : ℕ) (x : X) (p : ℕ) (y : X) → slice_get (replicate n x) p ≡ Some y → x ≡ y
 replicate_same {X} n x p y at =
@@ -273,6 +285,20 @@ module _ (names : List (Option ℕ)) (built : List (Option Network)) where
     each = so_far.each;
     all = λ place named there. (let within = slice_get_within names place (Some place) named in so_far.all place (omega (arith, within, past)) named there);
   }
+
+clash : (n : Network) → ◌≡◌ {A = Option (Option Network)} (Some None) (Some (Some n)) → ⊥
+clash n e = cc
+
+-- one place more, without network
+pub none_pushed : (built : List (Option Network)) → ((place : ℕ) (n : Network) → slice_get built place ≡ Some (Some n) → ⊥) → (place : ℕ) (n : Network) → slice_get (built ++ None ∷ []) place ≡ Some (Some n) → ⊥
+none_pushed built none place n at = by (cases_eq place (0 + length built))
+  where
+    by : (place ≡ 0 + length built) ⊎ (place ≡ 0 + length built → ⊥) → ⊥
+    by (inl same) = clash n (sym (slice_get-append_right built (None ∷ []) 0) ∙ subst (λ (k : ℕ). slice_get (built ++ None ∷ []) k ≡ Some (Some n)) same at)
+    by (inr apart) =
+        let inside = slice_get_within (built ++ None ∷ []) place (Some n) at in
+        let within : place < length built = omega (arith, inside, length-append built (None ∷ []), apart) in
+        none place n (sym (slice_get-append_left built (None ∷ []) place within) ∙ at)
 
 -- the networks of a front of the order, of which the wanted one is none
 pub record BuiltSoFar (loaded : LoadedView) (order : List ℕ) (wanted i : ℕ) (built : List (Option Network)) : Type 0 where
