@@ -1,0 +1,5 @@
+mod Nested
+mod Ready
+pub mod Filled
+pub mod Mapped
+pub mod Seen
