@@ -19,8 +19,7 @@ use Rattle.regex_ast.specs.declared.expr.Atom.{Atom}
 use Rattle.regex_ast.specs.declared.expr.Atom.TheVariants.{Sym, Name}
 use Rattle.regex_ast.specs.Terms.{Term}
 use Rattle.expr_kinds.specs.Atoms.{is_leaf_at, is_symbol_of, kind_at, kinds_at, leaves_at}
-use Rattle.expr_kinds.proofs.Ruleless.{with_rules}
-use Rattle.expr_kinds.specs.Built.{IsBuilt}
+use Rattle.expr_kinds.specs.Built.{IsBuilt, IsBuiltBy}
 use Rattle.expr_kinds.specs.Kinds.{Fits, kind_of}
 use Rattle.expr_kinds.specs.declared.form.Kind.{Kind}
 use Rattle.expr_kinds.proofs.LeafLaws.{fits_alike, kind_alike}
@@ -29,7 +28,6 @@ use Rattle.name_order.specs.Graph.{Refers}
 use Rattle.name_order.specs.Orders.{IsOrder}
 use Rattle.network_algebra.specs.Networks.{IsNetwork, kind_of_network}
 use Rattle.network_algebra.specs.declared.network.Network.{Network}
-use Rattle.network_expr.specs.Built.{IsPlainOver}
 use Rattle.network_expr.specs.Parts.{IsGround, is_leaf_of, kind_of_part, kinds, part_of}
 use Rattle.network_expr.specs.declared.parts.Part.{Part}
 use Rattle.network_build.specs.Networks.{IsNetworkOf}
@@ -109,7 +107,7 @@ module _ (loaded : LoadedView) (plan : IsPlan (plan_in loaded)) (built : List (O
   sound : IsSoundOver loaded.forms alphabet d
   sound = All-contains (IsSoundOver loaded.forms alphabet) loaded.definitions d plan.sound (Contains-from_slice_get loaded.definitions place d at)
 
-  pub built_over : IsPlainOver parts alphabet t
+  pub built_over : IsBuiltBy (is_leaf_of parts alphabet) (is_symbol_of alphabet) t
   built_over = built_by (is_leaf_at loaded.forms alphabet) (is_symbol_of alphabet) (is_leaf_of parts alphabet) (is_symbol_of alphabet) t sound.built (leaf, λ a stood h. h)
     where
       leaf : (a : Atom) → Contains (leaves_in t) a → IsTrue (is_leaf_at loaded.forms alphabet a) → IsTrue (is_leaf_of parts alphabet a)

@@ -18,15 +18,13 @@ use Rattle.regex_ast.specs.Terms.{Term}
 use Rattle.regex_ast.specs.declared.expr.Raw.{Raw}
 use Rattle.expr_meaning.specs.Meaning.{Relates}
 use Rattle.expr_kinds.specs.Atoms.{is_symbol_of}
-use Rattle.expr_kinds.proofs.Ruleless.{with_rules}
-use Rattle.expr_kinds.specs.Built.{IsBuilt}
+use Rattle.expr_kinds.specs.Built.{IsBuilt, IsBuiltBy}
 use Rattle.expr_spelling.specs.Laws.{IsSpelled}
 use Rattle.expr_leaves.specs.Mapped.{mapped}
 use Rattle.expr_spelling.proofs.Leaves.{symbols_spelled}
 use Rattle.expr_spelling.proofs.Spelling.{spelling}
 use Rattle.network_algebra.specs.Networks.{PairsOf}
 use Rattle.network_algebra.specs.declared.network.Network.{Network}
-use Rattle.network_expr.specs.Built.{IsPlainOver}
 use Rattle.network_expr.specs.Parts.{is_leaf_of, named, part_of, stands}
 use Rattle.network_expr.specs.declared.parts.Part.{Part}
 use Rattle.network_build.proofs.Built.{built_both}
@@ -200,7 +198,7 @@ module _ (said : Said) (loaded : LoadedView) (from : IsLoadedFrom said loaded) w
       letter_passes (symbol text) h = h
       letter_passes (named_leaf name) h = absurd (never h)
 
-      module _ (n : Network) (built : IsPlainOver parts (symbols_of loaded.alphabet) (body_term d.body))
+      module _ (n : Network) (built : IsBuiltBy (is_leaf_of parts (symbols_of loaded.alphabet)) (is_symbol_of (symbols_of loaded.alphabet)) (body_term d.body))
           (relation : AreSame (PairsOf n) (Relates (stands parts) (symbols_of loaded.alphabet) (body_term d.body))) where
         by_number : body_term d.body ≡ mapped (atom_of names table) of.e
         by_number = of.term_is ∙ mapped_twice (numbered names table) (leaf_of names) of.e
@@ -210,11 +208,10 @@ module _ (said : Said) (loaded : LoadedView) (from : IsLoadedFrom said loaded) w
             let over : IsBodyOver table (xfst meant) = subst (IsBodyOver table) m_is (All-contains (λ (x : Meant). IsBodyOver table x.body) (project_in said).definitions m from.leaves m_among) in
             let by_text = subst (λ (T : Type 0). T) (mapped_built (is_leaf_over table) (is_symbol_over table) (leaf_of names) of.e) over in
             let by_part = subst (λ (T : Type 0). T) (mapped_built (is_leaf_of parts (symbols_of loaded.alphabet)) (is_symbol_of (symbols_of loaded.alphabet)) (atom_of names table) of.e)
-            (subst (IsPlainOver parts (symbols_of loaded.alphabet)) by_number built) in
-            with_rules (λ leaf. spells_leaf (leaf_of names leaf)) (λ leaf. spells_leaf (leaf_of names leaf)) _ _ of.e
-            (built_both (λ leaf. is_leaf_over table (leaf_of names leaf)) (λ leaf. is_symbol_over table (leaf_of names leaf))
+            (subst (IsBuiltBy (is_leaf_of parts (symbols_of loaded.alphabet)) (is_symbol_of (symbols_of loaded.alphabet))) by_number built) in
+            built_both (λ leaf. is_leaf_over table (leaf_of names leaf)) (λ leaf. is_symbol_over table (leaf_of names leaf))
             (λ leaf. is_leaf_of parts (symbols_of loaded.alphabet) (atom_of names table leaf)) (λ leaf. is_symbol_of (symbols_of loaded.alphabet) (atom_of names table leaf)) (λ leaf. spells_leaf (leaf_of names leaf))
-            (λ leaf h g. leaf_passes (leaf_of names leaf) h g) (λ leaf h. letter_passes (leaf_of names leaf) h) of.e by_text by_part)
+            (λ leaf h g. leaf_passes (leaf_of names leaf) h g) (λ leaf h. letter_passes (leaf_of names leaf) h) of.e by_text by_part
 
         -- the expression relates the same by numbers and by texts
         here : IsSpelled loaded.alphabet (Relates (stands parts) (symbols_of loaded.alphabet) (body_term d.body)) (Relates (means_by means) table meant)

@@ -4,6 +4,7 @@ ghost use Rattle.regex_ast.specs.Terms.{term};
 ghost use Rattle.expr_leaves.specs.Leaves.{leaves_in, seen};
 ghost use Rattle.network_algebra.specs.declared.network.Network.{Network as NetworkOf};
 ghost use Rattle.project_model.specs.Plans.{body_term};
+ghost use Rattle.fsm_program.specs.Centres.{CentresAreBuilt, HasNoCentreAt};
 ghost use Rattle.fsm_program.specs.Building.{AreBuilt, AreNamesAmong, ArePartsOf, HasParts, HasPut, IsBuiltAt};
 
 use crate::project::Project;
@@ -88,7 +89,7 @@ fn parts_in<'a>(
 }
 
 /// The parts of the names in what a name stands for.
-fn parts_of<'a>(
+pub fn parts_of<'a>(
     alloc: Global,
     body: &Body,
     built: &'a [Option<Network>],
@@ -109,6 +110,7 @@ fn built_of(
     requires place { place < length project.now.definitions }
     requires built { AreBuilt project.now built.now }
     requires parts { HasParts project.now built.now place }
+    requires free { HasNoCentreAt project.now place }
     ensures { IfOk result (IsBuiltAt project.now place) }
 {
     let plan = project.plan();
@@ -118,11 +120,13 @@ fn built_of(
     match build(alloc, definition, project.alphabet(), &parts) {
         Ok(network) => Ok(network),
         Err(BuildError::Memory(error)) => Err(error),
+        // each definition with a centre is built when the project is loaded
+        Err(BuildError::EmptyCentre { .. }) => unreachable!(),
     }
 }
 
 /// No networks, for so many definitions.
-fn none_built(alloc: Global, count: usize) -> Result<Vec<Option<Network>>, AllocError>
+pub fn none_built(alloc: Global, count: usize) -> Result<Vec<Option<Network>>, AllocError>
     ensures count { IfOk result (λ built. length built.items ≡ count) }
     ensures none { IfOk result (λ built. (place : ℕ) (n : NetworkOf) → slice_get built.items place ≡ Some (Some n) → ⊥) }
 {
@@ -134,16 +138,24 @@ fn none_built(alloc: Global, count: usize) -> Result<Vec<Option<Network>>, Alloc
 }
 
 /// The network of the definition at a place. The definitions that the project puts before it are built first, each once, since
-/// it may be made of their networks.
-pub fn network_at(alloc: Global, project: &Project, place: usize) -> Result<Network, AllocError>
-    requires { place < length project.now.definitions }
+/// it may be made of their networks; those with centres are built already.
+pub fn network_at(
+    alloc: Global,
+    project: &Project,
+    mut built: Vec<Option<Network>>,
+    place: usize,
+) -> Result<Network, AllocError>
+    requires place { place < length project.now.definitions }
+    requires centres { CentresAreBuilt project.now built.items }
     ensures { IfOk result (IsBuiltAt project.now place) }
 {
     let plan = project.plan();
     let order = plan.order();
-    let mut built = none_built(alloc, plan.definitions().len())?;
     'order: for next in order {
-        let network = built_of(alloc, project, *next, &built)?;
+        let network = match built[*next].take() {
+            Some(network) => network,
+            None => built_of(alloc, project, *next, &built)?,
+        };
         if *next == place {
             return Ok(network);
         }

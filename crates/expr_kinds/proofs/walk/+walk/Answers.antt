@@ -45,7 +45,7 @@ pub in_expression-returns-in-Rules : goal.in_expression-returns-in-Rules
 in_expression-returns-in-Rules t c =
     let is = ap term c.in-Rules.is ∙ term_rules c.in-Rules.rules in
     let all = rw c.deref-in-Rules.ensures.value at c.in_groups.ensures in
-    c.with_kind.ensures ∙ ap (λ f. with_kind f Relation) (c.heavier-in-Rules.ensures ∙ ap (λ f. heavier f 1) (c.as_language-in-Rules.ensures ∙ ap as_language (c.built_if-in-Rules.ensures ∙ ap (λ f. built_if f false) all))) ∙ ap (form_in (leaves_at c.args.names.now) (weights_at c.args.names.now) (is_known_at c.args.names.now) is_symbol) (sym is)
+    c.with_kind.ensures ∙ ap (λ f. with_kind f Relation) (c.heavier-in-Rules.ensures ∙ ap (λ f. heavier f 1) (c.as_language-in-Rules.ensures ∙ ap as_language all)) ∙ ap (form_in (leaves_at c.args.names.now) (weights_at c.args.names.now) (is_known_at c.args.names.now) is_symbol) (sym is)
 
 pub in_expression-returns-in-Steps : goal.in_expression-returns-in-Steps
 in_expression-returns-in-Steps t c =
