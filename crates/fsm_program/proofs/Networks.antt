@@ -115,7 +115,7 @@ module _ (loaded : LoadedView) (plan : IsPlan (plan_in loaded)) (built : List (O
       leaf (Name p) stood h = named_there p stood h
 
   alone : IsBuilt (is_leaf_of parts alphabet) t
-  alone = with_rules (is_leaf_of parts alphabet) (is_leaf_of parts alphabet) _ _ t (built_alone (is_leaf_of parts alphabet) (is_symbol_of alphabet) letter t built_over)
+  alone = built_alone (is_leaf_of parts alphabet) (is_symbol_of alphabet) letter t built_over
     where
       letter : (a : Atom) → IsTrue (is_symbol_of alphabet a) → IsTrue (is_leaf_of parts alphabet a)
       letter (Sym s) h = h
