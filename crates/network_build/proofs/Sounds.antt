@@ -1,5 +1,5 @@
 -- An expression is built over its alphabet and over its own symbols, and which symbols its network has.
-use Rattle.std.proofs.Common.{◌≡◌, ◌↔◌, ◌⊎◌, ◌==◌, ◌||◌, ℕ, Bool, true, false, List, [], ◌∷◌, Some, Contains, IsTrue, Result, Ok, Err, IfOk, refl, sym, subst, ap, ◌∙◌, inl, inr, eq-eqb}
+use Rattle.std.proofs.Common.{◌≡◌, ◌↔◌, ◌⊎◌, ◌==◌, ◌||◌, ℕ, Bool, true, false, List, [], ◌∷◌, Contains, IsTrue, Result, Ok, Err, IfOk, refl, sym, subst, ap, ◌∙◌, inl, inr, eq-eqb}
 use Rattle.std.proofs.lemmas.Bool.{eqb-true}
 use Rattle.std.proofs.lemmas.List.Elements.{All-contains, All-contains_itself, All-weaker}
 use Rattle.std.proofs.lemmas.Map.Views.{Contains-from_any}
@@ -23,9 +23,8 @@ use Rattle.regex_ast.specs.Terms.{Term}
 use Rattle.expr_kinds.specs.Atoms.{is_symbol_of}
 use Rattle.expr_meaning.specs.Meaning.{Relates}
 use Rattle.expr_meaning.specs.Operators.{inner}
-use Rattle.expr_leaves.specs.Alphabet.{uses_alphabet}
 use Rattle.expr_leaves.specs.Leaves.{leaves_in, seen}
-use Rattle.network_algebra.specs.Networks.{IsNetwork, PairsOf, UsesSymbols, all_letters}
+use Rattle.network_algebra.specs.Networks.{IsNetwork, UsesSymbols, all_letters}
 use Rattle.network_algebra.specs.declared.network.Network.{Network}
 use Rattle.network_algebra.specs.declared.network.Network.TheVariants.{Words, Pairs}
 use Rattle.network_expr.specs.Built.{IsBuiltOver, IsMeant}

@@ -1,5 +1,5 @@
 -- The symbols among leaves, gathered leaf by leaf.
-use Rattle.std.proofs.Common.{◌≡◌, ◌↔◌, ◌⊎◌, ◌+◌, ◌<◌, ◌++◌, ◌==◌, ℕ, Bool, true, false, List, [], ◌∷◌, Some, None, Option, Contains, length, take, get_or, refl, sym, ap, subst, ◌∙◌, inl, inr, eq-eqb, if◌then◌else◌}
+use Rattle.std.proofs.Common.{◌≡◌, ◌↔◌, ◌⊎◌, ◌+◌, ◌<◌, ◌++◌, ◌==◌, ℕ, Bool, true, false, List, [], ◌∷◌, Some, Option, Contains, length, take, get_or, refl, sym, ap, subst, ◌∙◌, inl, inr, eq-eqb, if◌then◌else◌}
 use Rattle.std.proofs.lemmas.Bool.{eqb-true}
 use Rattle.std.proofs.lemmas.List.{take_more, map-append, map-id}
 use Rattle.std.proofs.lemmas.List.Elements.{Contains-append_left, Contains-push, Contains-push_cases}
@@ -14,6 +14,7 @@ use Rattle.fsm_base.specs.declared.letters.Bound.TheVariants.{Inner}
 use Rattle.fsm_base.specs.declared.letters.Pair.{Pair}
 use Rattle.fsa.specs.Automaton.{Automaton}
 use Rattle.fsa.specs.declared.automaton.Edge.{Edge}
+use Rattle.network_algebra.specs.declared.network.Network.{Network}
 use Rattle.network_algebra.specs.declared.network.Network.TheVariants.{Words, Pairs}
 use Rattle.word_relations.specs.Words.{IsDistinct}
 use Rattle.word_relations.proofs.Members.{Contains-nil_cases}
@@ -140,17 +141,20 @@ given_as old new P Q same are s = (
   λ h. (are s).1 (elim h as (λ _. Contains old s ⊎ P s) [ inl o ↦ inl o | inr q ↦ inr ((same s).1 q) ]),
 )
 
--- the symbols of edges are those of the automaton
-pub words_use : (m : Automaton (Bound Symbol)) (s : Symbol) → Given Reads m.edges s ↔ UsesSymbol (Words m) s
-words_use m s = (λ h. h, λ h. h)
+-- the symbols of edges are those of the network that they are of
+pub words_use : (n : Network) (m : Automaton (Bound Symbol)) (edges : List (Edge (Bound Symbol))) → n ≡ Words m → edges ≡ m.edges → (s : Symbol) → Given Reads edges s ↔ UsesSymbol n s
+words_use n m edges is are s = rw (are, is) by
+  where
+    by : Given Reads m.edges s ↔ UsesSymbol (Words m) s
+    by = (λ h. h, λ h. h)
 
-pub pairs_use : (m : Automaton Pair) (s : Symbol) → Given Relates m.edges s ↔ UsesSymbol (Pairs m) s
-pairs_use m s = (λ (e, among, (pair, is, side)). (pair, (e, among, is), side), λ (pair, (e, among, is), side). (e, among, (pair, is, side)))
+pub pairs_use : (n : Network) (m : Automaton Pair) (edges : List (Edge Pair)) → n ≡ Pairs m → edges ≡ m.edges → (s : Symbol) → Given Relates edges s ↔ UsesSymbol n s
+pairs_use n m edges is are s = rw (are, is) by
+  where
+    by : Given Relates m.edges s ↔ UsesSymbol (Pairs m) s
+    by = (λ (e, among, (pair, is, side)). (pair, (e, among, is), side), λ (pair, (e, among, is), side). (e, among, (pair, is, side)))
 
--- a letter that is no symbol, and one that is
-pub letter_none : (old : List Symbol) (letter : Option (Bound Symbol)) → ((t : Symbol) → letter ≡ Some (Inner t) → ⊥) → (s : Symbol) → Contains old s ↔ (Contains old s ⊎ (letter ≡ Some (Inner s)))
-letter_none old letter none s = (λ at. inl at, λ h. elim h as (λ _. Contains old s) [ inl at ↦ at | inr is ↦ absurd (none s is) ])
-
+-- a letter that is a symbol
 inner_same : (a b : Symbol) → (Some (Inner a) ≡ Some (Inner b)) → a ≡ b
 inner_same a b e = cc
 
@@ -161,9 +165,6 @@ pub letter_one : (old new : List Symbol) (letter : Option (Bound Symbol)) (symbo
     → (s : Symbol) → Contains new s ↔ (Contains old s ⊎ (letter ≡ Some (Inner s)))
 letter_one old new letter symbol is = given_as old new (λ s. symbol ≡ s) (λ s. letter ≡ Some (Inner s)) (λ s. (λ e. is ∙ ap (λ (t : Symbol). Some (Inner t)) e, λ e. inner_same symbol s (sym is ∙ e)))
 
-pub side_none : (old : List Symbol) (side : Option Symbol) → side ≡ None → (s : Symbol) → Contains old s ↔ (Contains old s ⊎ (side ≡ Some s))
-side_none old side is s = (λ at. inl at, λ h. elim h as (λ _. Contains old s) [ inl at ↦ at | inr e ↦ (let no : None ≡ Some s = sym is ∙ e in absurd (cc)) ])
-
 pub side_one : (old new : List Symbol) (side : Option Symbol) (symbol : Symbol) → side ≡ Some symbol → ((s : Symbol) → Contains new s ↔ (Contains old s ⊎ (symbol ≡ s)))
     → (s : Symbol) → Contains new s ↔ (Contains old s ⊎ (side ≡ Some s))
 side_one old new side symbol is = given_as old new (λ s. symbol ≡ s) (λ s. side ≡ Some s) (λ s. (λ e. is ∙ ap (λ (t : Symbol). Some t) e, λ e. some_same symbol s (sym is ∙ e)))
@@ -171,12 +172,6 @@ side_one old new side symbol is = given_as old new (λ s. symbol ≡ s) (λ s. s
 -- both sides of a pair
 pair_same : (a b : Pair) → (Some a ≡ Some b) → a ≡ b
 pair_same a b e = cc
-
-pub pair_none : (old : List Symbol) (letter : Option Pair) → letter ≡ None → (s : Symbol) → Contains old s ↔ (Contains old s ⊎ ((pair : Pair) × (letter ≡ Some pair) × IsOn pair s))
-pair_none old letter is s = (
-  λ at. inl at,
-  λ h. elim h as (λ _. Contains old s) [ inl at ↦ at | inr (pair, e, side) ↦ (let no : None ≡ Some pair = sym is ∙ e in absurd (cc)) ],
-)
 
 pub pair_both : (old between new : List Symbol) (letter : Option Pair) (pair : Pair) → letter ≡ Some pair → ((s : Symbol) → Contains between s ↔ (Contains old s ⊎ (pair.up ≡ Some s)))
     → ((s : Symbol) → Contains new s ↔ (Contains between s ⊎ (pair.low ≡ Some s))) → (s : Symbol) → Contains new s ↔ (Contains old s ⊎ ((x : Pair) × (letter ≡ Some x) × IsOn x s))

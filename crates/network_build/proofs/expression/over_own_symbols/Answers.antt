@@ -2,7 +2,7 @@ use Rattle.std.proofs.Common.{inl}
 use Rattle.regex_ast.specs.Terms.{term}
 use Rattle.expr_spelling.proofs.Alphabets.{alphabet_free}
 use Rattle.network_expr.specs.Parts.{stands}
-use Rattle.network_build.proofs.Sounds.{built_over_own, ground_over_own, network_made, own_by_leaves, own_within}
+use Rattle.network_build.proofs.Sounds.{AreOwn, built_over_own, ground_over_own, network_made, own_by_leaves, own_within}
 use Rattle.network_build.proofs.expression.over_own_symbols.Goals as goal
 
 pub network_of-requires-clause-ground : goal.network_of-requires-clause-ground
@@ -23,6 +23,6 @@ returns c =
     let parts = c.args.parts.now in
     let alphabet = c.args.alphabet.now in
     let own = own_by_leaves c.in_ok-own.own.items e parts c.deref.result.now c.in_ok-leaves.field-0.items c.deref.ensures.value c.in_ok-leaves.ensures c.in_ok-own.ensures.same in
-    let mine = rw c.deref-2.ensures.value own in
+    let mine : AreOwn c.deref-2.result.now e parts = rw c.deref-2.ensures.value own in
     network_made parts alphabet c.deref-2.result.now e c.network_of.result (own_within parts alphabet c.deref-2.result.now e mine c.requires.ground c.requires.built) (λ s at. inl ((mine s).0 at))
     (alphabet_free (stands parts) c.deref-2.result.now alphabet e c.requires.free).1 c.network_of.ensures.letters c.network_of.ensures.meaning

@@ -1,8 +1,3 @@
-use Rattle.std.proofs.Common.{subst, sym}
-use Rattle.network_expr.specs.Built.{IsBuiltOver}
-use Rattle.network_expr.specs.Parts.{IsGround}
-use Rattle.project_model.specs.Plans.{body_term}
-use Rattle.network_build.specs.Networks.{IsNetworkOf}
 use Rattle.network_build.proofs.network.build.Goals as goal
 
 pub network_of_body-requires-clause-ground : goal.network_of_body-requires-clause-ground

@@ -1,5 +1,6 @@
-use Rattle.std.proofs.Common.{arith, subst}
+use Rattle.std.proofs.Common.{◌≡◌, ◌+◌, ◌++◌, ◌∷◌, [], arith, subst, sym, take}
 use Rattle.std.proofs.lemmas.List.{take_all, take_more}
+use Rattle.network_expr.specs.declared.parts.Part.{Part}
 use Rattle.network_build.proofs.Uses.{AreGiven, PartUses, given_more, given_none}
 use Rattle.network_build.proofs.symbols.add_parts.Goals as goal
 
@@ -8,7 +9,11 @@ parts-init c = given_none PartUses c.args.symbols.now.keys
 
 pub parts-preserved : goal.parts-preserved
 parts-preserved c =
-    given_more PartUses c.args.symbols.now.keys c.parts.symbols.keys c.add_network.new.symbols.keys c.args.parts.now c.parts.part-index _ (take_more c.args.parts.now c.parts.part-index _ (omega arith)) c.in_ok-add_network.ensures c.parts.invariant
+    let parts = c.args.parts.now in
+    let i = c.parts.part-index in
+    let part = c.part-item.result in
+    let front = subst (λ (p : Part). take (i + 1) parts ≡ take i parts ++ p ∷ []) (sym c.part-item.is) (take_more parts i part (omega arith)) in
+    given_more PartUses c.args.symbols.now.keys c.parts.symbols.keys c.add_network.new.symbols.keys parts i part front c.in_ok-add_network.ensures c.parts.invariant
 
 pub returns : goal.returns
 returns c = subst (AreGiven PartUses c.args.symbols.now.keys c.parts.symbols.keys) (take_all c.parts.part-index c.args.parts.now (omega arith)) c.parts.invariant
