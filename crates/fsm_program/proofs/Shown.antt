@@ -104,7 +104,7 @@ module _ (said : Said) (loaded : LoadedView) (from : IsLoadedFrom said loaded) w
 
   -- the definition at a place, and what was written there
   module _ (place : ℕ) (d : Definition) (at : slice_get loaded.definitions place ≡ Some d) where
-    found : (w : Written) × (slice_get said.written place ≡ Some w) × (entry_in names table w ≡ entry_of d)
+    pub found : (w : Written) × (slice_get said.written place ≡ Some w) × (entry_in names table w ≡ entry_of d)
     found =
         at_map (entry_in names table) said.written place (entry_of d)
         (ap (λ (es : List Entry). slice_get es place) (sym from.definitions) ∙ slice_get-map entry_of loaded.definitions place ∙ ap (option_map entry_of) at)

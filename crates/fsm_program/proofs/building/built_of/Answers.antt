@@ -1,6 +1,6 @@
-use Rattle.std.proofs.Common.{◌≡◌, ◌<◌, ◌∙◌, List, Some, length, refl, slice_get, subst, sym}
-use Rattle.std.proofs.lemmas.Option.{slice_get_read}
+use Rattle.std.proofs.Common.{◌≡◌, ◌<◌, ◌∙◌, List, Some, length, refl, rules, slice_get, subst, sym}
 use Rattle.project_model.specs.declared.definition.Definition.{Definition}
+use Rattle.fsm_program.proofs.Named.{stands_at}
 use Rattle.fsm_program.proofs.Networks.{built_at, built_over, fits, ground}
 use Rattle.fsm_program.proofs.building.built_of.Goals as goal
 
@@ -12,3 +12,43 @@ offset_bounds-all-place c =
     let below : c.args.place < length c.definitions-all.result.now =
     subst (λ (ds : List Definition). c.args.place < length ds) (sym (c.definitions-all.ensures.definitions ∙ c.plan-plan.ensures.definitions)) c.requires.place in
     search rules
+
+pub build-requires-clause-ground : goal.build-requires-clause-ground
+build-requires-clause-ground c =
+    let loaded = c.args.project.now in
+    let d = c.index-all-place.result in
+    let same = c.definitions-all.ensures.definitions ∙ c.plan-plan.ensures.definitions in
+    let below = subst (λ (ds : List Definition). c.args.place < length ds) (sym same) c.requires.place in
+    let at = stands_at c.definitions-all.result.now loaded.definitions c.args.place d same below c.index-all-place.is in
+    let (names, size, among, parts_are) = c.in_ok-parts.ensures in
+    rw (c.alphabet.ensures, c.deref.ensures.value) (ground loaded c.plan-plan.ensures.formed c.args.built.now c.requires.built c.args.place d at names size among c.in_ok-parts.parts.items parts_are c.requires.parts)
+
+pub build-requires-clause-built : goal.build-requires-clause-built
+build-requires-clause-built c =
+    let loaded = c.args.project.now in
+    let d = c.index-all-place.result in
+    let same = c.definitions-all.ensures.definitions ∙ c.plan-plan.ensures.definitions in
+    let below = subst (λ (ds : List Definition). c.args.place < length ds) (sym same) c.requires.place in
+    let at = stands_at c.definitions-all.result.now loaded.definitions c.args.place d same below c.index-all-place.is in
+    let (names, size, among, parts_are) = c.in_ok-parts.ensures in
+    rw (c.alphabet.ensures, c.deref.ensures.value) (built_over loaded c.plan-plan.ensures.formed c.args.built.now c.requires.built c.args.place d at names size among c.in_ok-parts.parts.items parts_are c.requires.parts)
+
+pub build-requires-clause-fits : goal.build-requires-clause-fits
+build-requires-clause-fits c =
+    let loaded = c.args.project.now in
+    let d = c.index-all-place.result in
+    let same = c.definitions-all.ensures.definitions ∙ c.plan-plan.ensures.definitions in
+    let below = subst (λ (ds : List Definition). c.args.place < length ds) (sym same) c.requires.place in
+    let at = stands_at c.definitions-all.result.now loaded.definitions c.args.place d same below c.index-all-place.is in
+    let (names, size, among, parts_are) = c.in_ok-parts.ensures in
+    rw c.deref.ensures.value (fits loaded c.plan-plan.ensures.formed c.args.built.now c.requires.built c.args.place d at names size among c.in_ok-parts.parts.items parts_are c.requires.parts)
+
+pub returns-in-Ok : goal.returns-in-Ok
+returns-in-Ok c =
+    let loaded = c.args.project.now in
+    let d = c.index-all-place.result in
+    let same = c.definitions-all.ensures.definitions ∙ c.plan-plan.ensures.definitions in
+    let below = subst (λ (ds : List Definition). c.args.place < length ds) (sym same) c.requires.place in
+    let at = stands_at c.definitions-all.result.now loaded.definitions c.args.place d same below c.index-all-place.is in
+    let (names, size, among, parts_are) = c.in_ok-parts.ensures in
+    built_at loaded c.plan-plan.ensures.formed c.args.built.now c.requires.built c.args.place d at names size among c.in_ok-parts.parts.items parts_are c.requires.parts c.in-Ok.network (rw (c.alphabet.ensures, c.deref.ensures.value) at c.in-Ok.ensures)

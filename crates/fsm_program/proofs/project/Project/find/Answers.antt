@@ -6,13 +6,13 @@ use Rattle.fsm_program.proofs.project.Project.find.Goals as goal
 pub returns-then-eq : goal.returns-then-eq
 returns-then-eq c =
     let same = c.definitions-all.ensures.definitions in
-    let at = stands_at c.definitions-all.result.now c.self.inside.plan.definitions c.definitions.place c.definition-item.result same (omega arith) c.definition-item.is in
+    let at = stands_at c.definitions-all.result.now c.self.inside.plan.definitions c.definitions.place c.index-all-place.result same (omega arith) c.index-all-place.is in
     let named = sym c.as_str.ensures ∙ (bytes_eq-Decides c.as_str.result.now c.args.name.now).0 (sym c.eq.ensures ∙ c.if-eq.true) in
-    rw (← c.self.view_is) (c.definition-item.result, at, named)
+    rw (← c.self.view_is) (c.index-all-place.result, at, named)
 
 pub definitions-preserved : goal.definitions-preserved
 definitions-preserved c =
-    none_more (λ d. d.name ≡ c.args.name.now → ⊥) c.definitions-all.result.now c.definitions.place c.definition-item.result (omega arith) c.definition-item.is c.definitions.invariant
+    none_more (λ d. d.name ≡ c.args.name.now → ⊥) c.definitions-all.result.now c.definitions.place c.index-all-place.result (omega arith) c.index-all-place.is c.definitions.invariant
     (λ named. true≢false (sym ((bytes_eq-Decides c.as_str.result.now c.args.name.now).1 (c.as_str.ensures ∙ named)) ∙ sym c.eq.ensures ∙ c.if-eq.false))
 
 pub returns : goal.returns
