@@ -1,61 +1,110 @@
 -- Empty centres of a loaded project's definitions, by the places of these.
-use Rattle.std.specs.Prelude.{◌≡◌, ◌<◌, ◌⊎◌, ◌↔◌, ℕ, Bool, false, true, List, [], IsTrue, Contains, Option, None, Some, length, slice_get}
+use Rattle.std.specs.Prelude.{◌≡◌, ◌<◌, ◌⊎◌, ℕ, Bool, false, true, List, [], Contains, Option, None, Some, length, slice_get, slice_set}
 use Rattle.network_algebra.specs.declared.network.Network.{Network}
+use Rattle.network_build.specs.declared.compiled.BuildError.{BuildError}
+use Rattle.network_build.specs.declared.compiled.BuildError.TheVariants as unbuilt
 use Rattle.name_order.specs.Graph.{Refers}
 use Rattle.project_meaning.specs.Centres.{HasEmptyCentre, HasOwnEmptyCentre, centres_in}
 use Rattle.project_meaning.specs.Projects.{Project, Reaches, names_of}
 use Rattle.project_model.specs.Plans.{body_term}
 use Rattle.project_model.specs.Referring.{references_of}
 use Rattle.project_model.specs.declared.definition.Definition.{Definition}
+use Rattle.regex_ast.specs.declared.expr.Atom.{Atom}
+use Rattle.regex_ast.specs.declared.expr.Atom.TheVariants.{Sym, Name}
 use Rattle.regex_ast.specs.declared.fault.Why.TheVariants as why
 use Rattle.project_sources.specs.Faults.{fault}
 use Rattle.project_sources.specs.Sources.{Said, project_in}
-use Rattle.fsm_program.specs.Building.{AreBuilt, IsThere}
+use Rattle.fsm_program.specs.Building.{AreBuilt, IsBuiltAt, IsThere}
 use Rattle.fsm_program.specs.Loaded.{IsLoadedFrom, LoadedView}
+use Rattle.fsm_program.specs.declared.centres.Outcome.{Outcome}
+use Rattle.fsm_program.specs.declared.centres.Outcome.TheVariants.{Built, EmptyCentre, Behind}
 use Rattle.fsm_program.specs.declared.load.LoadError.{LoadError}
 use Rattle.fsm_program.specs.declared.load.LoadError.TheVariants.{Failed, Memory, Refused}
 
--- the answer tells that of the name at a place, in the project from which this was loaded
-abbrev pub TellsAt : LoadedView → ℕ → Bool → (Project → List ℕ → Type 0) → Type 0
-TellsAt loaded place answer P =
-    (said : Said) → IsLoadedFrom said loaded → (name : List ℕ) → slice_get (names_of said.written) place ≡ Some name → IsTrue answer ↔ P (project_in said) name
+-- so it is of the name at the place, in the project from which this was loaded
+abbrev pub OfPlace : LoadedView → ℕ → (Project → List ℕ → Type 0) → Type 0
+OfPlace loaded place P = (said : Said) → IsLoadedFrom said loaded → (name : List ℕ) → slice_get (names_of said.written) place ≡ Some name → P (project_in said) name
 
--- the definition has an own empty centre, or refers to one that has, in any number of steps
+-- the definition has no own empty centre
+abbrev pub HasNoOwn : Project → List ℕ → Type 0
+HasNoOwn project name = HasOwnEmptyCentre project name → ⊥
+
+-- it has no empty centre that is told of it
+abbrev pub HasNone : Project → List ℕ → Type 0
+HasNone project name = HasEmptyCentre project name → ⊥
+
+-- it has an own empty centre, or refers to a definition that has one, in any number of steps
 abbrev pub IsBarred : Project → List ℕ → Type 0
 IsBarred project name = HasOwnEmptyCentre project name ⊎ ((other : List ℕ) × Reaches project name other × HasOwnEmptyCentre project other)
 
--- a definition with a centre is needed, and so is each one to which a needed one refers
-pub record AreNeeded (loaded : LoadedView) (needed : List Bool) : Type 0 where
-  pub count : length needed ≡ length loaded.definitions
-  pub own : (place : ℕ) (d : Definition) → slice_get loaded.definitions place ≡ Some d → (centres_in (body_term d.body) ≡ [] → ⊥) → slice_get needed place ≡ Some true
-  pub closed : (place other : ℕ) → slice_get needed place ≡ Some true → Refers (references_of loaded.definitions) place other → slice_get needed other ≡ Some true
+abbrev pub IsFree : Project → List ℕ → Type 0
+IsFree project name = IsBarred project name → ⊥
 
--- of the needed definitions at these places it is told which have an empty centre and which are barred, and the others have their
--- networks. Those that aren't needed are neither
-pub record AreTried (loaded : LoadedView) (needed empty barred : List Bool) (built : List (Option Network)) (tried : List ℕ) : Type 0 where
+-- no rule of replacement in the definition at this place has a centre
+abbrev pub HasNoCentre : LoadedView → ℕ → Type 0
+HasNoCentre loaded place = (d : Definition) → slice_get loaded.definitions place ≡ Some d → centres_in (body_term d.body) ≡ []
+
+-- why the definition at a place has no network: it has an own empty centre, or want of memory
+abbrev pub IsWhyUnbuilt : LoadedView → ℕ → BuildError → Type 0
+IsWhyUnbuilt loaded place (unbuilt.Memory refused) = Unit {0}
+IsWhyUnbuilt loaded place (unbuilt.EmptyCentre line) = OfPlace loaded place HasOwnEmptyCentre × (HasNoCentre loaded place → ⊥)
+
+-- the networks stand at the places of their definitions, which neither have nor reach an empty centre
+pub record AreFree (loaded : LoadedView) (built : List (Option Network)) : Type 0 where
   pub built : AreBuilt loaded built
-  pub empty : (place : ℕ) (answer : Bool) → Contains tried place → slice_get empty place ≡ Some answer → TellsAt loaded place answer HasEmptyCentre
-  pub barred : (place : ℕ) (answer : Bool) → Contains tried place → slice_get needed place ≡ Some true → slice_get barred place ≡ Some answer → TellsAt loaded place answer IsBarred
-  pub there : (place : ℕ) → Contains tried place → slice_get needed place ≡ Some true → slice_get barred place ≡ Some false → IsThere built place
+  pub free : (place : ℕ) (n : Network) → slice_get built place ≡ Some (Some n) → OfPlace loaded place IsFree
 
--- the first place whose definition has an empty centre, or none
-abbrev pub IsFirstEmpty : LoadedView → Option ℕ → Type 0
-IsFirstEmpty loaded None = (place : ℕ) → place < length loaded.definitions → TellsAt loaded place false HasEmptyCentre
-IsFirstEmpty loaded (Some first) =
-    (first < length loaded.definitions) × TellsAt loaded first true HasEmptyCentre × ((place : ℕ) → place < first → TellsAt loaded place false HasEmptyCentre)
+-- a leaf is the name of a definition that has no network
+abbrev pub HasNoNetwork : List (Option Network) → Atom → Type 0
+HasNoNetwork built (Sym s) = ⊥
+HasNoNetwork built (Name place) = slice_get built place ≡ Some None
 
--- each definition with a centre has its network, and so has each one to which it refers, in any number of steps
+-- what comes of the definition at a place, of the networks that are built: its network; an empty centre; or it refers to a definition
+-- that has no network
+abbrev pub IsOutcome : LoadedView → List (Option Network) → ℕ → Outcome → Type 0
+IsOutcome loaded built place (Built n) = IsBuiltAt loaded place n × OfPlace loaded place IsFree
+IsOutcome loaded built place EmptyCentre = OfPlace loaded place HasEmptyCentre
+IsOutcome loaded built place Behind = (other : ℕ) × Refers (references_of loaded.definitions) place other × (slice_get built other ≡ Some None)
+
+-- the networks with what came of the definition at a place, and which definitions have an empty centre
+abbrev pub with_network : Outcome → ℕ → List (Option Network) → List (Option Network)
+with_network (Built n) place built = slice_set built place (Some n)
+with_network _ place built = built
+
+abbrev pub with_empty : Outcome → ℕ → List Bool → List Bool
+with_empty EmptyCentre place empty = slice_set empty place true
+with_empty _ place empty = empty
+
+-- the networks are those of their places, and each definition with a centre has its network
 pub record CentresAreBuilt (loaded : LoadedView) (built : List (Option Network)) : Type 0 where
   pub built : AreBuilt loaded built
-  pub own : (place : ℕ) (d : Definition) → slice_get loaded.definitions place ≡ Some d → (centres_in (body_term d.body) ≡ [] → ⊥) → IsThere built place
+  pub plain : (place : ℕ) → slice_get built place ≡ Some None → HasNoCentre loaded place
+
+-- of each definition it is told whether it has an empty centre; where none has, those with a centre have their networks
+pub record AreTried (loaded : LoadedView) (built : List (Option Network)) (empty : List Bool) : Type 0 where
+  pub count : length empty ≡ length loaded.definitions
+  pub empty : (place : ℕ) → slice_get empty place ≡ Some true → OfPlace loaded place HasEmptyCentre
+  pub none : (place : ℕ) → slice_get empty place ≡ Some false → OfPlace loaded place HasNone
+  pub built : ((place : ℕ) → slice_get empty place ≡ Some true → ⊥) → CentresAreBuilt loaded built
+
+-- no definition has an empty centre
+abbrev pub HasNoEmptyCentre : LoadedView → Type 0
+HasNoEmptyCentre loaded = (place : ℕ) → place < length loaded.definitions → OfPlace loaded place HasNone
+
+-- the definition at this place has an empty centre, and none before it
+pub record IsFirstEmpty (loaded : LoadedView) (place : ℕ) : Type 0 where
+  pub empty : OfPlace loaded place HasEmptyCentre
+  pub first : (before : ℕ) → before < place → OfPlace loaded before HasNone
 
 -- the fault of the first definition with an empty centre, or want of memory
 abbrev pub IsCentreError : LoadedView → LoadError → Type 0
 IsCentreError loaded Failed = ⊥
 IsCentreError loaded (Memory refused) = Unit {0}
 IsCentreError loaded (Refused found) =
-    (place : ℕ) × (d : Definition) × IsFirstEmpty loaded (Some place) × (slice_get loaded.definitions place ≡ Some d) × (found ≡ fault d.file d.line why.EmptyCentre)
+    (place : ℕ) × (d : Definition) × (slice_get loaded.definitions place ≡ Some d) × IsFirstEmpty loaded place × (found ≡ fault d.file d.line why.EmptyCentre)
 
--- the definition at the place has no rule of replacement with a centre
-abbrev pub HasNoCentreAt : LoadedView → ℕ → Type 0
-HasNoCentreAt loaded place = (d : Definition) → slice_get loaded.definitions place ≡ Some d → centres_in (body_term d.body) ≡ []
+-- the place has its network, and the others keep theirs
+pub record HasFilled (loaded : LoadedView) (place : ℕ) (old new : List (Option Network)) : Type 0 where
+  pub are : CentresAreBuilt loaded new
+  pub there : IsThere new place
+  pub kept : (other : ℕ) → IsThere old other → IsThere new other

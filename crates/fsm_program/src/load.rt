@@ -1,7 +1,7 @@
 ghost use Rattle.std.specs.Prelude.{◌≡◌, ◌≤◌, ℕ, List, None, MatchOption, IfOk, IfErr, OnOk};
 ghost use Rattle.regex_ast.specs.declared.fault.Why.TheVariants as why;
 ghost use Rattle.project_sources.specs.Faults.{fault};
-ghost use Rattle.fsm_program.specs.Centres.{IsCentreError, IsFirstEmpty};
+ghost use Rattle.fsm_program.specs.Centres.{HasNoEmptyCentre, IsCentreError};
 ghost use Rattle.fsm_io.specs.Folders.{Finds, HasAsked, Told, file_of};
 ghost use Rattle.fsm_program.specs.Files.{AskedForFiles, IsLoadError, IsLoaded, IsReadError, Names, most_read};
 ghost use Rattle.fsm_program.specs.Gathered.{HasAdded, IsGathered, IsOfSources, IsWhyNot, SourcesName};
@@ -137,11 +137,11 @@ fn empty_centre(definition: &Definition) -> Result<Fault, AllocError>
 /// The project with the networks that tell of its centres, or its fault where a definition has an empty centre.
 fn with_centres(alloc: Global, project: Project) -> Result<Ready, LoadError>
     ensures same { IfOk result (λ new. new ≡ project) }
-    ensures filled { OnOk result (IsFirstEmpty project None) }
+    ensures filled { OnOk result (HasNoEmptyCentre project) }
     ensures error { IfErr result (IsCentreError project) }
 {
     let tried = try_centres(alloc, &project)?;
-    let Some(place) = tried.first_empty() else {
+    let Some(place) = tried.empty.iter().position(|empty| *empty) else {
         return Ok(Ready::of(project, tried.built));
     };
     let fault = empty_centre(&project.plan().definitions()[place])?;
