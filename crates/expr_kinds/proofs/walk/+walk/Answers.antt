@@ -1,8 +1,8 @@
-use Rattle.std.proofs.Common.{◌≡◌, ◌-◌, false, map, sym, ap, ◌∙◌, arith}
+use Rattle.std.proofs.Common.{◌≡◌, ◌-◌, map, sym, ap, ◌∙◌, arith}
 use Rattle.regex_ast.specs.Terms.{term, terms_of, links_of, contexts_of, steps_by}
 use Rattle.regex_ast.proofs.Rows.{term-Concat, term-Chain, term-Ignore, term-Only, term-Steps}
 use Rattle.expr_kinds.specs.Atoms.{is_known_at, is_symbol, leaves_at, weights_at}
-use Rattle.expr_kinds.specs.Forms.{as_language, built_if, form_in, form_in_contexts, form_in_each, form_in_links, form_in_steps, heavier, nothing, with_kind}
+use Rattle.expr_kinds.specs.Forms.{as_language, form_in, form_in_contexts, form_in_each, form_in_links, form_in_steps, heavier, nothing, with_kind}
 use Rattle.expr_kinds.specs.Weights.{count_of}
 use Rattle.expr_kinds.specs.declared.form.Kind.TheVariants.{Relation}
 use Rattle.expr_kinds.proofs.Sets.{term_rules}

@@ -18,4 +18,5 @@ returns-in-Ok-clause-error c =
     why_not_loaded c.args.sources.now is.said is.faultless is.says c.in_ok-of-in-Ok.field-0 (c.in_ok-of-in-Ok.ensures is.said is.stands sound) c.with_centres.result c.with_centres.ensures.error
 
 pub returns-in-Err-Refused-clause-error : goal.returns-in-Err-Refused-clause-error
-returns-in-Err-Refused-clause-error c = first_of_read c.args.sources.now c.in-Err-Refused.fault (rw c.in-Err-Refused.field-0-is at c.in-Err-Refused.ensures.plan)
+returns-in-Err-Refused-clause-error c =
+    rw c.in-Err-Refused.fault-is (first_of_read c.args.sources.now _ (rw c.in-Err-Refused.field-0-is at c.in-Err-Refused.ensures.plan))
