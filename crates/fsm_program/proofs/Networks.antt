@@ -1,5 +1,5 @@
 -- The networks of a project's definitions are built of one another.
-use Rattle.std.proofs.Common.{◌≡◌, ◌⊎◌, ◌<◌, ◌≤◌, ◌+◌, ◌++◌, ℕ, Bool, true, false, cond, nat_lt, List, [], ◌∷◌, length, take, get_or, map, AllPairs, Contains, Option, Some, None, is_some, IsTrue, Result, Ok, Err, IfOk, IfErr, OnOk, slice_get, refl, sym, ap, subst, ◌∙◌, inl, inr, arith}
+use Rattle.std.proofs.Common.{◌≡◌, ◌⊎◌, ◌<◌, ◌≤◌, ◌+◌, ◌++◌, ℕ, Bool, true, false, cond, nat_lt, List, [], ◌∷◌, length, take, get_or, AllPairs, Contains, Option, Some, None, is_some, IsTrue, Result, Ok, Err, IfOk, IfErr, OnOk, slice_get, refl, sym, ap, subst, ◌∙◌, inl, inr, arith}
 use Rattle.std.proofs.Math.ListN.{replicate, set}
 use Rattle.std.proofs.lemmas.Bool.{cases_eq}
 use Rattle.std.proofs.lemmas.Bool.Decides.{nat_tests}
@@ -12,7 +12,6 @@ use Rattle.std.specs.List.{flat_map}
 use Rattle.std.specs.Option.{option_map}
 use Rattle.word_relations.proofs.Members.{Contains-nil_cases, Contains-cons_cases, Contains-head}
 use Rattle.word_relations.proofs.Places.{Contains-from_slice_get, slice_get-append_left, slice_get-append_right, slice_get-set_other, slice_get-set_same}
-use Rattle.word_relations.specs.Relations.{AreSame}
 use Rattle.fsm_base.specs.Alphabet.{symbols_of}
 use Rattle.fsm_base.specs.declared.letters.Sym.{Sym as Symbol}
 use Rattle.regex_ast.specs.declared.expr.Atom.{Atom}
@@ -20,13 +19,12 @@ use Rattle.regex_ast.specs.declared.expr.Atom.TheVariants.{Sym, Name}
 use Rattle.regex_ast.specs.Terms.{Term}
 use Rattle.expr_kinds.specs.Atoms.{is_leaf_at, is_symbol_of, kind_at, kinds_at, leaves_at}
 use Rattle.expr_kinds.specs.Built.{IsBuilt, IsBuiltBy}
-use Rattle.expr_kinds.specs.Kinds.{Fits, kind_of}
-use Rattle.expr_kinds.specs.declared.form.Kind.{Kind}
+use Rattle.expr_kinds.specs.Kinds.{Fits}
 use Rattle.expr_kinds.proofs.LeafLaws.{fits_alike, kind_alike}
 use Rattle.expr_leaves.specs.Leaves.{leaves_in, seen}
 use Rattle.name_order.specs.Graph.{Refers}
 use Rattle.name_order.specs.Orders.{IsOrder}
-use Rattle.network_algebra.specs.Networks.{IsNetwork, kind_of_network}
+use Rattle.network_algebra.specs.Networks.{IsNetwork}
 use Rattle.network_algebra.specs.declared.network.Network.{Network}
 use Rattle.network_expr.specs.Parts.{IsGround, is_leaf_of, kind_of_part, kinds, part_of}
 use Rattle.network_expr.specs.declared.parts.Part.{Part}

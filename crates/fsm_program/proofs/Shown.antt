@@ -1,5 +1,5 @@
 -- The network of a definition shows what the project says of its name.
-use Rattle.std.proofs.Common.{◌≡◌, ◌↔◌, ◌<◌, ◌++◌, append-nil, ◌==◌, ℕ, zero, suc, Bool, true, false, cond, length, arith, List, [], ◌∷◌, map, Option, Some, None, is_some, MatchOption, IsTrue, refl, sym, ap, subst, ◌∙◌, inl, inr, slice_get}
+use Rattle.std.proofs.Common.{◌≡◌, ◌↔◌, append-nil, ℕ, Bool, false, List, [], ◌∷◌, map, Option, Some, None, is_some, MatchOption, IsTrue, refl, sym, ap, subst, ◌∙◌, inl, inr, slice_get}
 use Rattle.std.proofs.lemmas.List.Elements.{All-contains, Contains-append_left}
 use Rattle.std.proofs.lemmas.Option.{slice_get-get_or, slice_get-map, same_Some}
 use Rattle.std.specs.List.{Contains, flat_map}
@@ -8,7 +8,7 @@ use Rattle.word_relations.specs.Relations.{AreSame}
 use Rattle.word_relations.specs.Words.{IsDistinct}
 use Rattle.word_relations.proofs.Members.{Contains-nil_cases, Contains-cons_cases, Contains-head, Contains-tail, Contains-map, Contains-map_cases}
 use Rattle.word_relations.proofs.Places.{Contains-from_slice_get}
-use Rattle.fsm_base.specs.Alphabet.{IsAlphabet, spelled, symbols_of, texts_of}
+use Rattle.fsm_base.specs.Alphabet.{spelled, symbols_of, texts_of}
 use Rattle.fsm_base.specs.Symbols.{number_of}
 use Rattle.fsm_base.specs.declared.letters.Pair.{Pair}
 use Rattle.fsm_base.specs.declared.letters.Sym.{Sym}
@@ -54,7 +54,7 @@ use Rattle.fsm_program.specs.Building.{IsBuiltAt}
 use Rattle.fsm_program.specs.Loaded.{IsLoadedFrom, LoadedView}
 use Rattle.fsm_program.specs.Networks.{ShowsName}
 use Rattle.fsm_program.proofs.Parts.{part_found}
-use Rattle.fsm_program.proofs.Spelled.{entry_held, held_any, numbered_as, whole}
+use Rattle.fsm_program.proofs.Spelled.{entry_held, held_any, numbered_as}
 
 -- what stands in one of two lists that are made alike has its like in the other
 pub made_alike : {X Y Z : Type 0} (f : X → Z) (g : Y → Z) (xs : List X) (ys : List Y) (x : X) → map f xs ≡ map g ys → Contains xs x → (y : Y) × Contains ys y × (f x ≡ g y)

@@ -1,4 +1,4 @@
-use Rattle.std.proofs.Common.{◌≡◌, ◌<◌, ◌∙◌, List, Some, length, refl, rules, slice_get, subst, sym}
+use Rattle.std.proofs.Common.{◌<◌, ◌∙◌, List, length, rules, subst, sym}
 use Rattle.project_model.specs.declared.definition.Definition.{Definition}
 use Rattle.fsm_program.proofs.Named.{stands_at}
 use Rattle.fsm_program.proofs.Networks.{built_as, built_over, filled_as, fits, ground, why_as}
