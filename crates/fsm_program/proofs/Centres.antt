@@ -37,7 +37,7 @@ use Rattle.project_model.proofs.Alphabets.{at_number, put}
 use Rattle.project_model.proofs.Gathering.{listed_is}
 use Rattle.project_model.proofs.Referring.{at_map, count, first_here, from_graph, name_at, place_at, references_whole, referred_among, to_graph}
 use Rattle.fsm_program.specs.Building.{AreBuilt, HasParts, IsBuiltAt, IsThere}
-use Rattle.fsm_program.specs.Centres.{AreFree, AreTried, CentresAreBuilt, HasNoCentre, HasNoEmptyCentre, HasNoNetwork, HasNoOwn, HasNone, IsBarred, IsCentreError, IsFirstEmpty, IsFree, IsOutcome, OfPlace, with_empty, with_network}
+use Rattle.fsm_program.specs.Centres.{AreClear, AreFree, AreTried, CentresAreBuilt, HasNoCentre, HasNoEmptyCentre, HasNoNetwork, HasNoOwn, HasNone, IsBarred, IsCentreError, IsFirstEmpty, IsFirstMark, IsFree, IsOutcome, OfPlace, with_empty, with_network}
 use Rattle.fsm_program.specs.Files.{Reads}
 use Rattle.fsm_program.specs.Gathered.{IsOfSources, IsWhyNot}
 use Rattle.fsm_program.specs.Loaded.{IsLoadedFrom, LoadedView}
@@ -204,13 +204,13 @@ module _ (loaded : LoadedView) (built : List (Option Network)) (are : AreFree lo
   is_empty own said from name at = (own said from name at, λ other reaches h. none_reached said loaded from built are place parts name at other reaches h)
 
 -- what came of the definitions at these places
-pub record TriedSoFar (loaded : LoadedView) (done : List ℕ) (built : List (Option Network)) (empty : List Bool) : Type 0 where
+pub record TriedSoFar (loaded : LoadedView) (done : List ℕ) (built : List (Option Network)) (marks : List Bool) : Type 0 where
   pub are : AreFree loaded built
-  pub count : length empty ≡ length loaded.definitions
-  pub empty : (place : ℕ) → slice_get empty place ≡ Some true → OfPlace loaded place HasEmptyCentre
-  pub none : (place : ℕ) → Contains done place → slice_get empty place ≡ Some false → OfPlace loaded place HasNone
+  pub count : length marks ≡ length loaded.definitions
+  pub empty : (place : ℕ) → slice_get marks place ≡ Some true → OfPlace loaded place HasEmptyCentre
+  pub none : (place : ℕ) → Contains done place → slice_get marks place ≡ Some false → OfPlace loaded place HasNone
   pub barred : (place : ℕ) → Contains done place → slice_get built place ≡ Some None → OfPlace loaded place IsBarred
-  pub why : (place : ℕ) → Contains done place → slice_get built place ≡ Some None → (p : ℕ) × (slice_get empty p ≡ Some true)
+  pub why : (place : ℕ) → Contains done place → slice_get built place ≡ Some None → (p : ℕ) × (slice_get marks p ≡ Some true)
 
 clash_network : (n : Network) → ◌≡◌ {A = Option (Option Network)} (Some None) (Some (Some n)) → ⊥
 clash_network n e = cc
@@ -219,11 +219,11 @@ clash_mark : ◌≡◌ {A = Option Bool} (Some true) (Some false) → ⊥
 clash_mark e = cc
 
 -- none so far
-pub tried_none : (loaded : LoadedView) (built : List (Option Network)) (empty : List Bool) → length built ≡ length loaded.definitions
-    → ((place : ℕ) → place < length loaded.definitions → slice_get built place ≡ Some None) → empty ≡ replicate (length loaded.definitions) false → TriedSoFar loaded [] built empty
-tried_none loaded built empty size none is = record {
+pub tried_none : (loaded : LoadedView) (built : List (Option Network)) (marks : List Bool) → length built ≡ length loaded.definitions
+    → ((place : ℕ) → place < length loaded.definitions → slice_get built place ≡ Some None) → marks ≡ replicate (length loaded.definitions) false → TriedSoFar loaded [] built marks
+tried_none loaded built marks size none is = record {
   are = record {
-    built = record { count = size; each = λ p n at. absurd (nothing p n at) };
+    are = record { count = size; each = λ p n at. absurd (nothing p n at) };
     free = λ p n at. absurd (nothing p n at);
   };
   count = ap length is ∙ length-replicate (length loaded.definitions) false;
@@ -239,27 +239,27 @@ tried_none loaded built empty size none is = record {
         clash_network n (sym (none p (omega (arith, inside, size))) ∙ at)
 
 -- the definition at a place more
-module _ (loaded : LoadedView) (done : List ℕ) (built : List (Option Network)) (empty : List Bool) (so_far : TriedSoFar loaded done built empty) (place : ℕ) (within : place < length loaded.definitions)
+module _ (loaded : LoadedView) (done : List ℕ) (built : List (Option Network)) (marks : List Bool) (so_far : TriedSoFar loaded done built marks) (place : ℕ) (within : place < length loaded.definitions)
     (behind : (other : ℕ) → Leads (references_of loaded.definitions) place other → Contains done other) where
   abbrev more : List ℕ
   more = done ++ place ∷ []
 
   inside_built : place < length built
-  inside_built = let many = so_far.are.built.count in omega (arith, within, many)
+  inside_built = let many = so_far.are.are.count in omega (arith, within, many)
 
-  inside_empty : place < length empty
+  inside_empty : place < length marks
   inside_empty = let many = so_far.count in omega (arith, within, many)
 
   others : (p : ℕ) → (p ≡ place → ⊥) → Contains more p → Contains done p
   others p apart h = elim (Contains-push_cases done place p h) as (λ _. Contains done p) [ inl old ↦ old | inr same ↦ absurd (apart (sym same)) ]
 
   here_or : (P : ℕ → Type 0) → P place → (p : ℕ) → ((p ≡ place → ⊥) → P p) → P p
-  here_or P here p else = elim (cases_eq p place) as (λ _. P p) [ inl same ↦ subst P (sym same) here | inr apart ↦ else apart ]
+  here_or P here p there = elim (cases_eq p place) as (λ _. P p) [ inl same ↦ subst P (sym same) here | inr apart ↦ there apart ]
 
-  put_built : (n : Network) → IsBuiltAt loaded place n → OfPlace loaded place IsFree → TriedSoFar loaded more (set built place (Some n)) empty
+  put_built : (n : Network) → IsBuiltAt loaded place n → OfPlace loaded place IsFree → TriedSoFar loaded more (set built place (Some n)) marks
   put_built n good free = record {
     are = record {
-      built = network_put loaded built place n inside_built so_far.are.built good;
+      are = network_put loaded built place n inside_built so_far.are.are good;
       free = λ p m at. elim (cases_eq p place) as (λ _. OfPlace loaded p IsFree) [
         | inl same ↦ subst (λ (k : ℕ). OfPlace loaded k IsFree) (sym same) free
         | inr apart ↦ so_far.are.free p m (sym (slice_get-set_other built place p (Some n) apart) ∙ at)
@@ -281,27 +281,27 @@ module _ (loaded : LoadedView) (done : List ℕ) (built : List (Option Network))
       old : (p : ℕ) → (p ≡ place → ⊥) → slice_get (set built place (Some n)) p ≡ Some None → slice_get built p ≡ Some None
       old p apart at = sym (slice_get-set_other built place p (Some n) apart) ∙ at
 
-  put_empty : OfPlace loaded place HasEmptyCentre → TriedSoFar loaded more built (set empty place true)
+  put_empty : OfPlace loaded place HasEmptyCentre → TriedSoFar loaded more built (set marks place true)
   put_empty is = record {
     are = so_far.are;
-    count = length-set empty place true ∙ so_far.count;
-    empty = λ p at. here_or (λ k. OfPlace loaded k HasEmptyCentre) is p (λ apart. so_far.empty p (sym (slice_get-set_other empty place p true apart) ∙ at));
+    count = length-set marks place true ∙ so_far.count;
+    empty = λ p at. here_or (λ k. OfPlace loaded k HasEmptyCentre) is p (λ apart. so_far.empty p (sym (slice_get-set_other marks place p true apart) ∙ at));
     none = λ p h at. elim (cases_eq p place) as (λ _. OfPlace loaded p HasNone) [
-      | inl same ↦ absurd (clash_mark (sym (slice_get-set_same empty place true inside_empty) ∙ subst (λ (k : ℕ). slice_get (set empty place true) k ≡ Some false) same at))
-      | inr apart ↦ so_far.none p (others p apart h) (sym (slice_get-set_other empty place p true apart) ∙ at)
+      | inl same ↦ absurd (clash_mark (sym (slice_get-set_same marks place true inside_empty) ∙ subst (λ (k : ℕ). slice_get (set marks place true) k ≡ Some false) same at))
+      | inr apart ↦ so_far.none p (others p apart h) (sym (slice_get-set_other marks place p true apart) ∙ at)
     ];
     barred = λ p h at. here_or (λ k. OfPlace loaded k IsBarred) (λ said from name name_at. inl (is said from name name_at).0) p (λ apart. so_far.barred p (others p apart h) at);
-    why = λ p h at. (place, slice_get-set_same empty place true inside_empty);
+    why = λ p h at. (place, slice_get-set_same marks place true inside_empty);
   }
 
-  put_behind : (other : ℕ) → Leads (references_of loaded.definitions) place other → slice_get built other ≡ Some None → TriedSoFar loaded more built empty
+  put_behind : (other : ℕ) → Leads (references_of loaded.definitions) place other → slice_get built other ≡ Some None → TriedSoFar loaded more built marks
   put_behind other leads nothing = record {
     are = so_far.are;
     count = so_far.count;
     empty = so_far.empty;
     none = λ p h at. here_or (λ k. OfPlace loaded k HasNone) (λ said from name name_at has. (let (far, reaches, own) = reached said from name name_at in has.1 far reaches own)) p (λ apart. so_far.none p (others p apart h) at);
     barred = λ p h at. here_or (λ k. OfPlace loaded k IsBarred) (λ said from name name_at. inr (reached said from name name_at)) p (λ apart. so_far.barred p (others p apart h) at);
-    why = λ p h at. elim (cases_eq p place) as (λ _. (q : ℕ) × (slice_get empty q ≡ Some true)) [
+    why = λ p h at. elim (cases_eq p place) as (λ _. (q : ℕ) × (slice_get marks q ≡ Some true)) [
       | inl same ↦ so_far.why other (behind other leads) nothing
       | inr apart ↦ so_far.why p (others p apart h) at
     ];
@@ -311,7 +311,7 @@ module _ (loaded : LoadedView) (done : List ℕ) (built : List (Option Network))
           → (far : List ℕ) × Reaches (project_in said) name far × HasOwnEmptyCentre (project_in said) far
       reached said from name name_at = barred_reached said loaded from place other leads (so_far.barred other (behind other leads) nothing) name name_at
 
-  pub tried_more : (outcome : Outcome) → IsOutcome loaded built place outcome → TriedSoFar loaded more (with_network outcome place built) (with_empty outcome place empty)
+  pub tried_more : (outcome : Outcome) → IsOutcome loaded built place outcome → TriedSoFar loaded more (with_network outcome place built) (with_empty outcome place marks)
   tried_more (Built n) (good, free) = put_built n good free
   tried_more EmptyCentre is = put_empty is
   tried_more Behind (other, leads, nothing) = put_behind other leads nothing
@@ -338,11 +338,11 @@ module _ (loaded : LoadedView) (order : List ℕ) (ordered : IsOrder (references
     pub here_behind : (other : ℕ) → Leads (references_of loaded.definitions) here other → Contains (take i order) other
     here_behind other leads = ordered.behind i here other (slice_get-get_or order i 0 in_order) leads
 
-    pub front_more : (built : List (Option Network)) (empty : List Bool) (outcome : Outcome) → IsOutcome loaded built here outcome → TriedSoFar loaded (take i order) built empty
-        → TriedSoFar loaded (take (i + 1) order) (with_network outcome here built) (with_empty outcome here empty)
-    front_more built empty outcome is so_far =
-        subst (λ (done : List ℕ). TriedSoFar loaded done (with_network outcome here built) (with_empty outcome here empty)) (sym (take_more order i 0 in_order))
-        (tried_more loaded (take i order) built empty so_far here here_within here_behind outcome is)
+    pub front_more : (built : List (Option Network)) (marks : List Bool) (outcome : Outcome) → IsOutcome loaded built here outcome → TriedSoFar loaded (take i order) built marks
+        → TriedSoFar loaded (take (i + 1) order) (with_network outcome here built) (with_empty outcome here marks)
+    front_more built marks outcome is so_far =
+        subst (λ (done : List ℕ). TriedSoFar loaded done (with_network outcome here built) (with_empty outcome here marks)) (sym (take_more order i 0 in_order))
+        (tried_more loaded (take i order) built marks so_far here here_within here_behind outcome is)
 
   -- the whole front
   module _ (plain : (i place : ℕ) (d : Definition) → end ≤ i → slice_get order i ≡ Some place → slice_get loaded.definitions place ≡ Some d → centres_in (body_term d.body) ≡ []) where
@@ -356,18 +356,18 @@ module _ (loaded : LoadedView) (order : List ℕ) (ordered : IsOrder (references
           | inr past ↦ inr (λ d d_at. plain k place d past at d_at)
         ]
 
-    pub tried_all : (built : List (Option Network)) (empty : List Bool) → TriedSoFar loaded (take end order) built empty → AreTried loaded built empty
-    tried_all built empty so_far = record {
+    pub tried_all : (built : List (Option Network)) (marks : List Bool) → TriedSoFar loaded (take end order) built marks → AreTried loaded built marks
+    tried_all built marks so_far = record {
       count = so_far.count;
       empty = so_far.empty;
-      none = λ place at. (let inside = slice_get_within empty place false at in let many = so_far.count in
+      none = λ place at. (let inside = slice_get_within marks place false at in let many = so_far.count in
       elim (either place (omega (arith, inside, many))) as (λ _. OfPlace loaded place HasNone) [
         | inl done ↦ so_far.none place done at
         | inr no ↦ (λ said from name name_at has. plain_has_none said loaded from place no name name_at has)
       ]);
-      built = λ filled. record {
-        built = so_far.are.built;
-        plain = λ place nothing. (let inside = slice_get_within built place None nothing in let many = so_far.are.built.count in
+      ready = λ filled. record {
+        are = so_far.are.are;
+        plain = λ place nothing. (let inside = slice_get_within built place None nothing in let many = so_far.are.are.count in
         elim (either place (omega (arith, inside, many))) as (λ _. HasNoCentre loaded place) [
           | inl done ↦ (let (p, marked) = so_far.why place done nothing in absurd (filled p marked))
           | inr no ↦ no
@@ -376,15 +376,25 @@ module _ (loaded : LoadedView) (order : List ℕ) (ordered : IsOrder (references
     }
 
 -- The first mark.
-module _ (loaded : LoadedView) (built : List (Option Network)) (empty : List Bool) (tried : AreTried loaded built empty) where
-  pub none_empty : ((place : ℕ) → place < length empty → slice_get empty place ≡ Some false) → HasNoEmptyCentre loaded
+module _ (loaded : LoadedView) (built : List (Option Network)) (marks : List Bool) (tried : AreTried loaded built marks) where
+  pub none_empty : AreClear (length marks) marks → HasNoEmptyCentre loaded
   none_empty clear place below = let many = tried.count in tried.none place (clear place (omega (arith, below, many)))
 
-  pub none_marked : ((place : ℕ) → place < length empty → slice_get empty place ≡ Some false) → CentresAreBuilt loaded built
-  none_marked clear = tried.built (λ place marked. clash_mark (sym marked ∙ clear place (slice_get_within empty place true marked)))
+  pub none_marked : AreClear (length marks) marks → CentresAreBuilt loaded built
+  none_marked clear = tried.ready (λ place marked. clash_mark (sym marked ∙ clear place (slice_get_within marks place true marked)))
 
-  pub first_empty : (place : ℕ) → slice_get empty place ≡ Some true → ((before : ℕ) → before < place → slice_get empty before ≡ Some false) → IsFirstEmpty loaded place
-  first_empty place marked clear = record { empty = tried.empty place marked; first = λ before lower. tried.none before (clear before lower) }
+  pub first_empty : (place : ℕ) → IsFirstMark marks place → IsFirstEmpty loaded place
+  first_empty place (marked, clear) = record { empty = tried.empty place marked; first = λ before lower. tried.none before (clear before lower) }
+
+  pub first_within : (place : ℕ) → IsFirstMark marks place → place < length loaded.definitions
+  first_within place (marked, clear) = let inside = slice_get_within marks place true marked in let many = tried.count in omega (arith, inside, many)
+
+-- one mark more that isn't set
+pub clear_more : (marks : List Bool) (place : ℕ) (mark : Bool) → slice_get marks place ≡ Some mark → mark ≡ false → AreClear place marks → AreClear (place + 1) marks
+clear_more marks place mark at is clear before lower = elim (cases_eq before place) as (λ _. slice_get marks before ≡ Some false) [
+  | inl same ↦ subst (λ (k : ℕ). slice_get marks k ≡ Some false) (sym same) (at ∙ ap (λ (b : Bool). Some b) is)
+  | inr apart ↦ clear before (omega (arith, lower, apart))
+]
 
 -- What was loaded of sources without a fault that is read.
 module _ (sources : Files) (said : Said) (free : (found : Fault) → FirstFault no_readers sources read_so_far found → ⊥) (says : FilesSay no_readers sources said) (loaded : LoadedView) (from : IsLoadedFrom said loaded) where

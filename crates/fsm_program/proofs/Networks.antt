@@ -343,12 +343,12 @@ filled_before loaded built place are there = record { are = are; there = there; 
 
 pub filled_now : (loaded : LoadedView) (built : List (Option Network)) (place : ℕ) (n : Network) → place < length built → CentresAreBuilt loaded built → IsBuiltAt loaded place n
     → HasFilled loaded place built (set built place (Some n))
-filled_now loaded built place n within are good = record {
+filled_now loaded built place n within ready good = record {
   are = record {
-    built = network_put loaded built place n within are.built good;
+    are = network_put loaded built place n within ready.are good;
     plain = λ p none. elim (cases_eq p place) as (λ _. HasNoCentre loaded p) [
       | inl same ↦ absurd (clash n (sym none ∙ subst (λ (k : ℕ). slice_get (set built place (Some n)) k ≡ Some (Some n)) (sym same) (slice_get-set_same built place (Some n) within)))
-      | inr other ↦ are.plain p (sym (slice_get-set_other built place p (Some n) other) ∙ none)
+      | inr other ↦ ready.plain p (sym (slice_get-set_other built place p (Some n) other) ∙ none)
     ];
   };
   there = (n, slice_get-set_same built place (Some n) within);
@@ -413,7 +413,7 @@ module _ (loaded : LoadedView) (order : List ℕ) (ordered : IsOrder (references
 
   -- the network of the next one is its own
   pub built_here : (new : List (Option Network)) (n : Network) → HasFilled loaded place built new → place ≡ wanted → slice_get new wanted ≡ Some (Some n) → IsBuiltAt loaded wanted n
-  built_here new n filled same at = filled.are.built.each wanted n at
+  built_here new n filled same at = filled.are.are.each wanted n at
 
 -- the wanted place is met in the order
 pub never_past : (loaded : LoadedView) (order : List ℕ) → IsOrder (references_of loaded.definitions) order → (wanted i : ℕ) (built : List (Option Network)) → wanted < length loaded.definitions → length order ≤ i

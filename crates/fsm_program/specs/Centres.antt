@@ -51,7 +51,7 @@ IsWhyUnbuilt loaded place (unbuilt.EmptyCentre line) = OfPlace loaded place HasO
 
 -- the networks stand at the places of their definitions, which neither have nor reach an empty centre
 pub record AreFree (loaded : LoadedView) (built : List (Option Network)) : Type 0 where
-  pub built : AreBuilt loaded built
+  pub are : AreBuilt loaded built
   pub free : (place : ℕ) (n : Network) → slice_get built place ≡ Some (Some n) → OfPlace loaded place IsFree
 
 -- a leaf is the name of a definition that has no network
@@ -77,15 +77,22 @@ with_empty _ place empty = empty
 
 -- the networks are those of their places, and each definition with a centre has its network
 pub record CentresAreBuilt (loaded : LoadedView) (built : List (Option Network)) : Type 0 where
-  pub built : AreBuilt loaded built
+  pub are : AreBuilt loaded built
   pub plain : (place : ℕ) → slice_get built place ≡ Some None → HasNoCentre loaded place
 
 -- of each definition it is told whether it has an empty centre; where none has, those with a centre have their networks
-pub record AreTried (loaded : LoadedView) (built : List (Option Network)) (empty : List Bool) : Type 0 where
-  pub count : length empty ≡ length loaded.definitions
-  pub empty : (place : ℕ) → slice_get empty place ≡ Some true → OfPlace loaded place HasEmptyCentre
-  pub none : (place : ℕ) → slice_get empty place ≡ Some false → OfPlace loaded place HasNone
-  pub built : ((place : ℕ) → slice_get empty place ≡ Some true → ⊥) → CentresAreBuilt loaded built
+pub record AreTried (loaded : LoadedView) (built : List (Option Network)) (marks : List Bool) : Type 0 where
+  pub count : length marks ≡ length loaded.definitions
+  pub empty : (place : ℕ) → slice_get marks place ≡ Some true → OfPlace loaded place HasEmptyCentre
+  pub none : (place : ℕ) → slice_get marks place ≡ Some false → OfPlace loaded place HasNone
+  pub ready : ((place : ℕ) → slice_get marks place ≡ Some true → ⊥) → CentresAreBuilt loaded built
+
+-- the marks before this place are not set; and the place is the first that is
+abbrev pub AreClear : ℕ → List Bool → Type 0
+AreClear end marks = (place : ℕ) → place < end → slice_get marks place ≡ Some false
+
+abbrev pub IsFirstMark : List Bool → ℕ → Type 0
+IsFirstMark marks place = (slice_get marks place ≡ Some true) × AreClear place marks
 
 -- no definition has an empty centre
 abbrev pub HasNoEmptyCentre : LoadedView → Type 0

@@ -1,11 +1,11 @@
-ghost use Rattle.std.specs.Prelude.{◌≡◌, ◌≤◌, ◌<◌, ℕ, [], All, Contains, IfOk, None, Some, false, length, replicate, slice_get};
+ghost use Rattle.std.specs.Prelude.{◌≡◌, ◌≤◌, ◌<◌, ℕ, [], All, Contains, IfOk, MatchOption, None, Some, false, length, replicate, slice_get};
 ghost use Rattle.std.specs.Bool.{OnFalse, OnTrue};
 ghost use Rattle.project_meaning.specs.Centres.{centres_in};
 ghost use Rattle.project_model.specs.Plans.{body_term};
 ghost use Rattle.project_model.specs.declared.definition.Definition.{Definition as Defined};
 ghost use Rattle.regex_ast.specs.declared.expr.Atom.{Atom as Leaf};
 ghost use Rattle.expr_leaves.specs.Leaves.{leaves_in};
-ghost use Rattle.fsm_program.specs.Centres.{AreFree, AreTried, HasNoNetwork, IsOutcome, with_empty, with_network};
+ghost use Rattle.fsm_program.specs.Centres.{AreClear, AreFree, AreTried, HasNoNetwork, IsFirstMark, IsOutcome, with_empty, with_network};
 
 use crate::building::{built_of, none_built};
 use crate::project::Project;
@@ -47,6 +47,18 @@ impl Tried {
             built: none_built(alloc, count)?,
             empty: vec![in alloc; false; count]?,
         })
+    }
+
+    /// The place of the first definition that has an empty centre.
+    pub fn first_empty(&self) -> Option<usize>
+        ensures { MatchOption result (AreClear (length self.now.empty.items) self.now.empty.items) (IsFirstMark self.now.empty.items) }
+    {
+        'marks: for (place, empty) in self.empty.iter().enumerate() {
+            if *empty {
+                return Some(place);
+            }
+        }
+        None
     }
 
     /// Puts what came of a definition at its place.

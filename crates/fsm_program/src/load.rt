@@ -141,7 +141,7 @@ fn with_centres(alloc: Global, project: Project) -> Result<Ready, LoadError>
     ensures error { IfErr result (IsCentreError project) }
 {
     let tried = try_centres(alloc, &project)?;
-    let Some(place) = tried.empty.iter().position(|empty| *empty) else {
+    let Some(place) = tried.first_empty() else {
         return Ok(Ready::of(project, tried.built));
     };
     let fault = empty_centre(&project.plan().definitions()[place])?;

@@ -12,7 +12,7 @@ returns-then c =
     let below = subst (λ (ds : List Definition). c.args.place < length ds) (sym same) c.requires.place in
     let at = stands_at c.definitions-all.result.now loaded.definitions c.args.place d same below c.index-all-place.is in
     let (leaf, stood, none) = rw c.if-branch.true at c.in_ok-lacks_part.ensures.yes in
-    behind_one loaded c.args.built.now c.requires.free.built c.args.place d at leaf stood none
+    behind_one loaded c.args.built.now c.requires.free.are c.args.place d at leaf stood none
 
 pub built_of-requires-clause-parts : goal.built_of-requires-clause-parts
 built_of-requires-clause-parts c =
@@ -21,7 +21,7 @@ built_of-requires-clause-parts c =
     let same = c.definitions-all.ensures.definitions ∙ c.plan-plan.ensures.definitions in
     let below = subst (λ (ds : List Definition). c.args.place < length ds) (sym same) c.requires.place in
     let at = stands_at c.definitions-all.result.now loaded.definitions c.args.place d same below c.index-all-place.is in
-    none_behind loaded c.args.built.now c.requires.free.built c.args.place d at (rw c.if-branch.false at c.in_ok-lacks_part.ensures.no)
+    none_behind loaded c.args.built.now c.requires.free.are c.args.place d at (rw c.if-branch.false at c.in_ok-lacks_part.ensures.no)
 
 pub returns-in-Ok : goal.returns-in-Ok
 returns-in-Ok c =
@@ -30,7 +30,7 @@ returns-in-Ok c =
     let same = c.definitions-all.ensures.definitions ∙ c.plan-plan.ensures.definitions in
     let below = subst (λ (ds : List Definition). c.args.place < length ds) (sym same) c.requires.place in
     let at = stands_at c.definitions-all.result.now loaded.definitions c.args.place d same below c.index-all-place.is in
-    let parts = none_behind loaded c.args.built.now c.requires.free.built c.args.place d at (rw c.if-branch.false at c.in_ok-lacks_part.ensures.no) in
+    let parts = none_behind loaded c.args.built.now c.requires.free.are c.args.place d at (rw c.if-branch.false at c.in_ok-lacks_part.ensures.no) in
     (c.in-Ok.ensures.network, is_free loaded c.args.built.now c.requires.free c.args.place parts c.in-Ok.ensures.filled)
 
 pub returns-in-Err-EmptyCentre : goal.returns-in-Err-EmptyCentre
@@ -40,6 +40,6 @@ returns-in-Err-EmptyCentre c =
     let same = c.definitions-all.ensures.definitions ∙ c.plan-plan.ensures.definitions in
     let below = subst (λ (ds : List Definition). c.args.place < length ds) (sym same) c.requires.place in
     let at = stands_at c.definitions-all.result.now loaded.definitions c.args.place d same below c.index-all-place.is in
-    let parts = none_behind loaded c.args.built.now c.requires.free.built c.args.place d at (rw c.if-branch.false at c.in_ok-lacks_part.ensures.no) in
+    let parts = none_behind loaded c.args.built.now c.requires.free.are c.args.place d at (rw c.if-branch.false at c.in_ok-lacks_part.ensures.no) in
     let why = rw c.in-Err-EmptyCentre.field-0-is at c.in-Err-EmptyCentre.ensures.error in
     is_empty loaded c.args.built.now c.requires.free c.args.place parts why.0
