@@ -250,8 +250,6 @@ fn in_mapping(names: &[Form], form: Form, mapping: &Mapping<Atom>) -> Form
         } => form.beside(in_expression(names, centre).beside(in_expression(names, before).beside(
             in_expression(names, after),
         ))),
-        Mapping::Insert { result: by } => {
-            form.beside(in_expression(names, by)).built_if(false)
-        }
+        Mapping::Insert { result: by } => { form.beside(in_expression(names, by)).built_if(false) }
     }
 }

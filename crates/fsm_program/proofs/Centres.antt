@@ -1,5 +1,6 @@
 -- Which definitions of a loaded project have an empty centre, as they are tried in order; and the first fault that this is.
-use Rattle.std.proofs.Common.{◌≡◌, ◌↔◌, ◌<◌, ◌≤◌, ◌+◌, ◌++◌, ◌⊎◌, ℕ, zero, suc, Bool, true, false, cond, nat_lt, List, [], ◌∷◌, length, take, get_or, map, replicate, set, All, Contains, Option, Some, None, Result, Ok, Err, IfOk, IfErr, OnOk, IsTrue, slice_get, refl, sym, ap, subst, ◌∙◌, inl, inr, arith}
+use Rattle.std.proofs.Common.{◌≡◌, ◌<◌, ◌≤◌, ◌+◌, ◌++◌, ◌⊎◌, ℕ, zero, suc, Bool, true, false, cond, nat_lt, List, [], ◌∷◌, length, take, get_or, All, Contains, Option, Some, None, Result, Ok, Err, IfOk, IfErr, OnOk, slice_get, refl, sym, ap, subst, ◌∙◌, inl, inr, arith}
+use Rattle.std.proofs.Math.ListN.{replicate, set}
 use Rattle.std.proofs.lemmas.Bool.{cases_eq, cases_lt}
 use Rattle.std.proofs.lemmas.List.{length-map, length-replicate, length-set, take_more}
 use Rattle.std.proofs.lemmas.List.Elements.{All-contains, All-contains_itself, All-weaker, Contains-append_left, Contains-get_or, Contains-push_cases}
@@ -7,7 +8,7 @@ use Rattle.std.proofs.lemmas.Option.{slice_get-get_or, slice_get-map, slice_get_
 use Rattle.std.specs.List.{flat_map}
 use Rattle.std.specs.Option.{option_map}
 use Rattle.word_relations.proofs.Members.{Contains-nil_cases, Contains-cons_cases, Contains-head, Contains-tail}
-use Rattle.word_relations.proofs.Places.{slice_get_from_Contains, slice_get-append_left, slice_get-append_cases, slice_get-set_other, slice_get-set_same}
+use Rattle.word_relations.proofs.Places.{slice_get_from_Contains, slice_get-set_other, slice_get-set_same}
 use Rattle.fsm_base.specs.Symbols.{number_of}
 use Rattle.fsm_io.specs.Folders.{Files}
 use Rattle.regex_ast.specs.declared.expr.Atom.{Atom}
@@ -21,7 +22,7 @@ use Rattle.network_algebra.specs.declared.network.Network.{Network}
 use Rattle.project_meaning.specs.Centres.{HasEmptyCentre, HasOwnEmptyCentre, centres_in}
 use Rattle.project_meaning.specs.Leaves.{symbols_in}
 use Rattle.project_meaning.specs.Projects.{Refers, Reaches, at_once, further, Written, names_of}
-use Rattle.project_sources.specs.Faults.{empty_centre, fault, fault_of, in_said, read_so_far, rows_so_far, FirstFault}
+use Rattle.project_sources.specs.Faults.{fault, fault_of, read_so_far, rows_so_far, FirstFault}
 use Rattle.project_sources.specs.Laws.{unbuilt as no_readers}
 use Rattle.project_sources.specs.Manifests.{symbols_of as further_symbols}
 use Rattle.project_sources.specs.Rows.{First, Where}
@@ -162,14 +163,15 @@ module _ (loaded : LoadedView) (built : List (Option Network)) (are : AreBuilt l
   flat_from : (leaves : List Atom) (q : ℕ) → Contains (flat_map (place_in (length loaded.definitions)) leaves) q → Contains leaves (Name q)
   flat_from [] q h = absurd (Contains-nil_cases q h)
   flat_from (Sym s ∷ leaves) q h = Contains-tail (Sym s) leaves (Name q) (flat_from leaves q h)
-  flat_from (Name p ∷ leaves) q h = by (nat_lt p (length loaded.definitions)) h
+  flat_from (Name p ∷ leaves) q h = by (nat_lt p (length loaded.definitions)) h (flat_from leaves q)
     where
-      by : (b : Bool) → Contains (cond b (p ∷ []) [] ++ flat_map (place_in (length loaded.definitions)) leaves) q → Contains (Name p ∷ leaves) (Name q)
-      by true h = elim (Contains-cons_cases p (flat_map (place_in (length loaded.definitions)) leaves) q h) as (λ _. Contains (Name p ∷ leaves) (Name q)) [
+      by : (b : Bool) → Contains (cond b (p ∷ []) [] ++ flat_map (place_in (length loaded.definitions)) leaves) q → (Contains (flat_map (place_in (length loaded.definitions)) leaves) q → Contains leaves (Name q))
+          → Contains (Name p ∷ leaves) (Name q)
+      by true h later = elim (Contains-cons_cases p (flat_map (place_in (length loaded.definitions)) leaves) q h) as (λ _. Contains (Name p ∷ leaves) (Name q)) [
         | inl same ↦ subst (λ (r : ℕ). Contains (Name p ∷ leaves) (Name r)) same (Contains-head (Name p) leaves)
-        | inr there ↦ Contains-tail (Name p) leaves (Name q) (flat_from leaves q there)
+        | inr there ↦ Contains-tail (Name p) leaves (Name q) (later there)
       ]
-      by false h = Contains-tail (Name p) leaves (Name q) (flat_from leaves q h)
+      by false h later = Contains-tail (Name p) leaves (Name q) (later h)
 
   -- what is referred to stands in the expression
   stands_in : (q : ℕ) → Leads (references_of loaded.definitions) place q → Contains (leaves_in (body_term d.body)) (Name q)
@@ -361,17 +363,17 @@ module _ (loaded : LoadedView) (order : List ℕ) (ordered : IsOrder (references
       count = so_far.count;
       empty = so_far.empty;
       none = λ place at. (let inside = slice_get_within marks place false at in let many = so_far.count in
-      elim (either place (omega (arith, inside, many))) as (λ _. OfPlace loaded place HasNone) [
-        | inl done ↦ so_far.none place done at
-        | inr no ↦ (λ said from name name_at has. plain_has_none said loaded from place no name name_at has)
-      ]);
+          elim (either place (omega (arith, inside, many))) as (λ _. OfPlace loaded place HasNone) [
+            | inl done ↦ so_far.none place done at
+            | inr no ↦ (λ said from name name_at has. plain_has_none said loaded from place no name name_at has)
+          ]);
       ready = λ filled. record {
         are = so_far.are.are;
         plain = λ place nothing. (let inside = slice_get_within built place None nothing in let many = so_far.are.are.count in
-        elim (either place (omega (arith, inside, many))) as (λ _. HasNoCentre loaded place) [
-          | inl done ↦ (let (p, marked) = so_far.why place done nothing in absurd (filled p marked))
-          | inr no ↦ no
-        ]);
+            elim (either place (omega (arith, inside, many))) as (λ _. HasNoCentre loaded place) [
+              | inl done ↦ (let (p, marked) = so_far.why place done nothing in absurd (filled p marked))
+              | inr no ↦ no
+            ]);
       };
     }
 
