@@ -2,9 +2,14 @@
 //! compares that with what is wanted, in the file `stdout`.
 //!
 //! A row is `tokens TEXT`: the tokens of a text, whose escapes are those of `row_texts`, each with its line, and at the end
-//! whether the text ended, or in which line no token begins. A row with another field, as `#`, does nothing.
+//! whether the text ended, or in which line no token begins. Or it is `atom ATOM`: what the atom is where `V` is a set and `D` a
+//! definition, as a part of an expression, in the alphabet, as the centre of a rule, and in the list of a set. A row with
+//! another field, as `#`, does nothing.
 #![tactic(auto)]
 
+mod atoms;
+
+use atoms::said_of_atom;
 use regex_tokens::Ending;
 use row_texts::undone;
 use std::alloc::{AllocError, Global};
@@ -45,6 +50,9 @@ fn said_of_tokens(alloc: Global, text: &str) -> Result<String, AllocError> {
 
 /// What came of a row, if anything is to be printed.
 fn said_of_row(alloc: Global, field: &str, value: &str) -> Result<Option<String>, AllocError> {
+    if field == "atom" {
+        return Ok(Some(said_of_atom(alloc, value)?));
+    }
     if field != "tokens" {
         return Ok(None);
     }

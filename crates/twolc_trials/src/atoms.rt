@@ -1,0 +1,71 @@
+use regex_ast::{PairAtom, PairPart, PairSide, Raw};
+use std::alloc::{AllocError, Global};
+use twolc_atoms::{KnownNames, centre_in, one_symbol_in, part_in, symbols_in};
+
+/// The names that atoms are read by: `V` is a set, and `D` a definition.
+fn names(alloc: Global) -> Result<KnownNames, AllocError> {
+    let mut names = KnownNames::new(alloc);
+    if !names.has_set("V") {
+        names.add_set("V")?;
+    }
+    if !names.has_definition("D") {
+        names.add_definition("D")?;
+    }
+    Ok(names)
+}
+
+/// The text of a symbol.
+fn text_of(symbol: &Raw) -> &str {
+    match symbol {
+        Raw::Run(text) | Raw::Quoted(text) => text.as_str(),
+    }
+}
+
+/// A side as it is written, with a set in braces.
+fn said_of_side(alloc: Global, side: &PairSide<Raw>) -> Result<String, AllocError> {
+    match side {
+        PairSide::Zero => String::from_str(alloc, "0"),
+        PairSide::Any => String::from_str(alloc, "?"),
+        PairSide::One(symbol) => String::from_str(alloc, text_of(symbol)),
+        PairSide::Member(set) => format!(in alloc; "{{{}}}", set.as_str()),
+    }
+}
+
+/// A pair, or that there is none.
+fn said_of_pair(alloc: Global, pair: Option<&PairAtom<Raw>>) -> Result<String, AllocError> {
+    let Some(pair) = pair else {
+        return String::from_str(alloc, "none");
+    };
+    let up = said_of_side(alloc, &pair.up)?;
+    let low = said_of_side(alloc, &pair.low)?;
+    format!(in alloc; "{}:{}", up.as_str(), low.as_str())
+}
+
+/// A part of an expression, or that there is none.
+fn said_of_part(alloc: Global, part: Option<&PairPart<Raw>>) -> Result<String, AllocError> {
+    match part {
+        Some(PairPart::Atom(pair)) => said_of_pair(alloc, Some(pair)),
+        Some(PairPart::Named(name)) => format!(in alloc; "named {}", name.as_str()),
+        None => String::from_str(alloc, "none"),
+    }
+}
+
+/// What an atom is: as a part of an expression, in the alphabet, as the centre of a rule, and in the list of a set.
+pub fn said_of_atom(alloc: Global, atom: &str) -> Result<String, AllocError> {
+    let names = names(alloc)?;
+    let part = part_in(alloc, &names, atom)?;
+    let pair = symbols_in(alloc, atom)?;
+    let centre = centre_in(alloc, &names, atom)?;
+    let symbol = one_symbol_in(alloc, atom)?;
+    let said_part = said_of_part(alloc, part.as_ref())?;
+    let said_pair = said_of_pair(alloc, pair.as_ref())?;
+    let said_centre = said_of_pair(alloc, centre.as_ref())?;
+    let said_symbol = symbol.as_ref().map_or("none", text_of);
+    format!(in alloc;
+        "part {}, alphabet {}, centre {}, set {}",
+        said_part.as_str(),
+        said_pair.as_str(),
+        said_centre.as_str(),
+        said_symbol
+    )
+}
