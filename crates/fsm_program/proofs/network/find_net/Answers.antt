@@ -1,6 +1,4 @@
-use Rattle.std.proofs.Common.{subst, sym}
 use Rattle.std.proofs.lemmas.Option.{slice_get_within}
-use Rattle.lookup.specs.Answering.{IsOverAlphabet}
 use Rattle.fsm_program.proofs.Shown.{shows_name, shows_none}
 use Rattle.fsm_program.proofs.network.find_net.Goals as goal
 

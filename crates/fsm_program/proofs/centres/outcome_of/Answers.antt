@@ -1,0 +1,45 @@
+use Rattle.std.proofs.Common.{◌<◌, ◌∙◌, List, length, subst, sym}
+use Rattle.project_model.specs.declared.definition.Definition.{Definition}
+use Rattle.fsm_program.proofs.Centres.{behind_one, is_empty, is_free, none_behind}
+use Rattle.fsm_program.proofs.Named.{stands_at}
+use Rattle.fsm_program.proofs.centres.outcome_of.Goals as goal
+
+pub returns-then : goal.returns-then
+returns-then c =
+    let loaded = c.args.project.now in
+    let d = c.index-all-place.result in
+    let same = c.definitions-all.ensures.definitions ∙ c.plan-plan.ensures.definitions in
+    let below = subst (λ (ds : List Definition). c.args.place < length ds) (sym same) c.requires.place in
+    let at = stands_at c.definitions-all.result.now loaded.definitions c.args.place d same below c.index-all-place.is in
+    let (leaf, stood, none) = rw c.if-branch.true at c.in_ok-lacks_part.ensures.yes in
+    behind_one loaded c.args.built.now c.requires.free.are c.args.place d at leaf stood none
+
+pub built_of-requires-clause-parts : goal.built_of-requires-clause-parts
+built_of-requires-clause-parts c =
+    let loaded = c.args.project.now in
+    let d = c.index-all-place.result in
+    let same = c.definitions-all.ensures.definitions ∙ c.plan-plan.ensures.definitions in
+    let below = subst (λ (ds : List Definition). c.args.place < length ds) (sym same) c.requires.place in
+    let at = stands_at c.definitions-all.result.now loaded.definitions c.args.place d same below c.index-all-place.is in
+    none_behind loaded c.args.built.now c.requires.free.are c.args.place d at (rw c.if-branch.false at c.in_ok-lacks_part.ensures.no)
+
+pub returns-in-Ok : goal.returns-in-Ok
+returns-in-Ok c =
+    let loaded = c.args.project.now in
+    let d = c.index-all-place.result in
+    let same = c.definitions-all.ensures.definitions ∙ c.plan-plan.ensures.definitions in
+    let below = subst (λ (ds : List Definition). c.args.place < length ds) (sym same) c.requires.place in
+    let at = stands_at c.definitions-all.result.now loaded.definitions c.args.place d same below c.index-all-place.is in
+    let parts = none_behind loaded c.args.built.now c.requires.free.are c.args.place d at (rw c.if-branch.false at c.in_ok-lacks_part.ensures.no) in
+    (c.in-Ok.ensures.network, is_free loaded c.args.built.now c.requires.free c.args.place parts c.in-Ok.ensures.filled)
+
+pub returns-in-Err-EmptyCentre : goal.returns-in-Err-EmptyCentre
+returns-in-Err-EmptyCentre c =
+    let loaded = c.args.project.now in
+    let d = c.index-all-place.result in
+    let same = c.definitions-all.ensures.definitions ∙ c.plan-plan.ensures.definitions in
+    let below = subst (λ (ds : List Definition). c.args.place < length ds) (sym same) c.requires.place in
+    let at = stands_at c.definitions-all.result.now loaded.definitions c.args.place d same below c.index-all-place.is in
+    let parts = none_behind loaded c.args.built.now c.requires.free.are c.args.place d at (rw c.if-branch.false at c.in_ok-lacks_part.ensures.no) in
+    let why = rw c.in-Err-EmptyCentre.field-0-is at c.in-Err-EmptyCentre.ensures.error in
+    is_empty loaded c.args.built.now c.requires.free c.args.place parts why.0
