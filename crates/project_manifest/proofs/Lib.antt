@@ -1,3 +1,3 @@
+pub mod Firsts
 pub mod Worded
-pub mod Declared
 pub mod Utf8

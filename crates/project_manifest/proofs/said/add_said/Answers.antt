@@ -3,7 +3,7 @@ use Rattle.std.proofs.lemmas.List.{map-append}
 use Rattle.project_manifest.specs.Manifests.{is_epsilon, saying}
 use Rattle.project_manifest.specs.Sayings.{as_written, saying_of}
 use Rattle.project_manifest.proofs.Worded.{says_nothing, says_something}
-use Rattle.project_manifest.proofs.manifest.add_said.Goals as goal
+use Rattle.project_manifest.proofs.said.add_said.Goals as goal
 
 pub returns-then-is_epsilon : goal.returns-then-is_epsilon
 returns-then-is_epsilon c = λ rest.

@@ -3,7 +3,7 @@ use Rattle.std.proofs.lemmas.List.{drop_all, length-map}
 use Rattle.project_manifest.specs.Manifests.{sayings, statements_in}
 use Rattle.project_manifest.specs.Sayings.{as_written, saying_of}
 use Rattle.project_manifest.proofs.Worded.{said_more}
-use Rattle.project_manifest.proofs.manifest.all_said.Goals as goal
+use Rattle.project_manifest.proofs.said.all_said.Goals as goal
 
 pub lines-init : goal.lines-init
 lines-init c =

@@ -2,7 +2,7 @@
 use Rattle.std.proofs.Common.{◌≡◌, ◌↔◌, List, [], ◌∷◌, ◌++◌, map, sym, ap, ◌∙◌, inl, inr, append_assoc, append-nil}
 use Rattle.std.specs.List.{Contains}
 use Rattle.word_relations.proofs.Members.{Contains-head, Contains-tail}
-use Rattle.project_sources.specs.Rows.{First, HaveNone, At, places_from}
+use Rattle.project_manifest.specs.Rows.{First, HaveNone, At, places_from}
 
 module _ {A F : Type 0} (Has : A → F → Type 0) where
   pub none_more : (x : A) (xs : List A) → ((found : F) → Has x found → ⊥) → HaveNone Has xs → HaveNone Has (x ∷ xs)
