@@ -104,7 +104,7 @@ fn names_again(declares: &Declaration, lines: &[ManifestLine], files: &[Text]) -
 }
 
 /// Whether a file is declared behind so many as there may be.
-#[tactic(auto, unfolding(project_manifest::specs::Lines::most_files))]
+#[tactic(auto, unfolding(crate::specs::Lines::most_files))]
 fn names_too_many(declares: &Declaration, files: &[Text]) -> bool
     ensures { (before : List Placed) → files.now ≡ files_in before → IsTrue result ↔ NamesTooMany before (line_of declares.now) }
 {

@@ -18,6 +18,7 @@ mod references;
 mod resolve;
 mod sources;
 mod symbols;
+mod texts;
 mod unknown;
 mod written;
 
