@@ -4,3 +4,4 @@ pub mod Utf8
 pub mod Saying
 pub mod Refusing
 pub mod Growing
+pub mod Looking

@@ -2,7 +2,7 @@ use Rattle.std.proofs.Common.{refl}
 use Rattle.project_sources.specs.Faults.{fault}
 use Rattle.project_model.proofs.NameSteps.{refused_by}
 use Rattle.project_model.proofs.Reading.{newlines_short}
-use Rattle.project_model.proofs.read.statements_in.Goals as goal
+use Rattle.project_model.proofs.files.statements_in.Goals as goal
 
 pub read_xfst-requires : goal.read_xfst-requires
 read_xfst-requires c = newlines_short c.args.text.now c.requires
