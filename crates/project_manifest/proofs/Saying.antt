@@ -18,7 +18,7 @@ nothing said is = cc
 
 -- `lexc NAME FILE`, and the like
 pub lexc_says : (words : List (List ℕ)) (name file : List ℕ) → IsNamedFile words name file → SaysBy Lexc words (lexc_line name file)
-lexc_says words name file (is, named, fine) = subst (λ (w : List (List ℕ)). SaysBy Lexc w (lexc_line name file)) (sym is) (refl, named, fine)
+lexc_says words name file (is, named, fine) = subst (λ (w : List (List ℕ)). SaysBy Lexc w (lexc_line name file)) (sym is) (refl, (named, fine))
 
 pub lexc_none : (words : List (List ℕ)) → ((name file : List ℕ) → IsNamedFile words name file → ⊥) → (said : Line) → SaysBy Lexc words said → ⊥
 lexc_none [] none said (is, fine) = nothing said is
@@ -27,7 +27,7 @@ lexc_none (a ∷ b ∷ []) none said (is, fine) = let both = fine_at said (lexc_
 lexc_none (a ∷ b ∷ c ∷ words) none said (is, fine) = nothing said is
 
 pub twolc_says : (words : List (List ℕ)) (name file : List ℕ) → IsNamedFile words name file → SaysBy Twolc words (twolc_line name file)
-twolc_says words name file (is, named, fine) = subst (λ (w : List (List ℕ)). SaysBy Twolc w (twolc_line name file)) (sym is) (refl, named, fine)
+twolc_says words name file (is, named, fine) = subst (λ (w : List (List ℕ)). SaysBy Twolc w (twolc_line name file)) (sym is) (refl, (named, fine))
 
 pub twolc_none : (words : List (List ℕ)) → ((name file : List ℕ) → IsNamedFile words name file → ⊥) → (said : Line) → SaysBy Twolc words said → ⊥
 twolc_none [] none said (is, fine) = nothing said is

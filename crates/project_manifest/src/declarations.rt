@@ -1,5 +1,5 @@
 ghost use Rattle.std.specs.Prelude.{◌≡◌, ◌∷◌, List, ℕ, [], IfOk, MatchOption, length, map};
-ghost use Rattle.project_manifest.specs.Lines.{Line, SaysLine, file_in, is_gloss, is_unread};
+ghost use Rattle.project_manifest.specs.Lines.{Line, SaysLine, file_in, is_gloss, is_unread, names_required, symbols_said};
 ghost use Rattle.project_manifest.specs.Manifests.{text_of};
 ghost use Rattle.project_manifest.specs.Sayings.{AreNames, AreSymbols, AreTexts, IsFile, IsNamedFile, SaysBy, as_written, line_of};
 
@@ -55,6 +55,26 @@ impl Declaration {
             Declaration::Glosses { file } => Some(file),
             Declaration::Symbols(_) => None,
             Declaration::Required(_) => None,
+        }
+    }
+
+    /// The further symbols that it declares, or none.
+    pub fn symbols(&self) -> &[Text]
+        ensures { result.now ≡ symbols_said (line_of self.now) }
+    {
+        match self {
+            Declaration::Symbols(symbols) => symbols,
+            _ => &[],
+        }
+    }
+
+    /// The names that it requires, or none.
+    pub fn required(&self) -> &[Text]
+        ensures { result.now ≡ names_required (line_of self.now) }
+    {
+        match self {
+            Declaration::Required(names) => names,
+            _ => &[],
         }
     }
 

@@ -1,15 +1,16 @@
 -- Names that lines of a manifest require.
-use Rattle.std.proofs.Common.{◌≡◌, ◌↔◌, ◌+◌, ◌<◌, ℕ, List, [], ◌∷◌, ◌++◌, length, map, take, drop, get_or, refl, sym, ap, subst, ◌∙◌, inl, inr}
+use Rattle.std.proofs.lemmas.List.Elements.{All-tail}
+use Rattle.std.proofs.Common.{All, ◌≡◌, ◌↔◌, ◌+◌, ◌<◌, ℕ, List, [], ◌∷◌, ◌++◌, length, map, take, drop, get_or, refl, sym, ap, subst, ◌∙◌, inl, inr}
 use Rattle.std.proofs.lemmas.List.{map-append, take-append-drop, take_more}
 use Rattle.std.specs.List.{Contains}
 use Rattle.word_relations.proofs.Behind.{left_behind}
 use Rattle.word_relations.proofs.Members.{Contains-map, Contains-map_cases}
 use Rattle.regex_ast.specs.declared.fault.Fault.{Fault}
 use Rattle.regex_ast.specs.declared.fault.Why.TheVariants as why
-use Rattle.project_manifest.specs.Lines.{Placed}
+use Rattle.project_manifest.specs.Lines.{Placed, symbols_of, symbols_said}
 use Rattle.project_manifest.specs.Manifests.{project_name}
 use Rattle.project_manifest.specs.Rows.{First, HaveNone, Where}
-use Rattle.project_manifest.specs.Sayings.{placed_of}
+use Rattle.project_manifest.specs.Sayings.{line_of, placed_of}
 use Rattle.project_manifest.specs.declared.manifest.ManifestLine.{ManifestLine}
 use Rattle.project_manifest.proofs.Firsts.{first_alike, first_past, none_append, none_more}
 use Rattle.project_meaning.specs.Projects.{Defines, Written, definition_in, names_of}
@@ -70,3 +71,12 @@ module _ (names : List (List ℕ)) (xs : List ManifestLine) (i : ℕ) (x : Manif
   unknown_here none is_unknown =
       subst (λ (z : List Placed). UnknownFault names z (fault project_name x.number why.UnknownName)) (sym split)
       (first_past Has (map placed_of (take i xs)) (placed_of x ∷ map placed_of (drop (i + 1) xs)) (fault project_name x.number why.UnknownName) none (inl (is_unknown, refl)))
+
+-- the symbols of lines are those of the line at a place, and of the lines behind it
+pub line_symbols : (xs : List ManifestLine) (i : ℕ) (x : ManifestLine) → i < length xs → x ≡ get_or xs i x
+    → symbols_of (map placed_of (drop i xs)) ≡ symbols_said (line_of x.declares) ++ symbols_of (map placed_of (drop (i + 1) xs))
+line_symbols xs i x below is = ap (λ (z : List ManifestLine). symbols_of (map placed_of z)) (left_behind xs i x below is)
+
+pub All-behind : {X : Type 0} (P : X → Type 0) (xs ys : List X) → All P (xs ++ ys) → All P ys
+All-behind P [] ys all = all
+All-behind P (x ∷ xs) ys all = All-behind P xs ys (All-tail P x (xs ++ ys) all)

@@ -2,9 +2,9 @@ ghost use Rattle.std.specs.Prelude.{◌≡◌, ◌≤◌, ◌+◌, ◌++◌, ◌
 ghost use Rattle.fsm_base.specs.Symbols.{IsSymbol};
 ghost use Rattle.word_relations.specs.Words.{IsDistinct};
 ghost use Rattle.name_order.specs.Orders.{IsOrder};
-ghost use Rattle.project_manifest.specs.Lines.{Placed, symbols_of, symbols_said};
+ghost use Rattle.project_manifest.specs.Lines.{Placed, symbols_of};
 ghost use Rattle.project_manifest.specs.Rows.{First};
-ghost use Rattle.project_manifest.specs.Sayings.{line_of, placed_of};
+ghost use Rattle.project_manifest.specs.Sayings.{placed_of};
 ghost use Rattle.project_meaning.specs.Projects.{names_of, with_texts};
 ghost use Rattle.project_sources.specs.Faults.{definitions_so_far, fault, said_so_far};
 ghost use Rattle.project_sources.specs.Limits.{most_before, most_symbols};
@@ -29,7 +29,7 @@ use crate::unknown::first_unknown;
 use crate::written::WrittenDefine;
 use expr_kinds::Form;
 use fsm_base::{Sym, SymbolTable, Text};
-use project_manifest::{Declaration, ManifestLine};
+use project_manifest::ManifestLine;
 use project_sources::MOST_SYMBOLS;
 use regex_ast::Why;
 use std::alloc::{AllocError, Global};
@@ -122,18 +122,6 @@ fn add_text(text: &Text, table: &mut SymbolTable) -> Result<(), AllocError>
     Ok(())
 }
 
-/// Puts the symbols that a line of a manifest declares into a table, each where it's new and the table has room for it.
-fn add_declared(declares: &Declaration, table: &mut SymbolTable) -> Result<(), AllocError>
-    requires symbols { All IsSymbol (symbols_said (line_of declares.now)) }
-    requires short { length table.old ≤ most_symbols + 1 }
-    ensures { OnOk result (table.new ≡ gathered table.old (symbols_said (line_of declares.now))) }
-{
-    match declares {
-        Declaration::Symbols(symbols) => add_texts(symbols, table),
-        _ => Ok(()),
-    }
-}
-
 /// The symbols that stand in definitions where these names are defined, and further ones that lines of a manifest declare, in
 /// the order of their first places. Where they are more than a project may have, it's one more than that.
 fn alphabet_of(
@@ -147,7 +135,7 @@ fn alphabet_of(
 {
     let mut alphabet = symbols_of(alloc, names, written)?;
     'lines: for line in lines {
-        add_declared(&line.declares, &mut alphabet)?;
+        add_texts(line.declares.symbols(), &mut alphabet)?;
     }
     Ok(alphabet)
 }

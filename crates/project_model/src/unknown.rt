@@ -1,7 +1,6 @@
 ghost use Rattle.std.specs.Prelude.{◌↔◌, List, ℕ, Contains, IsTrue, MatchOption, map};
-ghost use Rattle.project_manifest.specs.Lines.{names_required};
 ghost use Rattle.project_manifest.specs.Manifests.{project_name};
-ghost use Rattle.project_manifest.specs.Sayings.{line_of, placed_of};
+ghost use Rattle.project_manifest.specs.Sayings.{placed_of};
 ghost use Rattle.project_sources.specs.Faults.{fault};
 ghost use Rattle.project_model.specs.Answers.{IsUnknown, UnknownFault};
 ghost use Rattle.regex_ast.specs.declared.fault.Fault.{Fault};
@@ -9,7 +8,7 @@ ghost use Rattle.regex_ast.specs.declared.fault.Why.TheVariants as why;
 
 use crate::names::Names;
 use fsm_base::Text;
-use project_manifest::{Declaration, ManifestLine};
+use project_manifest::ManifestLine;
 
 /// Whether one of these isn't among the names.
 fn has_unknown(names: &Names, required: &[Text]) -> bool
@@ -27,10 +26,7 @@ fn has_unknown(names: &Names, required: &[Text]) -> bool
 fn requires_unknown(names: &Names, line: &ManifestLine) -> bool
     ensures { IsTrue result ↔ IsUnknown names.now (placed_of line.now) }
 {
-    match &line.declares {
-        Declaration::Required(required) => has_unknown(names, required),
-        _ => false,
-    }
+    has_unknown(names, line.declares.required())
 }
 
 /// The first line that requires a name that isn't among these, or `None` where none does.
