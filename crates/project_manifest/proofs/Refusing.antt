@@ -4,11 +4,13 @@ use Rattle.std.specs.Prelude.{IsTrue, Contains}
 use Rattle.std.proofs.lemmas.List.{map-append, take-append-drop, take_more, take_all}
 use Rattle.std.proofs.lemmas.Grind.{flat_map-append}
 use Rattle.word_relations.proofs.Behind.{left_behind}
+use Rattle.regex_ast.specs.declared.fault.ReadError.{ReadError}
+use Rattle.regex_ast.specs.declared.fault.ReadError.TheVariants.{Fault, Memory}
 use Rattle.regex_ast.specs.declared.fault.Why.TheVariants as why
 use Rattle.regex_reader.specs.Files.{FaultAt}
 use Rattle.project_manifest.specs.Lines.{Line, LineFault, LineRow, NamesAgain, NamesTooMany, Placed, SaysLine, SaysSome, SayingsFault, fault_at, file_in, is_unread, line_in, line_rows_so_far, lines_in, many_files, named_again, no_line, not_read, placed_in}
-use Rattle.project_manifest.specs.Manifests.{Saying}
-use Rattle.project_manifest.specs.Reading.{IsFaultless}
+use Rattle.project_manifest.specs.Manifests.{Saying, statements_in}
+use Rattle.project_manifest.specs.Reading.{IsFaultless, IsLineError, IsManifestError}
 use Rattle.project_manifest.specs.Rows.{At, First, HaveNone, places, places_from}
 use Rattle.project_manifest.specs.Sayings.{saying_of}
 use Rattle.project_manifest.specs.declared.said.Said.{Said}
@@ -95,3 +97,11 @@ module _ (xs : List Said) (i : ℕ) (x : Said) (below : i < length xs) (is : x �
         let here : (found : FaultAt) → HasAt (record { before = front; item = saying_of x }) found → ⊥ = subst (λ (b : List Placed). IsFaultless b (saying_of x)) before_is free in
         let all = none_append HasAt (places front) (places_from front (saying_of x ∷ [])) none (none_more HasAt (record { before = front; item = saying_of x }) [] here (λ found h. h)) in
         subst (λ (z : List Saying). HaveNone HasAt (places z)) (sym one_more) (subst (HaveNone HasAt) (sym (places_append [] front (saying_of x ∷ []))) all)
+
+-- the first fault of the lines of a text, or want of memory
+pub manifest_error : (xs : List Said) (i : ℕ) (x : Said) → i < length xs → x ≡ get_or xs i x → (before : List Placed) → before ≡ lines_in (map saying_of (take i xs))
+    → ((found : FaultAt) → SayingsFault line_rows_so_far (map saying_of (take i xs)) found → ⊥) → (text : List ℕ) → map saying_of xs ≡ statements_in text → (error : ReadError)
+    → IsLineError before (saying_of x) error → IsManifestError text error
+manifest_error xs i x below is before before_is none text same (Fault line reason) h =
+    subst (λ (z : List Saying). SayingsFault line_rows_so_far z (fault_at line reason)) same (fault_here xs i x below is before before_is none (fault_at line reason) h)
+manifest_error xs i x below is before before_is none text same (Memory refused) h = tt

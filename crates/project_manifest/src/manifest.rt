@@ -201,7 +201,7 @@ pub fn read_manifest(alloc: Global, text: &str) -> Result<Manifest, ReadError>
     let said = all_said(alloc, text.as_bytes())?;
     let mut lines = Vec::new(alloc);
     let mut files = Vec::new(alloc);
-    'said: for one in &said {
+    'all: for one in &said {
         match add_line(alloc, one, &mut lines, &mut files) {
             Ok(()) => {}
             Err(error) => return Err(error),

@@ -6,10 +6,10 @@ use Rattle.project_manifest.specs.Sayings.{placed_of, saying_of}
 use Rattle.project_manifest.proofs.manifest.read_manifest.Given as goal
 
 -- the lines so far, and the files that they name; none of them has a fault
-abbrev pub invariant-said : goal.invariant-said
-invariant-said l = record {
-  lines : map placed_of l.lines.items ≡ lines_in (map saying_of (take l.one-index l.said.items));
+abbrev pub invariant-all : goal.invariant-all
+invariant-all l = record {
+  lines : map placed_of l.lines.items ≡ lines_in (map saying_of (take l.one-index l.one-items));
   files : l.files.items ≡ files_in (map placed_of l.lines.items);
   formed : IsManifest (map placed_of l.lines.items);
-  free : (found : FaultAt) → SayingsFault line_rows_so_far (map saying_of (take l.one-index l.said.items)) found → ⊥;
+  free : (found : FaultAt) → SayingsFault line_rows_so_far (map saying_of (take l.one-index l.one-items)) found → ⊥;
 }
