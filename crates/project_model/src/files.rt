@@ -12,9 +12,9 @@ ghost use Rattle.project_model.specs.Files.{HasDefined, HasPut, IsUnread};
 ghost use Rattle.regex_ast.specs.declared.fault.Fault.{Fault};
 ghost use Rattle.regex_reader.specs.Files.{FaultAt, ReadsAs, statement_of};
 
+use crate::content::text_of_file;
 use crate::plan_error::{PlanError, refused};
 use crate::sources::Sources;
-use crate::texts::text_of_file;
 use crate::written::WrittenDefine;
 use fsm_base::Text;
 use project_manifest::{Declaration, ManifestLine};

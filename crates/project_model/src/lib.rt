@@ -6,6 +6,7 @@
 //! - [`PlanError`]: why there is no plan.
 #![tactic(auto)]
 
+mod content;
 mod definition;
 mod demands;
 mod files;
@@ -18,7 +19,6 @@ mod references;
 mod resolve;
 mod sources;
 mod symbols;
-mod texts;
 mod unknown;
 mod written;
 

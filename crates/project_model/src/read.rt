@@ -4,11 +4,11 @@ ghost use Rattle.project_manifest.specs.Manifests.{project_name};
 ghost use Rattle.project_sources.specs.Limits.{most_before};
 ghost use Rattle.project_model.specs.Answers.{IsManifestFile, IsNoManifest, IsProjectRead, IsRefusedBy};
 
+use crate::content::text_of_file;
 use crate::files::written_in;
 use crate::plan::{Plan, plan_of};
 use crate::plan_error::{PlanError, refused};
 use crate::sources::Sources;
-use crate::texts::text_of_file;
 use fsm_base::SymbolTable;
 use project_manifest::{Manifest, read_manifest};
 use regex_ast::{ReadError, Why};

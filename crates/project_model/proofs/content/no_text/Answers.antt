@@ -3,7 +3,7 @@ use Rattle.fsm_base.specs.Normal.{IsWhyNoText, source_text}
 use Rattle.project_sources.specs.Faults.{HasNoText}
 use Rattle.project_model.proofs.NameSteps.{refused_by}
 use Rattle.project_model.proofs.Reading.{text_controlled, text_no_utf8}
-use Rattle.project_model.proofs.texts.no_text.Goals as goal
+use Rattle.project_model.proofs.content.no_text.Goals as goal
 
 pub returns-in-NotUtf8 : goal.returns-in-NotUtf8
 returns-in-NotUtf8 c bytes small is =

@@ -4,7 +4,7 @@ use Rattle.project_sources.specs.Faults.{fault, HasNoText}
 use Rattle.project_sources.specs.Limits.{most_bytes}
 use Rattle.project_model.proofs.NameSteps.{refused_by}
 use Rattle.project_model.proofs.Reading.{text_large}
-use Rattle.project_model.proofs.texts.text_of_file.Goals as goal
+use Rattle.project_model.proofs.content.text_of_file.Goals as goal
 
 pub returns-then-bytes-gt-MOST_BYTES-clause-error : goal.returns-then-bytes-gt-MOST_BYTES-clause-error
 unfolding most_bytes
