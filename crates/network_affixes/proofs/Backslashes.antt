@@ -1,7 +1,8 @@
 -- Backslashes in a row: the third one turns back what the second one did.
-use Rattle.std.proofs.Common.{◌≡◌, ◌↔◌, ◌+◌, ℕ, zero, suc, arith, List, subst, sym}
+use Rattle.std.proofs.Common.{◌≡◌, ◌↔◌, ◌+◌, ℕ, zero, suc, arith, List, refl, subst, sym}
 use Rattle.fsm_base.specs.declared.letters.Bound.{Bound}
 use Rattle.expr_meaning.specs.Operators.{IsNotOne}
+use Rattle.network_affixes.specs.Few.{IsFewOf}
 use Rattle.network_affixes.proofs.Alike.{SameWords, words_then, words_back}
 
 module _ {L : Type 0} (alphabet : List L) (P : List (Bound L) → Type 0) where
@@ -26,3 +27,8 @@ module _ {L : Type 0} (alphabet : List L) (P : List (Bound L) → Type 0) where
       rest n pairs = omega arith
       same : (n pairs more : ℕ) → more ≡ suc n + (suc pairs + suc pairs) → suc (suc (suc (n + (pairs + pairs)))) ≡ more
       same n pairs more is = omega (arith, is)
+
+  -- one or two make what they stand for
+  pub not_one_few : (few count : ℕ) → IsFewOf few count → SameWords (IsNotOne alphabet few P) (IsNotOne alphabet count P)
+  not_one_few zero count is = subst (λ k. SameWords (IsNotOne alphabet zero P) (IsNotOne alphabet k P)) (sym (is.some refl)) (λ w. (λ h. h, λ h. h))
+  not_one_few (suc n) count is = not_one_pairs is.pairs n count is.left_out

@@ -1,9 +1,10 @@
-ghost use Rattle.std.specs.Prelude.{◌≡◌, ◌↔◌, ◌≤◌, IfOk, IsTrue, List, Some};
+ghost use Rattle.std.specs.Prelude.{◌≡◌, ◌↔◌, IfOk, IsTrue, List, Some};
 ghost use Rattle.fsm_base.specs.declared.letters.Bound.{Bound};
 ghost use Rattle.fsm_base.specs.declared.letters.Sym.{Sym};
 ghost use Rattle.word_relations.specs.Words.{IsDistinct};
 ghost use Rattle.fsa.specs.Language.{Accepts};
 ghost use Rattle.expr_meaning.specs.Operators.{ArePrefixed, IsNotOne};
+ghost use Rattle.network_affixes.specs.Few.{IsFewOf};
 ghost use Rattle.network_algebra.specs.Networks.{UsesOnly, all_letters};
 
 use fsa::Fsa;
@@ -46,8 +47,7 @@ pub fn apply_prefixes(
 
 /// One backslash or two that make the same as more of them: the third one turns back what the second one did.
 fn few_of(count: u32) -> u32
-    ensures few { result ≤ 2 }
-    ensures same { (alphabet : List Sym) (P : List (Bound Sym) → Type 0) (w : List (Bound Sym)) → IsNotOne alphabet result P w ↔ IsNotOne alphabet count P w }
+    ensures { IsFewOf result count }
 {
     if count > 2 { 2 - count % 2 } else { count }
 }
