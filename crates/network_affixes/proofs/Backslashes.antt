@@ -1,5 +1,5 @@
 -- Backslashes in a row: the third one turns back what the second one did.
-use Rattle.std.proofs.Common.{◌≡◌, ◌↔◌, ◌+◌, ℕ, zero, suc, arith, List, refl, subst, sym}
+use Rattle.std.proofs.Common.{◌≡◌, ◌+◌, ℕ, zero, suc, arith, List, refl, subst, sym}
 use Rattle.fsm_base.specs.declared.letters.Bound.{Bound}
 use Rattle.expr_meaning.specs.Operators.{IsNotOne}
 use Rattle.network_affixes.specs.Few.{IsFewOf}
@@ -25,6 +25,7 @@ module _ {L : Type 0} (alphabet : List L) (P : List (Bound L) → Type 0) where
     where
       rest : (n pairs : ℕ) → suc (n + (pairs + pairs)) ≡ suc n + (pairs + pairs)
       rest n pairs = omega arith
+
       same : (n pairs more : ℕ) → more ≡ suc n + (suc pairs + suc pairs) → suc (suc (suc (n + (pairs + pairs)))) ≡ more
       same n pairs more is = omega (arith, is)
 

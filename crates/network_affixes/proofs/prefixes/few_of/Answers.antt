@@ -1,4 +1,4 @@
-use Rattle.std.proofs.Common.{◌≡◌, ◌+◌, ◌-◌, ◌/◌, ◌%◌, arith}
+use Rattle.std.proofs.Common.{◌+◌, ◌-◌, ◌/◌, ◌%◌, arith}
 use Rattle.network_affixes.proofs.prefixes.few_of.Goals as goal
 
 pub returns-then-count-gt2 : goal.returns-then-count-gt2
