@@ -1,6 +1,6 @@
 use Rattle.std.proofs.Common.{◌<◌, ◌∙◌, List, length, subst, sym}
 use Rattle.project_model.specs.declared.definition.Definition.{Definition}
-use Rattle.fsm_program.proofs.Centres.{behind_one, is_empty, is_free, none_behind}
+use Rattle.fsm_program.proofs.Trying.{behind_one, is_empty, is_free, none_behind}
 use Rattle.fsm_program.proofs.Named.{stands_at}
 use Rattle.fsm_program.proofs.centres.outcome_of.Goals as goal
 

@@ -1,5 +1,5 @@
 use Rattle.std.proofs.Common.{take}
-use Rattle.fsm_program.proofs.Centres.{TriedSoFar}
+use Rattle.fsm_program.proofs.Trying.{TriedSoFar}
 use Rattle.fsm_program.proofs.centres.try_centres.Given as goal
 
 -- what came of the definitions so far
