@@ -2,12 +2,13 @@
 use Rattle.std.proofs.Common.{◌≡◌, ◌<◌, ◌≤◌, ◌+◌, ◌++◌, ◌⊎◌, ℕ, zero, suc, Bool, true, false, cond, nat_lt, List, [], ◌∷◌, length, take, get_or, All, Contains, Option, Some, None, Result, Ok, Err, IfOk, IfErr, OnOk, slice_get, refl, sym, ap, subst, ◌∙◌, inl, inr, arith}
 use Rattle.std.proofs.Math.ListN.{replicate, set}
 use Rattle.std.proofs.lemmas.Bool.{cases_eq, cases_lt}
-use Rattle.std.proofs.lemmas.List.{length-map, length-replicate, length-set, take_more}
-use Rattle.std.proofs.lemmas.List.Elements.{All-contains, All-contains_itself, All-weaker, Contains-append_left, Contains-get_or, Contains-push_cases}
+use Rattle.std.proofs.lemmas.List.{length-map, length-replicate, length-set, map-append, take_all, take_more}
+use Rattle.std.proofs.lemmas.List.Elements.{All-append, All-cons, All-contains, All-contains_itself, All-nil, All-weaker, Contains-append_left, Contains-get_or, Contains-push_cases}
 use Rattle.std.proofs.lemmas.Option.{slice_get-get_or, slice_get-map, slice_get_within, same_Some}
+use Rattle.std.specs.Borrow.{Bor}
 use Rattle.std.specs.List.{flat_map}
 use Rattle.std.specs.Option.{option_map}
-use Rattle.word_relations.proofs.Members.{Contains-nil_cases, Contains-cons_cases, Contains-head, Contains-tail}
+use Rattle.word_relations.proofs.Members.{Contains-nil_cases, Contains-cons_cases, Contains-head, Contains-map, Contains-tail}
 use Rattle.word_relations.proofs.Places.{slice_get_from_Contains, slice_get-set_other, slice_get-set_same}
 use Rattle.fsm_base.specs.Symbols.{number_of}
 use Rattle.fsm_io.specs.Folders.{Files}
@@ -15,7 +16,7 @@ use Rattle.regex_ast.specs.declared.expr.Atom.{Atom}
 use Rattle.regex_ast.specs.declared.expr.Atom.TheVariants.{Sym, Name}
 use Rattle.regex_ast.specs.declared.fault.Fault.{Fault}
 use Rattle.regex_ast.specs.declared.fault.Why.TheVariants as why
-use Rattle.expr_leaves.specs.Leaves.{leaves_in}
+use Rattle.expr_leaves.specs.Leaves.{leaves_in, seen}
 use Rattle.name_order.specs.Graph.{Refers as Leads}
 use Rattle.name_order.specs.Orders.{IsOrder}
 use Rattle.network_algebra.specs.declared.network.Network.{Network}
@@ -376,6 +377,42 @@ module _ (loaded : LoadedView) (order : List ℕ) (ordered : IsOrder (references
             ]);
       };
     }
+
+-- the leaves of an expression, one after another
+module _ (built : List (Option Network)) (leaves : List (Bor Atom)) where
+  abbrev Netted : Atom → Type 0
+  Netted leaf = HasNoNetwork built leaf → ⊥
+
+  pub none_lacking_more : (i : ℕ) (d : Bor Atom) → i < length leaves → Netted (get_or leaves i d).now → All Netted (seen (take i leaves)) → All Netted (seen (take (i + 1) leaves))
+  none_lacking_more i d below here so_far =
+      let one = (get_or leaves i d).now in
+      subst (All Netted) (sym (ap (λ (xs : List (Bor Atom)). seen xs) (take_more leaves i d below) ∙ map-append (λ (x : Bor Atom). x.now) (take i leaves) (get_or leaves i d ∷ [])))
+      (All-append Netted (seen (take i leaves)) (one ∷ []) so_far (All-cons Netted one [] here (All-nil Netted)))
+
+  pub none_lacking : (i : ℕ) (all : List Atom) → length leaves ≤ i → seen leaves ≡ all → All Netted (seen (take i leaves)) → All Netted all
+  none_lacking i all past is so_far = subst (All Netted) (ap (λ (xs : List (Bor Atom)). seen xs) (take_all leaves i past) ∙ is) so_far
+
+  pub one_lacking : (i : ℕ) (d : Bor Atom) (all : List Atom) → i < length leaves → seen leaves ≡ all → HasNoNetwork built (get_or leaves i d).now → (leaf : Atom) × Contains all leaf × HasNoNetwork built leaf
+  one_lacking i d all below is has =
+      let one = (get_or leaves i d).now in
+      (one, subst (λ (xs : List Atom). Contains xs one) is (Contains-map (λ (x : Bor Atom). x.now) leaves (get_or leaves i d) (Contains-get_or leaves i d below)), has)
+
+-- the end of the definitions with centres, among those so far
+module _ (definitions : List Definition) (order : List ℕ) where
+  abbrev NoneFrom : ℕ → ℕ → Type 0
+  NoneFrom end index = (i place : ℕ) (d : Definition) → end ≤ i → i < index → slice_get order i ≡ Some place → slice_get definitions place ≡ Some d → centres_in (body_term d.body) ≡ []
+
+  pub ends_here : (index : ℕ) → NoneFrom (index + 1) (index + 1)
+  ends_here index i place d past less at d_at = absurd (omega (arith, past, less))
+
+  pub ends_before : (end index : ℕ) (p : ℕ) (e : Definition) → slice_get order index ≡ Some p → slice_get definitions p ≡ Some e → centres_in (body_term e.body) ≡ [] → NoneFrom end index → NoneFrom end (index + 1)
+  ends_before end index p e p_at e_at none so_far i place d past less at d_at = elim (cases_eq i index) as (λ _. centres_in (body_term d.body) ≡ []) [
+    | inl same ↦
+        (let p_is : place ≡ p = same_Some place p (sym at ∙ ap (slice_get order) same ∙ p_at) in
+        let d_is : d ≡ e = same_Some d e (sym d_at ∙ ap (slice_get definitions) p_is ∙ e_at) in
+        subst (λ (x : Definition). centres_in (body_term x.body) ≡ []) (sym d_is) none)
+    | inr apart ↦ so_far i place d past (omega (arith, less, apart)) at d_at
+  ]
 
 -- The first mark.
 module _ (loaded : LoadedView) (built : List (Option Network)) (marks : List Bool) (tried : AreTried loaded built marks) where
