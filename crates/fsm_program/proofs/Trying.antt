@@ -1,5 +1,5 @@
 -- Which definitions of a loaded project have an empty centre, as they are tried in order; and the first fault that this is.
-use Rattle.std.proofs.Common.{◌≡◌, ◌<◌, ◌≤◌, ◌+◌, ◌++◌, ◌⊎◌, ℕ, zero, suc, Bool, true, false, cond, nat_lt, List, [], ◌∷◌, length, take, get_or, All, Contains, Option, Some, None, Result, Ok, Err, IfOk, IfErr, OnOk, slice_get, refl, sym, ap, subst, ◌∙◌, inl, inr, arith}
+use Rattle.std.proofs.Common.{◌≡◌, ◌<◌, ◌≤◌, ◌+◌, ◌++◌, ◌⊎◌, ℕ, zero, suc, Bool, true, false, cond, nat_lt, List, [], ◌∷◌, length, length-take-le, take, take-take, get_or, get_or-take, All, Contains, Option, Some, None, Result, Ok, Err, IfOk, IfErr, OnOk, slice_get, refl, sym, ap, subst, ◌∙◌, inl, inr, arith}
 use Rattle.std.proofs.Math.ListN.{replicate, set}
 use Rattle.std.proofs.lemmas.Bool.{cases_eq, cases_lt}
 use Rattle.std.proofs.lemmas.List.{length-map, length-replicate, length-set, map-append, take_all, take_more}
@@ -327,25 +327,44 @@ module _ (loaded : LoadedView) (order : List ℕ) (ordered : IsOrder (references
       let size = length-map loaded.definitions (λ (x : Definition). places_in (length loaded.definitions) (body_term x.body)) in
       omega (arith, below, size)
 
-  -- the next place of the front
-  module _ (i : ℕ) (next : i < end) where
-    abbrev here : ℕ
-    here = get_or order i 0
+  pub all_within : All (λ place. place < length loaded.definitions) order
+  all_within = All-weaker (Contains order) (λ place. place < length loaded.definitions) within_all order (All-contains_itself order)
 
-    in_order : i < length order
-    in_order = omega (arith, next, inside)
+  -- the front itself
+  module _ (front : List ℕ) (front_is : front ≡ take end order) where
+    front_long : length front ≡ end
+    front_long = ap length front_is ∙ length-take-le end order inside
 
-    pub here_within : here < length loaded.definitions
-    here_within = within_all here (Contains-get_or order i 0 in_order)
+    -- the next place of the front
+    module _ (i : ℕ) (next : i < length front) where
+      abbrev here : ℕ
+      here = get_or front i 0
 
-    pub here_behind : (other : ℕ) → Leads (references_of loaded.definitions) here other → Contains (take i order) other
-    here_behind other leads = ordered.behind i here other (slice_get-get_or order i 0 in_order) leads
+      before_end : i < end
+      before_end = let long = front_long in omega (arith, next, long)
 
-    pub front_more : (built : List (Option Network)) (marks : List Bool) (outcome : Outcome) → IsOutcome loaded built here outcome → TriedSoFar loaded (take i order) built marks
-        → TriedSoFar loaded (take (i + 1) order) (with_network outcome here built) (with_empty outcome here marks)
-    front_more built marks outcome is so_far =
-        subst (λ (done : List ℕ). TriedSoFar loaded done (with_network outcome here built) (with_empty outcome here marks)) (sym (take_more order i 0 in_order))
-        (tried_more loaded (take i order) built marks so_far here here_within here_behind outcome is)
+      in_order : i < length order
+      in_order = let less = before_end in omega (arith, less, inside)
+
+      same_place : here ≡ get_or order i 0
+      same_place = ap (λ (xs : List ℕ). get_or xs i 0) front_is ∙ get_or-take end order i 0 before_end
+
+      same_front : take i front ≡ take i order
+      same_front = let less = before_end in ap (take i) front_is ∙ take-take i end order (omega (arith, less))
+
+      pub here_within : here < length loaded.definitions
+      here_within = subst (λ (p : ℕ). p < length loaded.definitions) (sym same_place) (within_all (get_or order i 0) (Contains-get_or order i 0 in_order))
+
+      here_behind : (other : ℕ) → Leads (references_of loaded.definitions) here other → Contains (take i front) other
+      here_behind other leads =
+          subst (λ (ps : List ℕ). Contains ps other) (sym same_front)
+          (ordered.behind i (get_or order i 0) other (slice_get-get_or order i 0 in_order) (subst (λ (p : ℕ). Leads (references_of loaded.definitions) p other) same_place leads))
+
+      pub front_more : (built : List (Option Network)) (marks : List Bool) (outcome : Outcome) → IsOutcome loaded built here outcome → TriedSoFar loaded (take i front) built marks
+          → TriedSoFar loaded (take (i + 1) front) (with_network outcome here built) (with_empty outcome here marks)
+      front_more built marks outcome is so_far =
+          subst (λ (done : List ℕ). TriedSoFar loaded done (with_network outcome here built) (with_empty outcome here marks)) (sym (take_more front i 0 next))
+          (tried_more loaded (take i front) built marks so_far here here_within here_behind outcome is)
 
   -- the whole front
   module _ (plain : (i place : ℕ) (d : Definition) → end ≤ i → slice_get order i ≡ Some place → slice_get loaded.definitions place ≡ Some d → centres_in (body_term d.body) ≡ []) where
@@ -359,7 +378,7 @@ module _ (loaded : LoadedView) (order : List ℕ) (ordered : IsOrder (references
           | inr past ↦ inr (λ d d_at. plain k place d past at d_at)
         ]
 
-    pub tried_all : (built : List (Option Network)) (marks : List Bool) → TriedSoFar loaded (take end order) built marks → AreTried loaded built marks
+    tried_all : (built : List (Option Network)) (marks : List Bool) → TriedSoFar loaded (take end order) built marks → AreTried loaded built marks
     tried_all built marks so_far = record {
       count = so_far.count;
       empty = so_far.empty;
@@ -377,6 +396,9 @@ module _ (loaded : LoadedView) (order : List ℕ) (ordered : IsOrder (references
             ]);
       };
     }
+
+    pub tried_front : (front : List ℕ) (i : ℕ) (built : List (Option Network)) (marks : List Bool) → front ≡ take end order → length front ≤ i → TriedSoFar loaded (take i front) built marks → AreTried loaded built marks
+    tried_front front i built marks is past so_far = tried_all built marks (subst (λ (done : List ℕ). TriedSoFar loaded done built marks) (take_all i front past ∙ is) so_far)
 
 -- the leaves of an expression, one after another
 module _ (built : List (Option Network)) (leaves : List (Bor Atom)) where
