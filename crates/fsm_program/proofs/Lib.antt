@@ -1,4 +1,4 @@
-pub mod Centres
+pub mod Trying
 pub mod Endings
 pub mod LastByte
 pub mod Lawful

@@ -367,6 +367,10 @@ pub none_by : (built : List (Option Network)) (place : ℕ) (o : Option Network)
 none_by built place None at none = at
 none_by built place (Some n) at none = let clash : true ≡ false = none in absurd (cc)
 
+-- what is read at a place that has a network
+pub read_there : (built : List (Option Network)) (place : ℕ) (o : Option Network) → IsThere built place → o ≡ get_or built place o → slice_get built place ≡ Some o
+read_there built place o (n, at) is = slice_get-get_or built place o (slice_get_within built place (Some n) at) ∙ ap (λ (x : Option Network). Some x) (sym is)
+
 -- the networks of a front of the order, of which the wanted one is none
 pub record BuiltSoFar (loaded : LoadedView) (order : List ℕ) (wanted i : ℕ) (built : List (Option Network)) : Type 0 where
   pub are : CentresAreBuilt loaded built

@@ -12,10 +12,15 @@ pub struct Ready {
 }
 
 impl Model for Ready {
+    ghost use Rattle.regex_ast.specs.contracts.expr.Atom as atom;
+    ghost use Rattle.regex_ast.specs.contracts.expr.Expr as expr;
+    ghost use Rattle.std.specs.Coded.{codes};
     ghost use Rattle.fsm_program.specs.Centres.{CentresAreBuilt};
     ghost use Rattle.fsm_program.specs.Loaded.{LoadedView};
 
     ghost Value = { LoadedView };
+
+    ghost coded = { Prim.hlevel (codes, (expr.the_row atom.the_row).coded) };
 
     ghost view = { λ r. r.project };
 

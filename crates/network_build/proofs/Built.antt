@@ -38,23 +38,23 @@ module _ {A : Type 0} (spells : A → Bool) where
     leaves_pass (rules optional groups) h = groups_pass groups h
     leaves_pass (steps e more) h = All-append Passes (leaves_in e) (leaves_in_steps more) (leaves_pass e h.0) (steps_pass more h.1)
 
-    each_passes : (es : Terms A) → AreBuiltBy spells spells es → All Passes (leaves_in_each es)
+    each_passes : (es : Terms A) → AreBuilt spells es → All Passes (leaves_in_each es)
     each_passes no_term h = All-nil Passes
     each_passes (then_term e es) h = All-append Passes (leaves_in e) (leaves_in_each es) (leaves_pass e h.0) (each_passes es h.1)
 
-    links_pass : (links : Links A) → LinksAreBuiltBy spells spells links → All Passes (leaves_in_links links)
+    links_pass : (links : Links A) → LinksAreBuilt spells links → All Passes (leaves_in_links links)
     links_pass no_link h = All-nil Passes
     links_pass (or e links) h = All-append Passes (leaves_in e) (leaves_in_links links) (leaves_pass e h.0) (links_pass links h.1)
     links_pass (and e links) h = All-append Passes (leaves_in e) (leaves_in_links links) (leaves_pass e h.0) (links_pass links h.1)
     links_pass (less e links) h = All-append Passes (leaves_in e) (leaves_in_links links) (leaves_pass e h.0) (links_pass links h.1)
 
-    contexts_pass : (contexts : Contexts A) → ContextsAreBuiltBy spells spells contexts → All Passes (leaves_in_contexts contexts)
+    contexts_pass : (contexts : Contexts A) → ContextsAreBuilt spells contexts → All Passes (leaves_in_contexts contexts)
     contexts_pass no_context h = All-nil Passes
     contexts_pass (between l r contexts) h =
         let both = All-append Passes (leaves_in l) (leaves_in r) (leaves_pass l h.0) (leaves_pass r h.1) in
         All-append Passes (leaves_in l ++ leaves_in r) (leaves_in_contexts contexts) both (contexts_pass contexts h.2)
 
-    steps_pass : (more : Steps A) → StepsAreBuiltBy spells spells more → All Passes (leaves_in_steps more)
+    steps_pass : (more : Steps A) → StepsAreBuilt spells more → All Passes (leaves_in_steps more)
     steps_pass no_step h = All-nil Passes
     steps_pass (cross_with e more) h = All-append Passes (leaves_in e) (leaves_in_steps more) (leaves_pass e h.0) (steps_pass more h.1)
     steps_pass (then e more) h = All-append Passes (leaves_in e) (leaves_in_steps more) (leaves_pass e h.0) (steps_pass more h.1)

@@ -1,8 +1,17 @@
-use Rattle.std.proofs.Common.{◌<◌, ◌∙◌, List, length, subst, sym}
+use Rattle.std.proofs.Common.{◌<◌, ◌∙◌, List, length, rules, subst, sym}
 use Rattle.project_model.specs.declared.definition.Definition.{Definition}
-use Rattle.fsm_program.proofs.Centres.{behind_one, is_empty, is_free, none_behind}
+use Rattle.fsm_program.proofs.Trying.{behind_one, is_empty, is_free, none_behind}
 use Rattle.fsm_program.proofs.Named.{stands_at}
 use Rattle.fsm_program.proofs.centres.outcome_of.Goals as goal
+
+pub bounds-all-place : goal.bounds-all-place
+bounds-all-place c = subst (λ (ds : List Definition). c.args.place < length ds) (sym (c.definitions-all.ensures.definitions ∙ c.plan-plan.ensures.definitions)) c.requires.place
+
+pub offset_bounds-all-place : goal.offset_bounds-all-place
+offset_bounds-all-place c =
+    let below : c.args.place < length c.definitions-all.result.now =
+    subst (λ (ds : List Definition). c.args.place < length ds) (sym (c.definitions-all.ensures.definitions ∙ c.plan-plan.ensures.definitions)) c.requires.place in
+    search rules
 
 pub returns-then : goal.returns-then
 returns-then c =

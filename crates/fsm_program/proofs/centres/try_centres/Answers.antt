@@ -1,7 +1,7 @@
 use Rattle.std.proofs.Common.{◌≤◌, ◌∙◌, arith, subst, sym}
 use Rattle.name_order.specs.Orders.{IsOrder}
 use Rattle.project_model.specs.Referring.{references_of}
-use Rattle.fsm_program.proofs.Centres.{front_more, here_within, tried_all, tried_none, within_all}
+use Rattle.fsm_program.proofs.Trying.{front_more, here_within, tried_all, tried_none, within_all}
 use Rattle.fsm_program.proofs.centres.try_centres.Goals as goal
 
 pub order-starts : goal.order-starts

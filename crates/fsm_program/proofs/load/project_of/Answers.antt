@@ -2,7 +2,7 @@ use Rattle.project_sources.specs.Laws.{unbuilt}
 use Rattle.project_sources.specs.Sources.{project_in}
 use Rattle.project_sources.proofs.Sound.{sound_read}
 use Rattle.std.proofs.Common.{refl}
-use Rattle.fsm_program.proofs.Centres.{first_of_read, loads_project, why_not_loaded}
+use Rattle.fsm_program.proofs.Trying.{first_of_read, loads_project, why_not_loaded}
 use Rattle.fsm_program.proofs.load.project_of.Goals as goal
 
 pub returns-in-Ok-clause-project : goal.returns-in-Ok-clause-project

@@ -1,6 +1,6 @@
 use Rattle.std.proofs.Common.{◌∙◌, refl, sym}
 use Rattle.std.proofs.lemmas.Option.{slice_get_read}
-use Rattle.fsm_program.proofs.Centres.{first_empty, first_within, none_empty, none_marked}
+use Rattle.fsm_program.proofs.Trying.{first_empty, first_within, none_empty, none_marked}
 use Rattle.fsm_program.proofs.Named.{stands_at}
 use Rattle.fsm_program.proofs.load.with_centres.Goals as goal
 

@@ -1,13 +1,14 @@
 -- Which definitions of a loaded project have an empty centre, as they are tried in order; and the first fault that this is.
-use Rattle.std.proofs.Common.{◌≡◌, ◌<◌, ◌≤◌, ◌+◌, ◌++◌, ◌⊎◌, ℕ, zero, suc, Bool, true, false, cond, nat_lt, List, [], ◌∷◌, length, take, get_or, All, Contains, Option, Some, None, Result, Ok, Err, IfOk, IfErr, OnOk, slice_get, refl, sym, ap, subst, ◌∙◌, inl, inr, arith}
+use Rattle.std.proofs.Common.{◌≡◌, ◌<◌, ◌≤◌, ◌+◌, ◌++◌, ◌⊎◌, ℕ, zero, suc, Bool, true, false, cond, nat_lt, List, [], ◌∷◌, length, length-take-le, take, take-take, get_or, get_or-take, All, Contains, Option, Some, None, Result, Ok, Err, IfOk, IfErr, OnOk, slice_get, refl, sym, ap, subst, ◌∙◌, inl, inr, arith}
 use Rattle.std.proofs.Math.ListN.{replicate, set}
 use Rattle.std.proofs.lemmas.Bool.{cases_eq, cases_lt}
-use Rattle.std.proofs.lemmas.List.{length-map, length-replicate, length-set, take_more}
-use Rattle.std.proofs.lemmas.List.Elements.{All-contains, All-contains_itself, All-weaker, Contains-append_left, Contains-get_or, Contains-push_cases}
+use Rattle.std.proofs.lemmas.List.{length-map, length-replicate, length-set, map-append, take_all, take_more}
+use Rattle.std.proofs.lemmas.List.Elements.{All-append, All-cons, All-contains, All-contains_itself, All-nil, All-weaker, Contains-append_left, Contains-get_or, Contains-push_cases}
 use Rattle.std.proofs.lemmas.Option.{slice_get-get_or, slice_get-map, slice_get_within, same_Some}
+use Rattle.std.specs.Borrow.{Bor}
 use Rattle.std.specs.List.{flat_map}
 use Rattle.std.specs.Option.{option_map}
-use Rattle.word_relations.proofs.Members.{Contains-nil_cases, Contains-cons_cases, Contains-head, Contains-tail}
+use Rattle.word_relations.proofs.Members.{Contains-nil_cases, Contains-cons_cases, Contains-head, Contains-map, Contains-tail}
 use Rattle.word_relations.proofs.Places.{slice_get_from_Contains, slice_get-set_other, slice_get-set_same}
 use Rattle.fsm_base.specs.Symbols.{number_of}
 use Rattle.fsm_io.specs.Folders.{Files}
@@ -15,7 +16,7 @@ use Rattle.regex_ast.specs.declared.expr.Atom.{Atom}
 use Rattle.regex_ast.specs.declared.expr.Atom.TheVariants.{Sym, Name}
 use Rattle.regex_ast.specs.declared.fault.Fault.{Fault}
 use Rattle.regex_ast.specs.declared.fault.Why.TheVariants as why
-use Rattle.expr_leaves.specs.Leaves.{leaves_in}
+use Rattle.expr_leaves.specs.Leaves.{leaves_in, seen}
 use Rattle.name_order.specs.Graph.{Refers as Leads}
 use Rattle.name_order.specs.Orders.{IsOrder}
 use Rattle.network_algebra.specs.declared.network.Network.{Network}
@@ -326,25 +327,44 @@ module _ (loaded : LoadedView) (order : List ℕ) (ordered : IsOrder (references
       let size = length-map loaded.definitions (λ (x : Definition). places_in (length loaded.definitions) (body_term x.body)) in
       omega (arith, below, size)
 
-  -- the next place of the front
-  module _ (i : ℕ) (next : i < end) where
-    abbrev here : ℕ
-    here = get_or order i 0
+  pub all_within : All (λ place. place < length loaded.definitions) order
+  all_within = All-weaker (Contains order) (λ place. place < length loaded.definitions) within_all order (All-contains_itself order)
 
-    in_order : i < length order
-    in_order = omega (arith, next, inside)
+  -- the front itself
+  module _ (front : List ℕ) (front_is : front ≡ take end order) where
+    front_long : length front ≡ end
+    front_long = ap length front_is ∙ length-take-le end order inside
 
-    pub here_within : here < length loaded.definitions
-    here_within = within_all here (Contains-get_or order i 0 in_order)
+    -- the next place of the front
+    module _ (i : ℕ) (next : i < length front) where
+      abbrev here : ℕ
+      here = get_or front i 0
 
-    pub here_behind : (other : ℕ) → Leads (references_of loaded.definitions) here other → Contains (take i order) other
-    here_behind other leads = ordered.behind i here other (slice_get-get_or order i 0 in_order) leads
+      before_end : i < end
+      before_end = let long = front_long in omega (arith, next, long)
 
-    pub front_more : (built : List (Option Network)) (marks : List Bool) (outcome : Outcome) → IsOutcome loaded built here outcome → TriedSoFar loaded (take i order) built marks
-        → TriedSoFar loaded (take (i + 1) order) (with_network outcome here built) (with_empty outcome here marks)
-    front_more built marks outcome is so_far =
-        subst (λ (done : List ℕ). TriedSoFar loaded done (with_network outcome here built) (with_empty outcome here marks)) (sym (take_more order i 0 in_order))
-        (tried_more loaded (take i order) built marks so_far here here_within here_behind outcome is)
+      in_order : i < length order
+      in_order = let less = before_end in omega (arith, less, inside)
+
+      same_place : here ≡ get_or order i 0
+      same_place = ap (λ (xs : List ℕ). get_or xs i 0) front_is ∙ get_or-take end order i 0 before_end
+
+      same_front : take i front ≡ take i order
+      same_front = let less = before_end in ap (take i) front_is ∙ take-take i end order (omega (arith, less))
+
+      pub here_within : here < length loaded.definitions
+      here_within = subst (λ (p : ℕ). p < length loaded.definitions) (sym same_place) (within_all (get_or order i 0) (Contains-get_or order i 0 in_order))
+
+      here_behind : (other : ℕ) → Leads (references_of loaded.definitions) here other → Contains (take i front) other
+      here_behind other leads =
+          subst (λ (ps : List ℕ). Contains ps other) (sym same_front)
+          (ordered.behind i (get_or order i 0) other (slice_get-get_or order i 0 in_order) (subst (λ (p : ℕ). Leads (references_of loaded.definitions) p other) same_place leads))
+
+      pub front_more : (built : List (Option Network)) (marks : List Bool) (outcome : Outcome) → IsOutcome loaded built here outcome → TriedSoFar loaded (take i front) built marks
+          → TriedSoFar loaded (take (i + 1) front) (with_network outcome here built) (with_empty outcome here marks)
+      front_more built marks outcome is so_far =
+          subst (λ (done : List ℕ). TriedSoFar loaded done (with_network outcome here built) (with_empty outcome here marks)) (sym (take_more front i 0 next))
+          (tried_more loaded (take i front) built marks so_far here here_within here_behind outcome is)
 
   -- the whole front
   module _ (plain : (i place : ℕ) (d : Definition) → end ≤ i → slice_get order i ≡ Some place → slice_get loaded.definitions place ≡ Some d → centres_in (body_term d.body) ≡ []) where
@@ -358,7 +378,7 @@ module _ (loaded : LoadedView) (order : List ℕ) (ordered : IsOrder (references
           | inr past ↦ inr (λ d d_at. plain k place d past at d_at)
         ]
 
-    pub tried_all : (built : List (Option Network)) (marks : List Bool) → TriedSoFar loaded (take end order) built marks → AreTried loaded built marks
+    tried_all : (built : List (Option Network)) (marks : List Bool) → TriedSoFar loaded (take end order) built marks → AreTried loaded built marks
     tried_all built marks so_far = record {
       count = so_far.count;
       empty = so_far.empty;
@@ -376,6 +396,45 @@ module _ (loaded : LoadedView) (order : List ℕ) (ordered : IsOrder (references
             ]);
       };
     }
+
+    pub tried_front : (front : List ℕ) (i : ℕ) (built : List (Option Network)) (marks : List Bool) → front ≡ take end order → length front ≤ i → TriedSoFar loaded (take i front) built marks → AreTried loaded built marks
+    tried_front front i built marks is past so_far = tried_all built marks (subst (λ (done : List ℕ). TriedSoFar loaded done built marks) (take_all i front past ∙ is) so_far)
+
+-- the leaves of an expression, one after another
+module _ (built : List (Option Network)) (leaves : List (Bor Atom)) where
+  abbrev Netted : Atom → Type 0
+  Netted leaf = HasNoNetwork built leaf → ⊥
+
+  pub none_lacking_more : (i : ℕ) (d : Bor Atom) → i < length leaves → Netted (get_or leaves i d).now → All Netted (seen (take i leaves)) → All Netted (seen (take (i + 1) leaves))
+  none_lacking_more i d below here so_far =
+      let one = (get_or leaves i d).now in
+      subst (All Netted) (sym (ap (λ (xs : List (Bor Atom)). seen xs) (take_more leaves i d below) ∙ map-append (λ (x : Bor Atom). x.now) (take i leaves) (get_or leaves i d ∷ [])))
+      (All-append Netted (seen (take i leaves)) (one ∷ []) so_far (All-cons Netted one [] here (All-nil Netted)))
+
+  pub none_lacking : (i : ℕ) (all : List Atom) → length leaves ≤ i → seen leaves ≡ all → All Netted (seen (take i leaves)) → All Netted all
+  none_lacking i all past is so_far = subst (All Netted) (ap (λ (xs : List (Bor Atom)). seen xs) (take_all leaves i past) ∙ is) so_far
+
+  pub one_lacking : (i : ℕ) (d : Bor Atom) (all : List Atom) → i < length leaves → seen leaves ≡ all → HasNoNetwork built (get_or leaves i d).now → (leaf : Atom) × Contains all leaf × HasNoNetwork built leaf
+  one_lacking i d all below is has =
+      let one = (get_or leaves i d).now in
+      (one, subst (λ (xs : List Atom). Contains xs one) is (Contains-map (λ (x : Bor Atom). x.now) leaves (get_or leaves i d) (Contains-get_or leaves i d below)), has)
+
+-- the end of the definitions with centres, among those so far
+module _ (definitions : List Definition) (order : List ℕ) where
+  abbrev NoneFrom : ℕ → ℕ → Type 0
+  NoneFrom end index = (i place : ℕ) (d : Definition) → end ≤ i → i < index → slice_get order i ≡ Some place → slice_get definitions place ≡ Some d → centres_in (body_term d.body) ≡ []
+
+  pub ends_here : (index : ℕ) → NoneFrom (index + 1) (index + 1)
+  ends_here index i place d past less at d_at = absurd (omega (arith, past, less))
+
+  pub ends_before : (end index : ℕ) (p : ℕ) (e : Definition) → slice_get order index ≡ Some p → slice_get definitions p ≡ Some e → centres_in (body_term e.body) ≡ [] → NoneFrom end index → NoneFrom end (index + 1)
+  ends_before end index p e p_at e_at none so_far i place d past less at d_at = elim (cases_eq i index) as (λ _. centres_in (body_term d.body) ≡ []) [
+    | inl same ↦
+        (let p_is : place ≡ p = same_Some place p (sym at ∙ ap (slice_get order) same ∙ p_at) in
+        let d_is : d ≡ e = same_Some d e (sym d_at ∙ ap (slice_get definitions) p_is ∙ e_at) in
+        subst (λ (x : Definition). centres_in (body_term x.body) ≡ []) (sym d_is) none)
+    | inr apart ↦ so_far i place d past (omega (arith, less, apart)) at d_at
+  ]
 
 -- The first mark.
 module _ (loaded : LoadedView) (built : List (Option Network)) (marks : List Bool) (tried : AreTried loaded built marks) where
