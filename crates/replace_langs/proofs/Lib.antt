@@ -2,3 +2,4 @@ mod Listing
 mod Tables
 pub mod Sets
 mod Paired
+pub mod GapWords

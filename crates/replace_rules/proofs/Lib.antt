@@ -1,4 +1,6 @@
 mod Unions
 mod BlockWords
 mod KeptWords
+mod OverMarks
 mod Relations
+mod Insertions

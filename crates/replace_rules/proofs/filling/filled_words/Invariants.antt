@@ -1,0 +1,10 @@
+use Rattle.word_relations.specs.Words.{IsOver}
+use Rattle.fsa.specs.Language.{Accepts}
+use Rattle.lang_algebra.specs.Languages.{IsLang}
+use Rattle.replace_words.specs.Filled.{IsFilledAt, NoTwo}
+use Rattle.replace_rules.specs.Places.{rules_by}
+use Rattle.replace_rules.proofs.KeptWords.{KeepsBelow}
+use Rattle.replace_rules.proofs.filling.filled_words.Given as goal
+
+abbrev pub invariant-loop-number : goal.invariant-loop-number
+invariant-loop-number l = IsLang l.marks (λ w. ((IsOver l.marks w × Accepts l.words w) × NoTwo w) × KeepsBelow (λ k p. IsFilledAt rules_by l.optional k p) l.places l.number w) l.kept
