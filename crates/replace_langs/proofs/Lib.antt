@@ -2,4 +2,3 @@ mod Listing
 mod Tables
 pub mod Sets
 mod Paired
-pub mod GapWords

@@ -5,14 +5,11 @@
 //! - [`over`]: a language over these letters. [`any`]: all words. [`in_marks`]: the words of a language, each symbol in one mark.
 //! - [`left_words`], [`right_words`]: the words before which, or behind which, a context holds.
 //! - [`keeps_left`], [`keeps_right`], [`leaves_none`]: the words that keep what rules ask of a place.
-//! - [`leaves_no_two`], [`leaves_no_gap`]: the words that keep what insertions ask.
 //! - [`network_of`]: the network of the two sides of the words.
 #![tactic(auto)]
 
 mod constraints;
 mod contexts;
-mod gaps;
-mod kinds;
 mod langs;
 mod letters;
 mod network;
@@ -20,7 +17,6 @@ mod rows;
 
 pub use constraints::{keeps_left, keeps_right, leaves_none};
 pub use contexts::{left_words, right_words};
-pub use gaps::{leaves_no_gap, leaves_no_two};
 pub use langs::{Written, any, in_marks, over};
 pub use letters::every_mark;
 pub use network::network_of;

@@ -1,30 +1,33 @@
 -- Words that keep what rules ask of a place.
-use Rattle.std.proofs.Common.{◌≡◌, ◌↔◌, ℕ, ◌+◌, ◌<◌, ◌≤◌, Bool, true, false, List, [], ◌∷◌, ◌++◌, Some, length, sym, subst, ◌∙◌, inl, inr, arith}
+use Rattle.std.proofs.Common.{◌≡◌, ◌↔◌, ℕ, ◌+◌, ◌<◌, ◌≤◌, Bool, true, false, List, ◌∷◌, ◌++◌, Some, length, sym, subst, ◌∙◌, inl, inr, arith}
 use Rattle.std.specs.List.{Contains, slice_get}
 use Rattle.std.proofs.lemmas.Bool.{cases_lt}
 use Rattle.std.proofs.lemmas.Option.{slice_get_within}
-use Rattle.std.proofs.lemmas.List.Elements.{All-tail}
+use Rattle.std.proofs.lemmas.List.Elements.{All-nil, All-cons, All-tail}
 use Rattle.fsm_base.specs.declared.letters.Sym.{Sym}
 use Rattle.fsm_base.specs.declared.letters.Bound.{Bound}
 use Rattle.fsm_base.specs.declared.letters.Bound.TheVariants.{Inner}
 use Rattle.word_relations.specs.Words.{IsOver}
-use Rattle.word_relations.proofs.Places.{same_at}
+use Rattle.word_relations.proofs.Places.{Contains-from_slice_get, same_at}
 use Rattle.fsa.specs.Automaton.{Automaton}
 use Rattle.fsa.specs.Language as language
-use Rattle.fsa.specs.Complete.{Complete, Accepts}
+use Rattle.fsa.specs.Complete.{Complete, AcceptsFrom, Accepts, stop, read}
 use Rattle.lang_algebra.specs.Languages.{IsLang}
 use Rattle.lang_algebra.proofs.Made.{IsLang-same}
 use Rattle.replace_words.specs.declared.marks.Mark.{Mark}
 use Rattle.replace_words.specs.declared.marks.Mark.TheVariants.{Open, Close}
-use Rattle.replace_words.specs.Filled.{IsFilledAt, LeavesNoGap, NoTwo}
 use Rattle.replace_words.specs.Marked.{copies, KeepsLeft, KeepsRight, LeavesNone, LeftHolds, RightHolds, IsKept}
 use Rattle.replace_langs.proofs.Sets.{over_front, over_back}
-use Rattle.replace_langs.proofs.GapWords.{accepted_over}
 use Rattle.replace_rules.specs.declared.rules.LangMap.{LangMap}
 use Rattle.replace_rules.specs.Places.{Place, HasCentreIn, IsBetween, rules_by}
 
+-- words of a language are over its letters
+pub accepted_letters : {L : Type 0} (d : Complete L) {s : ℕ} {w : List L} → AcceptsFrom d s w → IsOver d.letters w
+accepted_letters d (stop h) = All-nil (Contains d.letters)
+accepted_letters d (read {x = x} {w = w} k letter goes rest) = All-cons (Contains d.letters) x w (Contains-from_slice_get d.letters k x letter) (accepted_letters d rest)
+
 accepted_by : (words lang : Complete (Bound Mark)) → lang.letters ≡ words.letters → (w : List (Bound Mark)) → Accepts words w → IsOver lang.letters w
-accepted_by words lang same w h = subst (λ ls. IsOver ls w) (sym same) (accepted_over words h)
+accepted_by words lang same w h = subst (λ ls. IsOver ls w) (sym same) (accepted_letters words h)
 
 pub between_kept : (k : ℕ) (words left right begun ended first second : Complete (Bound Mark)) → left.letters ≡ words.letters → right.letters ≡ words.letters → IsLang left.letters (λ w. IsOver left.letters w × KeepsLeft (Accepts left) k w) begun → IsLang right.letters (λ w. IsOver right.letters w × KeepsRight (Accepts right) k w) ended
     → IsLang words.letters (λ w. Accepts words w × Accepts begun w) first → IsLang first.letters (λ w. Accepts first w × Accepts ended w) second → IsLang words.letters (λ w. Accepts words w × IsBetween (Accepts left) (Accepts right) k w) second
@@ -54,7 +57,7 @@ module _ (marks : List (Bound Mark)) (words left right kept : Complete (Bound Ma
     (left_is : IsLang marks (λ x. IsOver marks x × LeftHolds rules_by p x) left) (right_is : IsLang marks (λ z. IsOver marks z × RightHolds rules_by p z) right)
     (kept_is : IsLang words.letters (λ w. Accepts words w × IsBetween (Accepts left) (Accepts right) k w) kept) where
   over_words : (w : List (Bound Mark)) → Accepts words w → IsOver marks w
-  over_words w h = subst (λ ls. IsOver ls w) (sym same) (accepted_over words h)
+  over_words w h = subst (λ ls. IsOver ls w) (sym same) (accepted_letters words h)
 
   between_down : (w : List (Bound Mark)) → IsBetween (Accepts left) (Accepts right) k w → KeepsLeft (LeftHolds rules_by p) k w × KeepsRight (RightHolds rules_by p) k w
   between_down w h = (λ x y is. ((left_is.words x).0 (h.0 x y is)).1, λ x y is. ((right_is.words y).0 (h.1 x y is)).1)
@@ -94,98 +97,38 @@ module _ (marks : List (Bound Mark)) (words left right kept : Complete (Bound Ma
       ))
       (subst (λ ls. IsLang ls (λ w. Accepts kept w × LeavesNone (HasCentreIn p.maps) (Accepts left) (Accepts right) w) last) kept_is.over last_is)
 
-  -- what insertion asks
-  gap_down : (w : List (Bound Mark)) → IsOver marks w → LeavesNoGap (Accepts left) (Accepts right) w → LeavesNoGap (LeftHolds rules_by p) (RightHolds rules_by p) w
-  gap_down w over h x m n z is free_m free_n l r =
-      let parts : IsOver marks ((x ++ m ∷ []) ++ n ∷ z) = subst (IsOver marks) is over in
-      h x m n z is free_m free_n ((left_is.words (x ++ m ∷ [])).1 (over_front marks (x ++ m ∷ []) (n ∷ z) parts, l)) ((right_is.words (n ∷ z)).1 (over_back marks (x ++ m ∷ []) (n ∷ z) parts, r))
+-- place after place
+abbrev pub KeepsBelow : Bool → List Place → ℕ → List (Bound Mark) → Type 0
+KeepsBelow optional places i w = (k : ℕ) (p : Place) → k < i → slice_get places k ≡ Some p → IsKept rules_by optional k p w
 
-  gap_up : (w : List (Bound Mark)) → LeavesNoGap (LeftHolds rules_by p) (RightHolds rules_by p) w → LeavesNoGap (Accepts left) (Accepts right) w
-  gap_up w h x m n z is free_m free_n l r = h x m n z is free_m free_n ((left_is.words (x ++ m ∷ [])).0 l).1 ((right_is.words (n ∷ z)).0 r).1
+module _ (optional : Bool) (places : List Place) (letters : List (Bound Mark)) (P : List (Bound Mark) → Type 0) where
+  pub kept_none : (lang : Complete (Bound Mark)) → IsLang letters P lang → IsLang letters (λ w. P w × KeepsBelow optional places 0 w) lang
+  kept_none lang is = IsLang-same letters P (λ w. P w × KeepsBelow optional places 0 w) lang (λ w. (λ h. (h, λ k p l at. absurd (omega (arith, l))), λ h. h.0)) is
 
-  pub filled_optional : optional ≡ true → IsLang words.letters (λ w. Accepts words w × IsFilledAt rules_by optional k p w) kept
-  filled_optional is =
-      IsLang-same words.letters (λ w. Accepts words w × IsBetween (Accepts left) (Accepts right) k w) (λ w. Accepts words w × IsFilledAt rules_by optional k p w) kept
-      (λ w. (
-        λ h. let r = between_down w h.1 in (h.0, record { left = r.0; right = r.1; gap = λ must. absurd (let e : true ≡ false = sym is ∙ must in cc) }),
-        λ h. (h.0, between_up w (over_words w h.0) h.1.left h.1.right),
-      ))
-      kept_is
-
-  pub filled_obligatory : (last : Complete (Bound Mark)) → IsLang kept.letters (λ w. Accepts kept w × LeavesNoGap (Accepts left) (Accepts right) w) last → optional ≡ false → IsLang words.letters (λ w. Accepts words w × IsFilledAt rules_by optional k p w) last
-  filled_obligatory last last_is is =
-      IsLang-same words.letters (λ w. Accepts kept w × LeavesNoGap (Accepts left) (Accepts right) w) (λ w. Accepts words w × IsFilledAt rules_by optional k p w) last
-      (λ w. (
-        λ h.
-            let t = (kept_is.words w).0 h.0 in
-            let r = between_down w t.1 in
-            (t.0, record { left = r.0; right = r.1; gap = λ must. gap_down w (over_words w t.0) h.1 }),
-        λ h. ((kept_is.words w).1 (h.0, between_up w (over_words w h.0) h.1.left h.1.right), gap_up w (h.1.gap is)),
-      ))
-      (subst (λ ls. IsLang ls (λ w. Accepts kept w × LeavesNoGap (Accepts left) (Accepts right) w) last) kept_is.over last_is)
-
--- no gap is left where the words are intersected with those that leave none
-pub gaps_left : (words left right whole last : Complete (Bound Mark)) → left.letters ≡ words.letters → IsLang left.letters (λ w. IsOver left.letters w × LeavesNoGap (Accepts left) (Accepts right) w) whole
-    → IsLang words.letters (λ w. Accepts words w × Accepts whole w) last → IsLang words.letters (λ w. Accepts words w × LeavesNoGap (Accepts left) (Accepts right) w) last
-gaps_left words left right whole last same whole_is last_is =
-    IsLang-same words.letters (λ w. Accepts words w × Accepts whole w) (λ w. Accepts words w × LeavesNoGap (Accepts left) (Accepts right) w) last
-    (λ w. (λ h. (h.0, ((whole_is.words w).0 h.1).1), λ h. (h.0, (whole_is.words w).1 (accepted_by words left same w h.0, h.1)))) last_is
-
--- well-formed words in which no replacement stands directly behind another
-pub once_words : (marks : List (Bound Mark)) (words : Automaton (Bound Mark)) (well once kept : Complete (Bound Mark)) → IsLang marks (λ w. IsOver marks w × language.Accepts words w) well → IsLang marks (λ w. IsOver marks w × NoTwo w) once
-    → IsLang well.letters (λ w. Accepts well w × Accepts once w) kept → IsLang marks (λ w. (IsOver marks w × language.Accepts words w) × NoTwo w) kept
-once_words marks words well once kept well_is once_is kept_is =
-    IsLang-same marks (λ w. Accepts well w × Accepts once w) (λ w. (IsOver marks w × language.Accepts words w) × NoTwo w) kept
-    (λ w. (λ h. ((well_is.words w).0 h.0, ((once_is.words w).0 h.1).1), λ h. ((well_is.words w).1 h.0, (once_is.words w).1 (h.0.0, h.1))))
-    (subst (λ ls. IsLang ls (λ w. Accepts well w × Accepts once w) kept) well_is.over kept_is)
-
--- place after place, of what each asks
-abbrev pub KeepsBelow : (ℕ → Place → List (Bound Mark) → Type 0) → List Place → ℕ → List (Bound Mark) → Type 0
-KeepsBelow Q places i w = (k : ℕ) (p : Place) → k < i → slice_get places k ≡ Some p → Q k p w
-
-module _ (Q : ℕ → Place → List (Bound Mark) → Type 0) (places : List Place) (letters : List (Bound Mark)) (P : List (Bound Mark) → Type 0) where
-  pub kept_none : (lang : Complete (Bound Mark)) → IsLang letters P lang → IsLang letters (λ w. P w × KeepsBelow Q places 0 w) lang
-  kept_none lang is = IsLang-same letters P (λ w. P w × KeepsBelow Q places 0 w) lang (λ w. (λ h. (h, λ k p l at. absurd (omega (arith, l))), λ h. h.0)) is
-
-  pub kept_more : (i : ℕ) (p : Place) (old new : Complete (Bound Mark)) → slice_get places i ≡ Some p → IsLang letters (λ w. P w × KeepsBelow Q places i w) old → IsLang old.letters (λ w. Accepts old w × Q i p w) new
-      → IsLang letters (λ w. P w × KeepsBelow Q places (i + 1) w) new
+  pub kept_more : (i : ℕ) (p : Place) (old new : Complete (Bound Mark)) → slice_get places i ≡ Some p → IsLang letters (λ w. P w × KeepsBelow optional places i w) old → IsLang old.letters (λ w. Accepts old w × IsKept rules_by optional i p w) new
+      → IsLang letters (λ w. P w × KeepsBelow optional places (i + 1) w) new
   kept_more i p old new at before is =
-      IsLang-same letters (λ w. Accepts old w × Q i p w) (λ w. P w × KeepsBelow Q places (i + 1) w) new
+      IsLang-same letters (λ w. Accepts old w × IsKept rules_by optional i p w) (λ w. P w × KeepsBelow optional places (i + 1) w) new
       (λ w. (
         λ h. let r = (before.words w).0 h.0 in (r.0, λ k q l there. more w k q r.1 h.1 l there),
         λ h. ((before.words w).1 (h.0, λ k q l there. h.1 k q (omega (arith, l)) there), h.1 i p (omega arith) at),
       ))
-      (subst (λ ls. IsLang ls (λ w. Accepts old w × Q i p w) new) before.over is)
+      (subst (λ ls. IsLang ls (λ w. Accepts old w × IsKept rules_by optional i p w) new) before.over is)
     where
-      more : (w : List (Bound Mark)) (k : ℕ) (q : Place) → KeepsBelow Q places i w → Q i p w → k < i + 1 → slice_get places k ≡ Some q → Q k q w
-      more w k q below here l there = elim (cases_lt k i) as (λ _. Q k q w) [
+      more : (w : List (Bound Mark)) (k : ℕ) (q : Place) → KeepsBelow optional places i w → IsKept rules_by optional i p w → k < i + 1 → slice_get places k ≡ Some q → IsKept rules_by optional k q w
+      more w k q below here l there = elim (cases_lt k i) as (λ _. IsKept rules_by optional k q w) [
         | inl less ↦ below k q less there
         | inr greater ↦
             let same : k ≡ i = omega (arith, l, greater) in
             let moved : slice_get places i ≡ Some q = subst (λ j. slice_get places j ≡ Some q) same there in
-            subst (λ j. Q j q w) (sym same) (subst (λ x. Q i x w) (same_at places i p q at moved) here)
+            subst (λ j. IsKept rules_by optional j q w) (sym same) (subst (λ x. IsKept rules_by optional i x w) (same_at places i p q at moved) here)
       ]
 
-  pub kept_all : (i : ℕ) (lang : Complete (Bound Mark)) → length places ≤ i → IsLang letters (λ w. P w × KeepsBelow Q places i w) lang → IsLang letters (λ w. P w × ((k : ℕ) (p : Place) → slice_get places k ≡ Some p → Q k p w)) lang
+  pub kept_all : (i : ℕ) (lang : Complete (Bound Mark)) → length places ≤ i → IsLang letters (λ w. P w × KeepsBelow optional places i w) lang → IsLang letters (λ w. P w × ((k : ℕ) (p : Place) → slice_get places k ≡ Some p → IsKept rules_by optional k p w)) lang
   kept_all i lang past is =
-      IsLang-same letters (λ w. P w × KeepsBelow Q places i w) (λ w. P w × ((k : ℕ) (p : Place) → slice_get places k ≡ Some p → Q k p w)) lang
+      IsLang-same letters (λ w. P w × KeepsBelow optional places i w) (λ w. P w × ((k : ℕ) (p : Place) → slice_get places k ≡ Some p → IsKept rules_by optional k p w)) lang
       (λ w. (
         λ h. (h.0, λ k p at. let l = slice_get_within places k p at in h.1 k p (omega (arith, l, past)) at),
         λ h. (h.0, λ k p l at. h.1 k p at),
       ))
       is
-
--- all words of the marks
-pub every_words : (marks : List (Bound Mark)) (any : Automaton (Bound Mark)) (lang : Complete (Bound Mark)) → ((w : List (Bound Mark)) → language.Accepts any w ↔ IsOver marks w) → IsLang marks (λ w. IsOver marks w × language.Accepts any w) lang → IsLang marks (λ w. IsOver marks w) lang
-every_words marks any lang any_is is = IsLang-same marks (λ w. IsOver marks w × language.Accepts any w) (λ w. IsOver marks w) lang (λ w. (λ h. h.0, λ over. (over, (any_is w).1 over))) is
-
--- what is asked, put together first
-pub asked_kept : (marks : List (Bound Mark)) (Q : List (Bound Mark) → Type 0) (words all asked last : Complete (Bound Mark)) → marks ≡ words.letters → IsLang marks (λ w. IsOver marks w) all → IsLang all.letters (λ w. Accepts all w × Q w) asked
-    → IsLang words.letters (λ w. Accepts words w × Accepts asked w) last → IsLang words.letters (λ w. Accepts words w × Q w) last
-asked_kept marks Q words all asked last same all_is asked_is last_is =
-    IsLang-same words.letters (λ w. Accepts words w × Accepts asked w) (λ w. Accepts words w × Q w) last
-    (λ w. (
-      λ h. (h.0, ((asked_is.words w).0 h.1).1),
-      λ h. (h.0, (asked_is.words w).1 ((all_is.words w).1 (subst (λ ls. IsOver ls w) (sym same) (accepted_over words h.0)), h.1)),
-    ))
-    last_is

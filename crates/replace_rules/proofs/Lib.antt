@@ -1,6 +1,4 @@
 mod Unions
 mod BlockWords
 mod KeptWords
-mod OverMarks
 mod Relations
-mod Insertions

@@ -1,28 +1,30 @@
 -- What groups rewrite, the two sides of marked words of their places are.
-use Rattle.std.proofs.Common.{◌≡◌, ◌↔◌, ◌⊎◌, ℕ, Bool, List, [], ◌∷◌, ◌++◌, Option, Some, None, length, refl, sym, ap, subst, inl, inr}
-use Rattle.std.specs.List.{Contains, slice_get, filter_map}
-use Rattle.std.proofs.lemmas.List.Elements.{All-weaker, Contains-append_left, Contains-append_right, Contains-append_cases}
+use Rattle.std.proofs.Common.{◌≡◌, ◌↔◌, ◌⊎◌, ℕ, ◌<◌, Bool, List, [], ◌∷◌, ◌++◌, Option, Some, None, All, length, refl, sym, ap, subst, inl, inr}
+use Rattle.std.specs.List.{Contains, slice_get, flat_map, filter_map}
+use Rattle.std.proofs.lemmas.Option.{slice_get_within}
+use Rattle.std.proofs.lemmas.List.Elements.{All-nil, All-cons, All-head, All-tail, All-append, All-map, All-weaker, All-contains, Contains-append_left, Contains-append_right, Contains-append_cases}
 use Rattle.fsm_base.specs.declared.letters.Sym.{Sym}
 use Rattle.fsm_base.specs.declared.letters.Bound.{Bound}
-use Rattle.fsm_base.specs.declared.letters.Bound.TheVariants.{Edge}
+use Rattle.fsm_base.specs.declared.letters.Bound.TheVariants.{Edge, Inner}
 use Rattle.word_relations.specs.Words.{IsOver}
 use Rattle.word_relations.proofs.Members.{Contains-nil_cases, Contains-cons_cases, Contains-head, Contains-tail, Contains-map, Contains-map_cases}
+use Rattle.word_relations.proofs.Places.{Contains-from_slice_get}
 use Rattle.fsa.specs.Automaton.{Automaton}
 use Rattle.fsa.specs.Language as language
-use Rattle.fsa.specs.Complete.{Complete, Accepts}
+use Rattle.fsa.specs.Complete.{Complete, AcceptsFrom, Accepts, stop, read}
 use Rattle.lang_algebra.specs.Languages.{IsLang}
 use Rattle.expr_meaning.specs.Operators.{inner}
 use Rattle.expr_meaning.specs.Replacement.{Piece, copied, replaced, read_before, read_behind, IsPiece, IsRewritten}
 use Rattle.replace_words.specs.declared.marks.Mark.{Mark}
+use Rattle.replace_words.specs.declared.marks.Mark.TheVariants.{Copy, Up, Low, Same, Open, Close}
 use Rattle.replace_words.specs.Places.{HasNoEmptyCentre, HoldsBetween, ReplacesAt, AppliesAt, IsRewrittenAt}
-use Rattle.replace_words.specs.Marked.{upper_of, lower_of, symbol_of, IsWellMarked, IsKept}
+use Rattle.replace_words.specs.Marked.{ups, lows, sames, bracket, upper_of, lower_of, symbol_of, IsReplacement, IsBlock, IsWellMarked, IsKept}
 use Rattle.replace_words.proofs.Claimed.{rewritings_are_marked}
 use Rattle.replace_langs.specs.Letters.{IsMarkOf}
 use Rattle.replace_rules.specs.declared.rules.LangMap.{LangMap}
 use Rattle.replace_rules.specs.declared.rules.LangContext.{LangContext}
 use Rattle.replace_rules.specs.declared.rules.LangGroup.{LangGroup}
-use Rattle.replace_rules.proofs.OverMarks.{ArePartsOver, well_over}
-use Rattle.replace_rules.specs.Rules.{IsPut, HasCentre, HasMapping, HasContext, Allows, ReplacesBy, AppliesBy, AreMapsOver}
+use Rattle.replace_rules.specs.Rules.{IsPut, HasCentre, HasMapping, HasContext, Allows, ReplacesBy, AppliesBy, IsMapOver, AreMapsOver}
 use Rattle.replace_rules.specs.Places.{Place, choices, place_with, places_in, places_of, HasPlain, HasMarkup, LeftPart, RightPart, rules_by}
 
 -- the places of groups are those of each
@@ -48,15 +50,15 @@ place_maps groups p h =
     (r.0, r.1, ap (λ (q : Place). q.maps) (sym t.2))
 
 -- one of the contexts holds, or none is asked for
-abbrev pub Chosen : List LangContext → List (Bound Sym) → List (Bound Sym) → Type 0
+abbrev Chosen : List LangContext → List (Bound Sym) → List (Bound Sym) → Type 0
 Chosen contexts before behind = (o : Option LangContext) × Contains (choices contexts) o × LeftPart o (Edge ∷ before) × RightPart o (behind ++ Edge ∷ [])
 
-pub chosen_there : (contexts : List LangContext) (before behind : List (Bound Sym)) → ((contexts ≡ []) ⊎ HasContext contexts before behind) → Chosen contexts before behind
+chosen_there : (contexts : List LangContext) (before behind : List (Bound Sym)) → ((contexts ≡ []) ⊎ HasContext contexts before behind) → Chosen contexts before behind
 chosen_there [] before behind h = (None, Contains-head None [], tt, tt)
 chosen_there (c ∷ contexts) before behind (inl none) = let e : c ∷ contexts ≡ [] = none in absurd (cc)
 chosen_there (c ∷ contexts) before behind (inr (d, among, l, r)) = (Some d, Contains-map Some (c ∷ contexts) d among, l, r)
 
-pub chosen_back : (contexts : List LangContext) (before behind : List (Bound Sym)) → Chosen contexts before behind → (contexts ≡ []) ⊎ HasContext contexts before behind
+chosen_back : (contexts : List LangContext) (before behind : List (Bound Sym)) → Chosen contexts before behind → (contexts ≡ []) ⊎ HasContext contexts before behind
 chosen_back [] before behind h = inl refl
 chosen_back (c ∷ contexts) before behind (o, among, l, r) =
     let t = Contains-map_cases Some (c ∷ contexts) o among in
@@ -139,15 +141,55 @@ no_empty_centres symbols groups over p among = record {
     not_empty : (m : LangMap) → Contains p.maps m → Accepts m.centre [] → ⊥
     not_empty m there h = let g = place_maps groups p among in (over g.0 g.1 m (subst (λ ms. Contains ms m) g.2 there)).no_empty h
 
+-- words of a language are over its letters
+accepted_letters : {L : Type 0} (d : Complete L) {s : ℕ} {w : List L} → AcceptsFrom d s w → IsOver d.letters w
+accepted_letters d (stop h) = All-nil (Contains d.letters)
+accepted_letters d (read {x = x} {w = w} k letter goes rest) = All-cons (Contains d.letters) x w (Contains-from_slice_get d.letters k x letter) (accepted_letters d rest)
+
+accepted_symbols : (symbols : List Sym) (d : Complete Sym) (w : List Sym) → IsOver symbols d.letters → Accepts d w → IsOver symbols w
+accepted_symbols symbols d w over h = All-weaker (Contains d.letters) (Contains symbols) (λ s among. All-contains (Contains symbols) d.letters s over among) w (accepted_letters d h)
+
 module _ (symbols : List Sym) (groups : List LangGroup) (over : AreMapsOver symbols groups) where
   abbrev Of : Bound Mark → Type 0
   Of m = IsMarkOf symbols (length (places_of groups)) m
 
-  parts_over : (p : Place) → Contains (places_of groups) p → (m : LangMap) → Contains p.maps m → ArePartsOver symbols m
-  parts_over p among m there =
-      let g = place_maps groups p among in
-      let is = over g.0 g.1 m (subst (λ ms. Contains ms m) g.2 there) in
-      record { centre = is.centre; result = is.result; after = is.after }
+  map_over : (p : Place) → Contains (places_of groups) p → (m : LangMap) → Contains p.maps m → IsMapOver symbols m
+  map_over p among m there = let g = place_maps groups p among in over g.0 g.1 m (subst (λ ms. Contains ms m) g.2 there)
+
+  bracket_over : (k : ℕ) (b : List (Bound Mark)) → k < length (places_of groups) → All Of b → All Of (bracket k b)
+  bracket_over k b l all = All-cons Of (Inner (Open k)) (b ++ Inner (Close k) ∷ []) l (All-append Of b (Inner (Close k) ∷ []) all (All-cons Of (Inner (Close k)) [] l (All-nil Of)))
+
+  ups_over : (w : List Sym) → IsOver symbols w → All Of (ups w)
+  ups_over w h = All-map Of (λ s. Inner (Up s)) w h
+
+  lows_over : (w : List Sym) → IsOver symbols w → All Of (lows w)
+  lows_over w h = All-map Of (λ s. Inner (Low s)) w h
+
+  sames_over : (w : List Sym) → IsOver symbols w → All Of (sames w)
+  sames_over w h = All-map Of (λ s. Inner (Same s)) w h
+
+  replacement_over : (k : ℕ) (p : Place) (v : List (Bound Mark)) → slice_get (places_of groups) k ≡ Some p → IsReplacement rules_by k p v → All Of v
+  replacement_over k p v at (inl (c, r, e, (m, there, none, pc, pr))) =
+      let is = map_over p (Contains-from_slice_get (places_of groups) k p at) m there in
+      subst (All Of) (sym e) (bracket_over k (ups c ++ lows r) (slice_get_within (places_of groups) k p at)
+      (All-append Of (ups c) (lows r) (ups_over c (accepted_symbols symbols m.centre c is.centre pc)) (lows_over r (accepted_symbols symbols m.result r is.result pr))))
+  replacement_over k p v at (inr (b, c, a, e, (m, there, d, some, pc, pb, pa))) =
+      let is = map_over p (Contains-from_slice_get (places_of groups) k p at) m there in
+      subst (All Of) (sym e) (bracket_over k (lows b ++ sames c ++ lows a) (slice_get_within (places_of groups) k p at)
+      (All-append Of (lows b ++ sames c) (lows a) (All-append Of (lows b) (sames c) (lows_over b (accepted_symbols symbols m.result b is.result pb)) (sames_over c (accepted_symbols symbols m.centre c is.centre pc)))
+      (lows_over a (accepted_symbols symbols d a (is.after d some) pa))))
+
+  block_over : (v : List (Bound Mark)) → IsBlock rules_by symbols (places_of groups) v → All Of v
+  block_over v (inl (s, e, among)) = subst (All Of) (sym e) (All-cons Of (Inner (Copy s)) [] among (All-nil Of))
+  block_over v (inr (k, (p, at, is))) = replacement_over k p v at is
+
+  blocks_over : (vs : List (List (Bound Mark))) → All (IsBlock rules_by symbols (places_of groups)) vs → All Of (flat_map (λ v. v) vs)
+  blocks_over [] h = All-nil Of
+  blocks_over (v ∷ vs) h =
+      All-append Of v (flat_map (λ v. v) vs) (block_over v (All-head (IsBlock rules_by symbols (places_of groups)) v vs h)) (blocks_over vs (All-tail (IsBlock rules_by symbols (places_of groups)) v vs h))
+
+  well_over : (z : List (Bound Mark)) → IsWellMarked rules_by symbols (places_of groups) z → All Of z
+  well_over z (vs, e, all) = subst (All Of) (sym e) (All-cons Of Edge (flat_map (λ v. v) vs ++ Edge ∷ []) tt (All-append Of (flat_map (λ v. v) vs) (Edge ∷ []) (blocks_over vs all) (All-cons Of Edge [] tt (All-nil Of))))
 
   -- the network of the words that keep the rules relates what the rules rewrite
   pub replaced_relation : (marks : List (Bound Mark)) (optional : Bool) (well : Automaton (Bound Mark)) (words : Complete (Bound Mark)) → ((m : Bound Mark) → Contains marks m ↔ Of m) → ((w : List (Bound Mark)) → language.Accepts well w ↔ IsWellMarked rules_by symbols (places_of groups) w)
@@ -159,7 +201,7 @@ module _ (symbols : List Sym) (groups : List LangGroup) (over : AreMapsOver symb
         (rewritten_places symbols groups optional u w).1 ((rewritings_are_marked Place rules_by (places_of groups) symbols optional u w (no_empty_centres symbols groups over)).1 (z, ((well_is z).0 r.0.1, r.1), up, low)),
     λ h.
         let (z, is, up, low) = (rewritings_are_marked Place rules_by (places_of groups) symbols optional u w (no_empty_centres symbols groups over)).0 ((rewritten_places symbols groups optional u w).0 h) in
-        let all : IsOver marks z = All-weaker Of (Contains marks) (λ m. (marks_are m).1) z (well_over symbols (places_of groups) parts_over z is.0) in
+        let all : IsOver marks z = All-weaker Of (Contains marks) (λ m. (marks_are m).1) z (well_over z is.0) in
         (z, (words_are.words z).1 ((all, (well_is z).1 is.0), is.1), up, low),
   )
 

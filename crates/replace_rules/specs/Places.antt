@@ -1,11 +1,10 @@
 -- The places of groups, by which the construction goes: each is the mappings of a group with one of its contexts, or with none
 -- where the group has none.
-use Rattle.std.specs.Prelude.{◌≡◌, ◌↔◌, ℕ, List, [], ◌∷◌, ◌++◌, map, Option, Some, None, Contains}
+use Rattle.std.specs.Prelude.{◌≡◌, ℕ, List, [], ◌∷◌, ◌++◌, map, Option, Some, None, Contains}
 use Rattle.std.specs.List.{flat_map}
 use Rattle.fsm_base.specs.declared.letters.Bound.{Bound}
 use Rattle.fsm_base.specs.declared.letters.Sym.{Sym}
 use Rattle.regex_ast.specs.declared.expr.Side.{Side}
-use Rattle.word_relations.specs.Words.{IsOver}
 use Rattle.fsa.specs.Complete.{Complete, Accepts}
 use Rattle.expr_meaning.specs.Operators.{HasPrefix, HasSuffix}
 use Rattle.replace_words.specs.declared.marks.Mark.{Mark}
@@ -61,13 +60,6 @@ rules_by = record {
   left = λ p x. LeftPart p.context x;
   right = λ p z. RightPart p.context z;
 }
-
--- a mapping of the empty word to each word of a language, over these symbols
-pub record IsInsertion (symbols : List Sym) (put : Complete Sym) (m : LangMap) : Type 0 where
-  pub plain : m.after ≡ None
-  pub centre : (c : List Sym) → Accepts m.centre c ↔ (c ≡ [])
-  pub words : (r : List Sym) → Accepts m.result r ↔ Accepts put r
-  pub over : IsOver symbols m.centre.letters × IsOver symbols m.result.letters
 
 -- the marks between the brackets of a replacement by a mapping, and by one of these
 abbrev pub IsBodyOf : Complete Sym → Complete Sym → Option (Complete Sym) → List (Bound Mark) → Type 0

@@ -5,7 +5,6 @@ use Rattle.fsm_base.specs.declared.letters.Bound.{Bound}
 use Rattle.fsm_base.specs.declared.letters.Sym.{Sym}
 use Rattle.word_relations.specs.Words.{IsOver}
 use Rattle.fsa.specs.Complete.{Complete, Accepts}
-use Rattle.regex_ast.specs.declared.expr.Side.{Side}
 use Rattle.expr_meaning.specs.Operators.{inner, HoldsLeft, HoldsRight}
 use Rattle.expr_meaning.specs.Replacement.{Piece, read_before, read_behind}
 use Rattle.replace_rules.specs.declared.rules.LangMap.{LangMap}
@@ -28,12 +27,9 @@ HasMapping maps centre put = (m : LangMap) × Contains maps m × Accepts m.centr
 abbrev pub HasContext : List LangContext → List (Bound Sym) → List (Bound Sym) → Type 0
 HasContext contexts before behind = (c : LangContext) × Contains contexts c × HoldsLeft (Accepts c.left) before × HoldsRight (Accepts c.right) behind
 
--- no context is asked for, or one of them holds between the pieces
-abbrev pub AllowsAt : Side → List LangContext → List (Piece Sym) → List (Piece Sym) → Type 0
-AllowsAt side contexts before behind = (contexts ≡ []) ⊎ HasContext contexts (inner (read_before side before)) (inner (read_behind side behind))
-
+-- the group asks for no context, or one of them holds between the pieces
 abbrev pub Allows : LangGroup → List (Piece Sym) → List (Piece Sym) → Type 0
-Allows g before behind = AllowsAt g.side g.contexts.items before behind
+Allows g before behind = (g.contexts.items ≡ []) ⊎ HasContext g.contexts.items (inner (read_before g.side before)) (inner (read_behind g.side behind))
 
 -- between these pieces, one of the groups replaces the centre by the word, and one has the centre
 abbrev pub ReplacesBy : List LangGroup → List (Piece Sym) → List Sym → List Sym → List (Piece Sym) → Type 0
@@ -41,13 +37,6 @@ ReplacesBy groups before centre put behind = (g : LangGroup) × Contains groups 
 
 abbrev pub AppliesBy : List LangGroup → List (Piece Sym) → List Sym → List (Piece Sym) → Type 0
 AppliesBy groups before centre behind = (g : LangGroup) × Contains groups g × HasCentre g.maps.items centre × Allows g before behind
-
--- between these pieces a word of the language is put in the place of the empty word, and one is asked for
-abbrev pub InsertsBy : Complete Sym → Side → List LangContext → List (Piece Sym) → List Sym → List Sym → List (Piece Sym) → Type 0
-InsertsBy lang side contexts before centre put behind = (centre ≡ []) × Accepts lang put × AllowsAt side contexts before behind
-
-abbrev pub AsksBy : Side → List LangContext → List (Piece Sym) → List Sym → List (Piece Sym) → Type 0
-AsksBy side contexts before centre behind = (centre ≡ []) × AllowsAt side contexts before behind
 
 -- what a mapping speaks of is over these symbols, and no centre is the empty word
 pub record IsMapOver (symbols : List Sym) (m : LangMap) : Type 0 where

@@ -13,7 +13,7 @@ use fsa::Fsa;
 use fsa_rational::union;
 use fsm_base::{Bound, Sym};
 use lang_algebra::Lang;
-use replace_langs::{any, keeps_left, keeps_right, leaves_none, over};
+use replace_langs::{keeps_left, keeps_right, leaves_none, over};
 use replace_words::Mark;
 use std::alloc::{AllocError, Global};
 
@@ -35,33 +35,8 @@ pub fn kept_words(
     Ok(kept)
 }
 
-/// Those of the words that keep what the rules ask at the place of this number. All that is asked there is put together first, which
-/// is small, so that the words are gone through once.
+/// Those of the words that keep what the rules ask at the place of this number.
 fn kept_at(
-    alloc: Global,
-    optional: bool,
-    number: usize,
-    place: &Place,
-    words: &Lang<Bound<Mark>>,
-) -> Result<Lang<Bound<Mark>>, AllocError>
-    ensures { IfOk result (IsLang words.now.letters (λ w. complete.Accepts words.now w × IsKept rules_by optional number place.now w)) }
-{
-    let all = every_word(alloc, words.letters())?;
-    let asked = asked_at(alloc, optional, number, place, &all)?;
-    words.both(alloc, &asked)
-}
-
-/// All words of the marks.
-pub fn every_word(alloc: Global, marks: &[Bound<Mark>]) -> Result<Lang<Bound<Mark>>, AllocError>
-    requires { IsDistinct marks.now }
-    ensures { IfOk result (IsLang marks.now (λ w. IsOver marks.now w)) }
-{
-    let any = any(alloc, marks)?;
-    over(alloc, marks, &any)
-}
-
-/// Those of the words that keep what the rules ask at the place of this number, by one constraint after another.
-fn asked_at(
     alloc: Global,
     optional: bool,
     number: usize,
@@ -82,7 +57,7 @@ fn asked_at(
 
 /// Those of the words in which each replacement by the place of this number stands behind a word of the one language and before
 /// one of the other.
-pub fn in_context(
+fn in_context(
     alloc: Global,
     number: usize,
     words: &Lang<Bound<Mark>>,

@@ -6,17 +6,14 @@
 //! the rules ask there, made small each time.
 //!
 //! - [`LangMap`], [`LangContext`], [`LangGroup`], [`Side`]: rules.
-//! - [`replace`]: the network of groups of rules. [`insert`]: that of an insertion, which stands alone.
+//! - [`replace`]: the network of groups of rules.
 #![tactic(auto)]
 
 mod blocks;
-mod filling;
-mod inserting;
 mod keeping;
 mod places;
 mod replacing;
 mod rules;
 
-pub use inserting::insert;
 pub use replacing::replace;
 pub use rules::{LangContext, LangGroup, LangMap, Side};

@@ -97,7 +97,7 @@ pub fn places_of<'a>(alloc: Global, groups: &'a [LangGroup]) -> Result<Vec<Place
 }
 
 /// Adds the places of a group of these mappings.
-pub fn add_places<'a>(
+fn add_places<'a>(
     places: &mut Vec<Place<'a>>,
     maps: &'a [LangMap],
     side: Side,

@@ -1,5 +1,5 @@
 -- Insertions, as words of marks.
-use Rattle.std.proofs.Common.{◌≡◌, ◌⊎◌, ℕ, Bool, List, [], ◌∷◌, ◌++◌, Some, map, refl, sym, ap, subst, ◌∙◌, inl, inr, append_assoc, append-nil}
+use Rattle.std.proofs.Common.{◌≡◌, ◌↔◌, ◌⊎◌, ℕ, Bool, false, List, [], ◌∷◌, ◌++◌, Option, Some, None, map, refl, sym, ap, subst, ◌∙◌, inl, inr, append_assoc, append-nil}
 use Rattle.std.specs.Prelude.{slice_get, All}
 use Rattle.std.specs.List.{Contains, flat_map, filter_map}
 use Rattle.std.proofs.Math.Path.{subst₂}
@@ -17,11 +17,11 @@ use Rattle.replace_words.specs.declared.marks.Mark.{Mark}
 use Rattle.replace_words.specs.declared.marks.Mark.TheVariants.{Copy, Up, Low, Same, Open, Close}
 use Rattle.replace_words.specs.Claims.{Claim, copied, replaced, marked, IsBy, IsClaim, HoldsAt, IsClaimed}
 use Rattle.replace_words.specs.Places.{Rules, HoldsBetween, ReplacesAt, AppliesAt}
-use Rattle.replace_words.specs.Marked.{encode, written, reading, on_left, on_right, upper_of, lower_of, symbol_of, LeftHolds, RightHolds}
+use Rattle.replace_words.specs.Marked.{encode, written, reading, on_left, on_right, upper_of, lower_of, symbol_of, IsWellMarked, LeftHolds, RightHolds}
 use Rattle.replace_words.specs.Filled.{InsertsOnly, IsFree, NoTwo, LeavesNoGap, IsFilledAt, IsFilledWord}
 use Rattle.replace_words.specs.Laws.{InsertionsAreMarkedWords}
 use Rattle.replace_words.proofs.Splits.{in_first, in_second, split_at, locate, nil_split, single_split}
-use Rattle.replace_words.proofs.Encode.{open_place, close_place, copy_here, edge_here, edge_not_inner, opens, written_opens, written_closes}
+use Rattle.replace_words.proofs.Encode.{open_place, close_place, copy_here, edge_here, edge_not_inner, opens, closes, written_opens, written_closes}
 use Rattle.replace_words.proofs.Reading.{reads_upper, reads_lower, side_of_written}
 use Rattle.replace_words.proofs.Bridge.{left_is, right_is, blocks_of, claims_of}
 use Rattle.replace_words.proofs.Claimed.{forget, holds_there, holds_back, split_claims, first_claim, uppers_forget, lowers_forget, derived_claims, claimed_each}

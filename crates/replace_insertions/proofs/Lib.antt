@@ -1,0 +1,4 @@
+mod GapWords
+mod Brackets
+mod FilledWords
+mod Insertions
