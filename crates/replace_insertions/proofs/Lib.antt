@@ -1,4 +1,4 @@
 mod GapWords
-mod Brackets
+mod BlockWords
 mod FilledWords
 mod Insertions

@@ -6,10 +6,10 @@ ghost use Rattle.replace_words.specs.Filled.{LeavesNoGap, NoTwo};
 ghost use Rattle.replace_insertions.specs.Kinds.{BeginsWith, EndsIn, MeetsNowhere};
 
 use crate::kinds::{MarkKind, marks_of};
-use crate::langs::{any, over};
 use fsa_rational::concat;
 use fsm_base::Bound;
 use lang_algebra::{Lang, one_letter};
+use replace_langs::{any, over};
 use replace_words::Mark;
 use std::alloc::{AllocError, Global};
 

@@ -12,7 +12,8 @@ use fsm_base::{Bound, Pair, Sym};
 use lang_algebra::Lang;
 use lookup::Net;
 use network_algebra::{every_letter, inside};
-use replace_rules::{LangContext, LangGroup, LangMap, Side, insert, replace};
+use replace_insertions::insert;
+use replace_rules::{LangContext, LangGroup, LangMap, Side, replace};
 use std::alloc::{AllocError, Global};
 
 /// The network of the rules of a text.

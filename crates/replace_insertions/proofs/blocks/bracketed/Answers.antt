@@ -1,7 +1,7 @@
 use Rattle.std.proofs.Common.{◌≡◌}
 use Rattle.std.proofs.lemmas.Result.{IfOk-weaker}
 use Rattle.fsa.specs.Language.{Accepts}
-use Rattle.replace_insertions.proofs.Brackets.{bracketed}
+use Rattle.replace_insertions.proofs.BlockWords.{bracketed}
 use Rattle.replace_insertions.proofs.blocks.bracketed.Goals as goal
 
 pub returns : goal.returns

@@ -1,5 +1,5 @@
 use Rattle.replace_insertions.specs.Marked.{IsInsertion}
-use Rattle.replace_insertions.proofs.Brackets.{below_none, below_more, insertion_words}
+use Rattle.replace_insertions.proofs.BlockWords.{below_none, below_more, insertion_words}
 use Rattle.replace_insertions.proofs.blocks.insertions.Goals as goal
 
 pub loop-number-init : goal.loop-number-init

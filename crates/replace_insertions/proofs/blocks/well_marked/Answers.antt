@@ -1,5 +1,5 @@
 use Rattle.std.proofs.lemmas.Result.{IfOk-weaker}
-use Rattle.replace_insertions.proofs.Brackets.{well_words}
+use Rattle.replace_insertions.proofs.BlockWords.{well_words}
 use Rattle.replace_insertions.proofs.blocks.well_marked.Goals as goal
 
 pub returns : goal.returns
