@@ -1,7 +1,8 @@
 -- What insertions relate, the two sides of their words of marks are.
-use Rattle.std.proofs.Common.{◌≡◌, ◌↔◌, ℕ, ◌<◌, Bool, List, [], ◌∷◌, ◌++◌, Some, length, None, refl, sym, ap, subst, ◌∙◌, inl, inr, arith, append-nil}
+use Rattle.std.proofs.Common.{◌≡◌, ◌↔◌, ℕ, ◌<◌, ◌==◌, Bool, true, false, List, [], ◌∷◌, ◌++◌, Some, length, None, refl, sym, ap, subst, ◌∙◌, inl, inr, arith, append-nil}
 use Rattle.std.specs.Prelude.{All}
 use Rattle.std.specs.List.{Contains, slice_get, filter_map, flat_map}
+use Rattle.std.proofs.lemmas.Bool.Decides.{Decides-eqb}
 use Rattle.std.proofs.lemmas.Option.{slice_get_within, slice_get_cases}
 use Rattle.std.proofs.lemmas.List.Elements.{All-nil, All-cons, All-head, All-tail, All-append, All-map, All-weaker, All-contains}
 use Rattle.fsm_base.specs.declared.letters.Sym.{Sym}
@@ -155,3 +156,11 @@ by_everywhere symbols put side contexts places p none one everywhere = same_inse
 
     right : (z : List (Bound Sym)) → HasPrefix (Accepts p.right) z
     right z = ([], z, refl, everywhere.right)
+
+-- whether there are contexts
+pub no_contexts : (contexts : List LangContext) (b : Bool) → b ≡ (length contexts == 0) → b ≡ true → contexts ≡ []
+no_contexts [] b is empty = refl
+no_contexts (c ∷ contexts) b is empty = let none : length (c ∷ contexts) ≡ 0 = (Decides-eqb (length (c ∷ contexts)) 0).0 (sym is ∙ empty) in absurd (omega (arith, none))
+
+pub some_contexts : (contexts : List LangContext) (b : Bool) → b ≡ (length contexts == 0) → b ≡ false → contexts ≡ [] → ⊥
+some_contexts contexts b is some none = let clash : false ≡ true = sym some ∙ is ∙ (Decides-eqb (length contexts) 0).1 (ap (λ (cs : List LangContext). length cs) none) in cc
