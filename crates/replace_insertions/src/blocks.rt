@@ -36,11 +36,7 @@ pub fn well_marked(
 }
 
 /// The insertions by each of so many places.
-fn insertions(
-    alloc: Global,
-    put: &Lang<Sym>,
-    places: usize,
-) -> Result<Fsa<Bound<Mark>>, AllocError>
+fn insertions(alloc: Global, put: &Lang<Sym>, places: usize) -> Result<Fsa<Bound<Mark>>, AllocError>
     ensures { IfOk result (λ m. (v : List (Bound Mark)) → Accepts m v ↔ ((k : ℕ) × (k < places) × IsInsertion put.now k v)) }
 {
     let words = put.to_fsa(alloc)?;

@@ -1,4 +1,4 @@
-use Rattle.std.proofs.Common.{◌≡◌, ◌↔◌, ◌∙◌, List, length, arith, subst, sym}
+use Rattle.std.proofs.Common.{◌≡◌, ◌↔◌, ◌∙◌, List, length, subst, sym}
 use Rattle.std.specs.List.{Contains, filter_map}
 use Rattle.std.proofs.lemmas.Result.{IfOk-weaker}
 use Rattle.fsm_base.specs.declared.letters.Bound.{Bound}
@@ -24,7 +24,7 @@ returns-clause-symbols c =
     let words = c.in_ok-words.words in
     let over = c.in_ok-words.ensures.over ∙ c.deref.ensures.value in
     IfOk-weaker c.network_of.result (λ m. (symbols : List Sym) → AreMarksOf symbols words.letters → UsesSymbols symbols m) (UsesSymbols syms)
-    (λ m are. are syms (c.len.result, λ x among. (c.in_ok-marks.ensures.all x).0 (subst (λ ls. Contains ls x) over among))) c.network_of.ensures.symbols
+    (λ m are. are syms (length c.args.contexts.now, λ x among. (c.in_ok-marks.ensures.all x).0 (subst (λ ls. Contains ls x) over among))) c.network_of.ensures.symbols
 
 pub returns-clause-relation : goal.returns-clause-relation
 returns-clause-relation c =
@@ -34,11 +34,10 @@ returns-clause-relation c =
     let words = c.in_ok-words.words in
     let marks = c.deref.result.now in
     let marks_are : (x : Bound Mark) → Contains marks x ↔ IsMarkOf syms (length contexts) x =
-        λ x. subst (λ ms. Contains ms x ↔ IsMarkOf syms (length contexts) x) c.deref.ensures.value (subst (λ n. Contains c.in_ok-marks.marks.items x ↔ IsMarkOf syms n x) c.len.ensures (c.in_ok-marks.ensures.all x)) in
-    let well_is = rw c.len-2.ensures at c.in_ok-well.ensures in
+    λ x. subst (λ ms. Contains ms x ↔ IsMarkOf syms (length contexts) x) (sym c.deref.ensures.value) (c.in_ok-marks.ensures.all x) in
     IfOk-weaker c.network_of.result
     (λ m. (u w : List Sym) → IsRelated m u w ↔ ((z : List (Bound Mark)) × Accepts words z × (filter_map (symbol_of upper_of) z ≡ u) × (filter_map (symbol_of lower_of) z ≡ w)))
     (λ m. AreSame (IsRelated m) (IsRewrittenAt (inserting put c.args.side) contexts syms c.args.optional))
     (λ m is u w.
-    let r = inserted_relation syms put c.args.side contexts c.requires.over marks c.args.optional c.in_ok-well.well words marks_are well_is c.in_ok-words.ensures u w in
+    let r = inserted_relation syms put c.args.side contexts c.requires.over marks c.args.optional c.in_ok-well.well words marks_are c.in_ok-well.ensures c.in_ok-words.ensures u w in
     (λ h. r.0 ((is u w).0 h), λ h. (is u w).1 (r.1 h))) c.network_of.ensures.relation
