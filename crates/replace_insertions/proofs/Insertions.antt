@@ -1,5 +1,5 @@
 -- What insertions relate, the two sides of their words of marks are.
-use Rattle.std.proofs.Common.{◌≡◌, ◌↔◌, ℕ, ◌<◌, ◌==◌, Bool, true, false, List, [], ◌∷◌, ◌++◌, Some, length, None, refl, sym, ap, subst, ◌∙◌, inl, inr, arith, append-nil}
+use Rattle.std.proofs.Common.{◌≡◌, ◌↔◌, ℕ, ◌<◌, ◌==◌, Bool, true, false, List, [], ◌∷◌, ◌++◌, Some, length, refl, sym, ap, subst, ◌∙◌, inl, inr, arith, append-nil}
 use Rattle.std.specs.Prelude.{All}
 use Rattle.std.specs.List.{Contains, slice_get, filter_map, flat_map}
 use Rattle.std.proofs.lemmas.Bool.Decides.{Decides-eqb}
@@ -15,18 +15,18 @@ use Rattle.fsa.specs.Automaton.{Automaton}
 use Rattle.fsa.specs.Language as language
 use Rattle.fsa.specs.Complete.{Complete, Accepts}
 use Rattle.lang_algebra.specs.Languages.{IsLang}
-use Rattle.expr_meaning.specs.Operators.{inner, HasPrefix, HasSuffix}
-use Rattle.expr_meaning.specs.Replacement.{Piece, copied, replaced, read_before, read_behind, IsPiece, IsRewritten}
+use Rattle.expr_meaning.specs.Operators.{HasPrefix, HasSuffix}
+use Rattle.expr_meaning.specs.Replacement.{Piece, copied, replaced, IsPiece, IsRewritten}
 use Rattle.replace_words.specs.declared.marks.Mark.{Mark}
 use Rattle.replace_words.specs.declared.marks.Mark.TheVariants.{Copy, Low, Open, Close}
-use Rattle.replace_words.specs.Filled.{InsertsOnly, IsFilledAt, IsFilledWord}
+use Rattle.replace_words.specs.Filled.{InsertsOnly, IsFilledWord}
 use Rattle.replace_words.specs.Places.{HoldsBetween, ReplacesAt, AppliesAt, IsRewrittenAt}
-use Rattle.replace_words.specs.Marked.{upper_of, lower_of, symbol_of, bracket, ups, lows, IsBlock, IsWellMarked}
+use Rattle.replace_words.specs.Marked.{upper_of, lower_of, symbol_of, bracket, ups, lows, IsBlock}
 use Rattle.replace_words.proofs.Inserted.{insertions_are_marked}
 use Rattle.replace_langs.specs.Letters.{IsMarkOf}
 use Rattle.replace_rules.specs.declared.rules.LangContext.{LangContext}
 use Rattle.replace_insertions.specs.Insertions.{AllowsAt, InsertsBy, AsksBy}
-use Rattle.replace_insertions.specs.Marked.{inserting, IsAskedAt, AreAskedIn, IsInsertion, IsBlockOf, AreBlocksOf, HoldsEverywhere}
+use Rattle.replace_insertions.specs.Marked.{inserting, AreAskedIn, IsBlockOf, AreBlocksOf, HoldsEverywhere}
 use Rattle.replace_insertions.proofs.GapWords.{accepted_over}
 
 module _ (symbols : List Sym) (put : Complete Sym) (side : Side) (contexts : List LangContext) where

@@ -1,4 +1,3 @@
-use Rattle.std.proofs.Common.{◌≡◌}
 use Rattle.std.proofs.lemmas.Result.{IfOk-weaker}
 use Rattle.fsa.specs.Language.{Accepts}
 use Rattle.replace_insertions.proofs.BlockWords.{bracketed}
