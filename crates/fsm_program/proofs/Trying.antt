@@ -385,14 +385,14 @@ module _ (loaded : LoadedView) (order : List ℕ) (ordered : IsOrder (references
       none = λ place at. (let inside = slice_get_within marks place false at in let many = so_far.count in
           elim (either place (omega (arith, inside, many))) as (λ _. OfPlace loaded place HasNone) [
             | inl done ↦ so_far.none place done at
-            | inr no ↦ (λ said from name name_at has. plain_has_none said loaded from place no name name_at has)
+            | inr plainly ↦ (λ said from name name_at has. plain_has_none said loaded from place plainly name name_at has)
           ]);
       ready = λ filled. record {
         are = so_far.are.are;
         plain = λ place nothing. (let inside = slice_get_within built place None nothing in let many = so_far.are.are.count in
             elim (either place (omega (arith, inside, many))) as (λ _. HasNoCentre loaded place) [
               | inl done ↦ (let (p, marked) = so_far.why place done nothing in absurd (filled p marked))
-              | inr no ↦ no
+              | inr plainly ↦ plainly
             ]);
       };
     }
@@ -412,7 +412,7 @@ module _ (built : List (Option Network)) (leaves : List (Bor Atom)) where
       (All-append Netted (seen (take i leaves)) (one ∷ []) so_far (All-cons Netted one [] here (All-nil Netted)))
 
   pub none_lacking : (i : ℕ) (all : List Atom) → length leaves ≤ i → seen leaves ≡ all → All Netted (seen (take i leaves)) → All Netted all
-  none_lacking i all past is so_far = subst (All Netted) (ap (λ (xs : List (Bor Atom)). seen xs) (take_all leaves i past) ∙ is) so_far
+  none_lacking i all past is so_far = subst (All Netted) (ap (λ (xs : List (Bor Atom)). seen xs) (take_all i leaves past) ∙ is) so_far
 
   pub one_lacking : (i : ℕ) (d : Bor Atom) (all : List Atom) → i < length leaves → seen leaves ≡ all → HasNoNetwork built (get_or leaves i d).now → (leaf : Atom) × Contains all leaf × HasNoNetwork built leaf
   one_lacking i d all below is has =

@@ -5,4 +5,4 @@ use Rattle.fsm_program.proofs.centres.lacks_part.Given as goal
 
 -- no leaf so far is without network
 abbrev pub invariant-leaves : goal.invariant-leaves
-invariant-leaves l = All (λ leaf. HasNoNetwork l.built leaf → ⊥) (seen (take l.leaf-index l.leaves.items))
+invariant-leaves l = All (λ leaf. HasNoNetwork l.built leaf → ⊥) (seen (take l.leaf-index l.leaf-items))

@@ -1,4 +1,7 @@
-use Rattle.std.proofs.Common.{◌<◌, ◌∙◌, List, length, rules, subst, sym}
+use Rattle.expr_leaves.specs.Leaves.{leaves_in}
+use Rattle.project_model.specs.Plans.{body_term}
+use Rattle.fsm_program.specs.Centres.{HasNoNetwork}
+use Rattle.std.proofs.Common.{All, ◌<◌, ◌∙◌, List, length, rules, subst, sym}
 use Rattle.project_model.specs.declared.definition.Definition.{Definition}
 use Rattle.fsm_program.proofs.Trying.{behind_one, is_empty, is_free, none_behind}
 use Rattle.fsm_program.proofs.Named.{stands_at}
@@ -13,8 +16,8 @@ offset_bounds-all-place c =
     subst (λ (ds : List Definition). c.args.place < length ds) (sym (c.definitions-all.ensures.definitions ∙ c.plan-plan.ensures.definitions)) c.requires.place in
     search rules
 
-pub returns-then : goal.returns-then
-returns-then c =
+pub returns-then-branch : goal.returns-then-branch
+returns-then-branch c =
     let loaded = c.args.project.now in
     let d = c.index-all-place.result in
     let same = c.definitions-all.ensures.definitions ∙ c.plan-plan.ensures.definitions in
@@ -30,7 +33,7 @@ built_of-requires-clause-parts c =
     let same = c.definitions-all.ensures.definitions ∙ c.plan-plan.ensures.definitions in
     let below = subst (λ (ds : List Definition). c.args.place < length ds) (sym same) c.requires.place in
     let at = stands_at c.definitions-all.result.now loaded.definitions c.args.place d same below c.index-all-place.is in
-    none_behind loaded c.args.built.now c.requires.free.are c.args.place d at (rw c.if-branch.false at c.in_ok-lacks_part.ensures.no)
+    none_behind loaded c.args.built.now c.requires.free.are c.args.place d at (subst (λ (x : Definition). All (λ leaf. HasNoNetwork c.args.built.now leaf → ⊥) (leaves_in (body_term x.body))) (sym c.index-all-place.is) (rw c.if-branch.false at c.in_ok-lacks_part.ensures.no))
 
 pub returns-in-Ok : goal.returns-in-Ok
 returns-in-Ok c =
@@ -39,7 +42,7 @@ returns-in-Ok c =
     let same = c.definitions-all.ensures.definitions ∙ c.plan-plan.ensures.definitions in
     let below = subst (λ (ds : List Definition). c.args.place < length ds) (sym same) c.requires.place in
     let at = stands_at c.definitions-all.result.now loaded.definitions c.args.place d same below c.index-all-place.is in
-    let parts = none_behind loaded c.args.built.now c.requires.free.are c.args.place d at (rw c.if-branch.false at c.in_ok-lacks_part.ensures.no) in
+    let parts = none_behind loaded c.args.built.now c.requires.free.are c.args.place d at (subst (λ (x : Definition). All (λ leaf. HasNoNetwork c.args.built.now leaf → ⊥) (leaves_in (body_term x.body))) (sym c.index-all-place.is) (rw c.if-branch.false at c.in_ok-lacks_part.ensures.no)) in
     (c.in-Ok.ensures.network, is_free loaded c.args.built.now c.requires.free c.args.place parts c.in-Ok.ensures.filled)
 
 pub returns-in-Err-EmptyCentre : goal.returns-in-Err-EmptyCentre
@@ -49,6 +52,6 @@ returns-in-Err-EmptyCentre c =
     let same = c.definitions-all.ensures.definitions ∙ c.plan-plan.ensures.definitions in
     let below = subst (λ (ds : List Definition). c.args.place < length ds) (sym same) c.requires.place in
     let at = stands_at c.definitions-all.result.now loaded.definitions c.args.place d same below c.index-all-place.is in
-    let parts = none_behind loaded c.args.built.now c.requires.free.are c.args.place d at (rw c.if-branch.false at c.in_ok-lacks_part.ensures.no) in
+    let parts = none_behind loaded c.args.built.now c.requires.free.are c.args.place d at (subst (λ (x : Definition). All (λ leaf. HasNoNetwork c.args.built.now leaf → ⊥) (leaves_in (body_term x.body))) (sym c.index-all-place.is) (rw c.if-branch.false at c.in_ok-lacks_part.ensures.no)) in
     let why = rw c.in-Err-EmptyCentre.field-0-is at c.in-Err-EmptyCentre.ensures.error in
     is_empty loaded c.args.built.now c.requires.free c.args.place parts why.0
