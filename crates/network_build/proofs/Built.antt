@@ -5,7 +5,7 @@ use Rattle.std.proofs.lemmas.List.Sums.{AllPass-from_list_all, list_all-from_All
 use Rattle.std.specs.List.{list_all}
 use Rattle.regex_ast.specs.Terms.{Term, Terms, Links, Contexts, Steps, Mappings, Groups}
 use Rattle.regex_ast.specs.Terms.{empty, any, edge, atom, letters, group, maybe, not_one, cross, suffixed, prefixed, ignore, concat, chain, only, rules, steps, no_term, then_term, no_link, or, and, less, no_context, between, no_step, cross_with, then, no_mapping, plain, markup, insert, no_group, then_group}
-use Rattle.expr_kinds.specs.Built.{IsBuilt, AreBuilt, LinksAreBuilt, ContextsAreBuilt, StepsAreBuilt, MappingsAreBuilt, GroupsAreBuilt, AnyCentre, IsBuiltBy, AreBuiltWith, LinksAreBuiltWith, ContextsAreBuiltWith, StepsAreBuiltWith, MappingsAreBuiltWith, GroupsAreBuiltWith}
+use Rattle.expr_kinds.specs.Built.{AreBuilt, LinksAreBuilt, ContextsAreBuilt, StepsAreBuilt, MappingsAreBuilt, GroupsAreBuilt, AnyCentre, IsBuiltBy, AreBuiltWith, LinksAreBuiltWith, ContextsAreBuiltWith, StepsAreBuiltWith, MappingsAreBuiltWith, GroupsAreBuiltWith}
 use Rattle.expr_leaves.specs.Leaves.{leaves_in, leaves_in_each, leaves_in_links, leaves_in_contexts, leaves_in_steps, leaves_in_mappings, leaves_in_groups}
 use Rattle.expr_leaves.proofs.Behind.{flat_map-alone}
 
