@@ -421,7 +421,7 @@ module _ (built : List (Option Network)) (leaves : List (Bor Atom)) where
 
 -- the end of the definitions with centres, among those so far
 module _ (definitions : List Definition) (order : List ℕ) where
-  abbrev NoneFrom : ℕ → ℕ → Type 0
+  abbrev pub NoneFrom : ℕ → ℕ → Type 0
   NoneFrom end index = (i place : ℕ) (d : Definition) → end ≤ i → i < index → slice_get order i ≡ Some place → slice_get definitions place ≡ Some d → centres_in (body_term d.body) ≡ []
 
   pub ends_here : (index : ℕ) → NoneFrom (index + 1) (index + 1)

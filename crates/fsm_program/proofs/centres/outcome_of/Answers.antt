@@ -1,7 +1,8 @@
 use Rattle.expr_leaves.specs.Leaves.{leaves_in}
 use Rattle.project_model.specs.Plans.{body_term}
 use Rattle.fsm_program.specs.Centres.{HasNoNetwork}
-use Rattle.std.proofs.Common.{All, ◌<◌, ◌∙◌, List, length, rules, subst, sym}
+use Rattle.std.proofs.Common.{All, Contains, ◌<◌, ◌∙◌, List, length, rules, subst, sym}
+use Rattle.regex_ast.specs.declared.expr.Atom.{Atom}
 use Rattle.project_model.specs.declared.definition.Definition.{Definition}
 use Rattle.fsm_program.proofs.Trying.{behind_one, is_empty, is_free, none_behind}
 use Rattle.fsm_program.proofs.Named.{stands_at}
@@ -23,7 +24,8 @@ returns-then-branch c =
     let same = c.definitions-all.ensures.definitions ∙ c.plan-plan.ensures.definitions in
     let below = subst (λ (ds : List Definition). c.args.place < length ds) (sym same) c.requires.place in
     let at = stands_at c.definitions-all.result.now loaded.definitions c.args.place d same below c.index-all-place.is in
-    let (leaf, stood, none) = rw c.if-branch.true at c.in_ok-lacks_part.ensures.yes in
+    let (leaf, stood, none) =
+    subst (λ (x : Definition). (leaf : Atom) × Contains (leaves_in (body_term x.body)) leaf × HasNoNetwork c.args.built.now leaf) (sym c.index-all-place.is) (rw c.if-branch.true at c.in_ok-lacks_part.ensures.yes) in
     behind_one loaded c.args.built.now c.requires.free.are c.args.place d at leaf stood none
 
 pub built_of-requires-clause-parts : goal.built_of-requires-clause-parts
