@@ -1,0 +1,82 @@
+-- Entries and lexicons, gathered one after another while flags are added.
+use Rattle.std.proofs.Common.{◌≡◌, ℕ, zero, suc, ◌+◌, ◌<◌, List, [], ◌∷◌, ◌++◌, Option, None, Some, length, refl, sym, ap, subst, inl, inr, arith, ◌∙◌}
+use Rattle.std.specs.List.{Contains, slice_get}
+use Rattle.std.proofs.lemmas.List.{length_push}
+use Rattle.std.proofs.lemmas.List.Elements.{Contains-append_left, Contains-push, Contains-push_cases}
+use Rattle.std.proofs.lemmas.Option.{same_Some, slice_get_within}
+use Rattle.word_relations.proofs.Members.{Contains-nil_cases}
+use Rattle.word_relations.proofs.Places.{slice_get-append_left, slice_get-append_cases, slice_get-push}
+use Rattle.fsm_base.specs.declared.letters.Sym.{Sym}
+use Rattle.fsa.specs.Automaton.{Automaton}
+use Rattle.regex_ast.specs.declared.expr.Atom.{Atom}
+use Rattle.regex_ast.specs.declared.lexc.FlagOp.{FlagOp}
+use Rattle.project_meaning.specs.Trees.{Form, Entry, Lexicon}
+use Rattle.flag_diacritics.specs.Numbers.{Keeps}
+use Rattle.flag_diacritics.specs.declared.tape.Tape.{Tape}
+use Rattle.lexc_compile.specs.declared.entry.LexEntry.{LexEntry}
+use Rattle.network_expr.specs.declared.parts.Part.{Part}
+use Rattle.network_lexicons.specs.Entries.{IsNetOf, IsPlaceOf, IsEntryFor, AreEntriesFor, AreLexiconsFor}
+use Rattle.network_lexicons.proofs.Sided.{keeps_more}
+
+module _ (parts : List Part) (alphabet : List Sym) (names : List (List ℕ)) where
+  -- nothing changes where flags are added
+  module _ (flags more : List FlagOp) (keeps : Keeps flags more) where
+    net_kept : (form : Form Atom) (m : Automaton Tape) → IsNetOf parts alphabet flags form m → IsNetOf parts alphabet more form m
+    net_kept form m is = record { symbols = is.symbols; tapes = λ all kept. is.tapes all (keeps_more flags more all keeps kept) }
+
+    entry_kept : (entry : Entry Atom) (b : LexEntry) → IsEntryFor parts alphabet names flags entry b → IsEntryFor parts alphabet names more entry b
+    entry_kept entry b is = record { net = net_kept entry.form b.net is.net; next = is.next }
+
+    entries_kept : (entries : List (Entry Atom)) (built : List LexEntry) → AreEntriesFor parts alphabet names flags entries built → AreEntriesFor parts alphabet names more entries built
+    entries_kept entries built are = record {
+      only = λ b held. let r = are.only b held in (r.0, r.1, entry_kept r.0 b r.2);
+      all = λ entry place held at. let r = are.all entry place held at in (r.0, r.1, entry_kept entry r.0 r.2);
+    }
+
+  pub entries_none : (flags : List FlagOp) → AreEntriesFor parts alphabet names flags [] []
+  entries_none flags = record { only = λ b held. absurd (Contains-nil_cases b held); all = λ entry place held at. absurd (Contains-nil_cases entry held) }
+
+  module _ (flags : List FlagOp) (entries : List (Entry Atom)) (built : List LexEntry) (before : AreEntriesFor parts alphabet names flags entries built) (entry : Entry Atom) where
+    pub entries_more : (more : List FlagOp) (b : LexEntry) → Keeps flags more → IsEntryFor parts alphabet names more entry b → AreEntriesFor parts alphabet names more (entries ++ entry ∷ []) (built ++ b ∷ [])
+    entries_more more b keeps is =
+        let kept = entries_kept flags more keeps entries built before in
+        record {
+          only = λ c held. elim (Contains-push_cases built b c held) [
+            | inl old ↦ let r = kept.only c old in (r.0, Contains-append_left entries (entry ∷ []) r.0 r.1, r.2)
+            | inr same ↦ (entry, Contains-push entries entry, subst (λ (d : LexEntry). IsEntryFor parts alphabet names more entry d) same is)
+          ];
+          all = λ e place held at. elim (Contains-push_cases entries entry e held) [
+            | inl old ↦ let r = kept.all e place old at in (r.0, Contains-append_left built (b ∷ []) r.0 r.1, r.2)
+            | inr same ↦ (b, Contains-push built b, subst (λ (d : Entry Atom). IsEntryFor parts alphabet names more d b) same is)
+          ];
+        }
+
+    pub entries_past : ((place : Option ℕ) → IsPlaceOf names entry.next place → ⊥) → AreEntriesFor parts alphabet names flags (entries ++ entry ∷ []) built
+    entries_past missing = record {
+      only = λ c held. let r = before.only c held in (r.0, Contains-append_left entries (entry ∷ []) r.0 r.1, r.2);
+      all = λ e place held at. elim (Contains-push_cases entries entry e held) [
+        | inl old ↦ before.all e place old at
+        | inr same ↦ absurd (missing place (subst (λ (d : Entry Atom). IsPlaceOf names d.next place) (sym same) at))
+      ];
+    }
+
+  pub lexicons_none : (flags : List FlagOp) → AreLexiconsFor parts alphabet names flags [] []
+  lexicons_none flags = record { count = refl; each = λ k l at. let clash : None ≡ Some l = at in cc }
+
+  pub lexicons_more : (flags more : List FlagOp) (lexicons : List (Lexicon Atom)) (built : List (List LexEntry)) (l : Lexicon Atom) (entries : List LexEntry)
+      → Keeps flags more → AreLexiconsFor parts alphabet names flags lexicons built → AreEntriesFor parts alphabet names more l.entries entries → AreLexiconsFor parts alphabet names more (lexicons ++ l ∷ []) (built ++ entries ∷ [])
+  lexicons_more flags more lexicons built l entries keeps before are = record {
+    count = length_push built entries ∙ ap (λ n. n + 1) before.count ∙ sym (length_push lexicons l);
+    each = λ k m at. elim (slice_get-append_cases lexicons (l ∷ []) k m at) [
+      | inl old ↦
+          let r = before.each k m old in
+          (r.0, slice_get-append_left built (entries ∷ []) k (slice_get_within built k r.0 r.1) ∙ r.1, entries_kept flags more keeps m.entries r.0 r.2)
+      | inr r ↦ last k m r.0 r.1 r.2
+    ];
+  }
+    where
+      last : (k : ℕ) (m : Lexicon Atom) (j : ℕ) → k ≡ j + length lexicons → slice_get (l ∷ []) j ≡ Some m → (es : List LexEntry) × (slice_get (built ++ entries ∷ []) k ≡ Some es) × AreEntriesFor parts alphabet names more m.entries es
+      last k m zero place at =
+          let here : k ≡ length built = let count = before.count in omega arith in
+          (entries, ap (slice_get (built ++ entries ∷ [])) here ∙ slice_get-push built entries, subst (λ (d : Lexicon Atom). AreEntriesFor parts alphabet names more d.entries entries) (same_Some l m at) are)
+      last k m (suc j) place at = let clash : None ≡ Some m = at in cc
