@@ -33,7 +33,7 @@ use Rattle.network_expr.specs.declared.parts.Part.{Part}
 use Rattle.network_lexicons.specs.Plain.{piece_of, symbol_in}
 use Rattle.network_lexicons.specs.Built.{PieceIsBuilt}
 use Rattle.network_lexicons.specs.Sides.{upper_pieces, lower_pieces, upper_side, lower_side, side_of, HasSides}
-use Rattle.network_lexicons.specs.Entries.{IsPairOver, HasTape, IsNetOf}
+use Rattle.network_lexicons.specs.Entries.{UsesPairsOver, IsNetOf}
 
 -- a symbol of a side that is built is one of the alphabet
 leaf_over : (alphabet : List Sym) (leaf : Atom) → IsTrue (is_symbol_of alphabet leaf) → Contains alphabet (symbol_in leaf)
@@ -89,54 +89,52 @@ pairs_of_names (p ∷ ps) (t ∷ tape) e =
     let tail = pairs_of_names ps tape rest in
     cc
 
-module _ (parts : List Part) (alphabet : List Sym) (flags : List FlagOp) where
-  -- the tape of two sides
-  pub sides_net : (upper lower : List (PieceOf Atom)) (tape : List Tape) (m : Automaton Tape) → All (PieceIsBuilt alphabet) (map piece_of upper) → All (PieceIsBuilt alphabet) (map piece_of lower) → HasSides flags upper lower tape
-      → ((t : Tape) → UsesLetter m t → Contains tape t) → ((v : List Tape) → Accepts m v ↔ (v ≡ tape)) → IsNetOf parts alphabet flags (sides (map piece_of upper) (map piece_of lower)) m
-  sides_net upper lower tape m up_built low_built has letters language =
+-- the tape of two sides
+module _ (flags : List FlagOp) (upper lower : List (PieceOf Atom)) (tape : List Tape) (has : HasSides flags upper lower tape) (m : Automaton Tape) where
+  pub sides_symbols : (alphabet : List Sym) → All (PieceIsBuilt alphabet) (map piece_of upper) → All (PieceIsBuilt alphabet) (map piece_of lower) → ((t : Tape) → UsesLetter m t → Contains tape t) → UsesPairsOver alphabet m
+  sides_symbols alphabet up_built low_built letters pair uses =
       let same : Keeps flags flags = λ k f at. at in
+      let held = letters (OfPair pair) uses in
       record {
-        symbols = λ pair uses.
-            let held = letters (OfPair pair) uses in
-            record {
-              up = λ x is. side_over alphabet upper x up_built (subst (λ s. Contains s (letter x)) (has.upper_is flags same) (on_side (upper_pieces flags) tape (OfPair pair) (letter x) held (has_symbol pair.up x is)));
-              low = λ x is. side_over alphabet lower x low_built (subst (λ s. Contains s (letter x)) (has.lower_is flags same) (on_side (lower_pieces flags) tape (OfPair pair) (letter x) held (has_symbol pair.low x is)));
-            };
-        tapes = λ all keeps x y. (
-          λ adds. (tape, (language tape).1 refl, adds.0 ∙ sym (has.upper_is all keeps), adds.1 ∙ sym (has.lower_is all keeps)),
-          λ (v, path, up, low).
-              let is = (language v).0 path in
-              (up ∙ ap (upper_side all) is ∙ has.upper_is all keeps, low ∙ ap (lower_side all) is ∙ has.lower_is all keeps),
-        );
+        up = λ x is. side_over alphabet upper x up_built (subst (λ s. Contains s (letter x)) (has.upper_is flags same) (on_side (upper_pieces flags) tape (OfPair pair) (letter x) held (has_symbol pair.up x is)));
+        low = λ x is. side_over alphabet lower x low_built (subst (λ s. Contains s (letter x)) (has.lower_is flags same) (on_side (lower_pieces flags) tape (OfPair pair) (letter x) held (has_symbol pair.low x is)));
       }
 
-  -- the tapes of pairs
-  pub pairs_net : (e : Term Atom) (r : Automaton Pair) (m : Automaton Tape) → UsesSymbols alphabet r → AreSame (IsRelated r) (Relates (stands parts) alphabet e)
-      → ((t : Tape) → UsesLetter m t → (p : Pair) × UsesLetter r p × (Some (OfPair p) ≡ Some t)) → ((v : List Tape) → Accepts m v ↔ IsRenamed name (Accepts r) v) → IsNetOf parts alphabet flags (pairs e) m
-  pairs_net e r m over related letters language = record {
-    symbols = λ pair uses.
-        let s = letters (OfPair pair) uses in
-        let same : s.0 ≡ pair = let e : OfPair s.0 ≡ OfPair pair = same_Some (OfPair s.0) (OfPair pair) s.2 in cc in
-        let used : UsesLetter r pair = subst (UsesLetter r) same s.1 in
-        record { up = λ x is. over.upper x (pair, used, is); low = λ x is. over.lower x (pair, used, is) };
-    tapes = λ all keeps x y. (
-      λ (u, w, relates, up, low).
-          let v = (related u w).1 relates in
-          (
-            map OfPair v.0,
-            (language (map OfPair v.0)).1 (v.0, v.1, names_of_pairs v.0),
-            up ∙ ap (map letter) (sym v.2) ∙ sym (upper_pairs all v.0),
-            low ∙ ap (map letter) (sym v.3) ∙ sym (lower_pairs all v.0),
-          ),
-      λ (tape, path, up, low).
-          let v = (language tape).0 path in
-          let is = pairs_of_names v.0 tape v.2 in
-          (
-            uppers v.0,
-            lowers v.0,
-            (related (uppers v.0) (lowers v.0)).0 (v.0, v.1, refl, refl),
-            up ∙ ap (upper_side all) is ∙ upper_pairs all v.0,
-            low ∙ ap (lower_side all) is ∙ lower_pairs all v.0,
-          ),
-    );
-  }
+  pub sides_net : (parts : List Part) (alphabet : List Sym) → ((v : List Tape) → Accepts m v ↔ (v ≡ tape)) → IsNetOf parts alphabet flags (sides (map piece_of upper) (map piece_of lower)) m
+  sides_net parts alphabet language all keeps x y = (
+    λ adds. (tape, (language tape).1 refl, adds.0 ∙ sym (has.upper_is all keeps), adds.1 ∙ sym (has.lower_is all keeps)),
+    λ (v, path, up, low).
+        let is = (language v).0 path in
+        (up ∙ ap (upper_side all) is ∙ has.upper_is all keeps, low ∙ ap (lower_side all) is ∙ has.lower_is all keeps),
+  )
+
+-- the tapes of pairs
+module _ (alphabet : List Sym) (r : Automaton Pair) (m : Automaton Tape) where
+  pub pairs_symbols : UsesSymbols alphabet r → ((t : Tape) → UsesLetter m t → (p : Pair) × UsesLetter r p × (Some (OfPair p) ≡ Some t)) → UsesPairsOver alphabet m
+  pairs_symbols over letters pair uses =
+      let s = letters (OfPair pair) uses in
+      let same : s.0 ≡ pair = let e : OfPair s.0 ≡ OfPair pair = same_Some (OfPair s.0) (OfPair pair) s.2 in cc in
+      let used : UsesLetter r pair = subst (UsesLetter r) same s.1 in
+      record { up = λ x is. over.upper x (pair, used, is); low = λ x is. over.lower x (pair, used, is) }
+
+  pub pairs_net : (parts : List Part) (flags : List FlagOp) (e : Term Atom) → AreSame (IsRelated r) (Relates (stands parts) alphabet e) → ((v : List Tape) → Accepts m v ↔ IsRenamed name (Accepts r) v) → IsNetOf parts alphabet flags (pairs e) m
+  pairs_net parts flags e related language all keeps x y = (
+    λ (u, w, relates, up, low).
+        let v = (related u w).1 relates in
+        (
+          map OfPair v.0,
+          (language (map OfPair v.0)).1 (v.0, v.1, names_of_pairs v.0),
+          up ∙ ap (map letter) (sym v.2) ∙ sym (upper_pairs all v.0),
+          low ∙ ap (map letter) (sym v.3) ∙ sym (lower_pairs all v.0),
+        ),
+    λ (tape, path, up, low).
+        let v = (language tape).0 path in
+        let is = pairs_of_names v.0 tape v.2 in
+        (
+          uppers v.0,
+          lowers v.0,
+          (related (uppers v.0) (lowers v.0)).0 (v.0, v.1, refl, refl),
+          up ∙ ap (upper_side all) is ∙ upper_pairs all v.0,
+          low ∙ ap (lower_side all) is ∙ lower_pairs all v.0,
+        ),
+  )

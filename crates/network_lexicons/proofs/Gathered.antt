@@ -22,10 +22,10 @@ module _ (parts : List Part) (alphabet : List Sym) (names : List (List ℕ)) whe
   -- nothing changes where flags are added
   module _ (flags more : List FlagOp) (keeps : Keeps flags more) where
     net_kept : (form : Form Atom) (m : Automaton Tape) → IsNetOf parts alphabet flags form m → IsNetOf parts alphabet more form m
-    net_kept form m is = record { symbols = is.symbols; tapes = λ all kept. is.tapes all (keeps_more flags more all keeps kept) }
+    net_kept form m is all kept = is all (keeps_more flags more all keeps kept)
 
     entry_kept : (entry : Entry Atom) (b : LexEntry) → IsEntryFor parts alphabet names flags entry b → IsEntryFor parts alphabet names more entry b
-    entry_kept entry b is = record { net = net_kept entry.form b.net is.net; next = is.next }
+    entry_kept entry b is = record { symbols = is.symbols; net = net_kept entry.form b.net is.net; next = is.next }
 
     entries_kept : (entries : List (Entry Atom)) (built : List LexEntry) → AreEntriesFor parts alphabet names flags entries built → AreEntriesFor parts alphabet names more entries built
     entries_kept entries built are = record {

@@ -92,7 +92,7 @@ module _ (parts : List Part) (alphabet : List Sym) (lexicons : List (Lexicon Ato
         let next = place_of_path entry.next path x2 y2 rest in
         let b = step_up name k entry next.0 goes member next.1 in
         let is : IsEntryFor parts alphabet (names_of lexicons) flags entry b.0 = b.2 in
-        let front = (is.net.tapes flags (λ j f at. at) x1 y1).0 (form_to entry.form x1 y1 adds) in
+        let front = (is.net flags (λ j f at. at) x1 y1).0 (form_to entry.form x1 y1 adds) in
         let back = up path entry.next (b.0).next x2 y2 is.next rest in
         (
           front.0 ++ back.0,
@@ -110,7 +110,7 @@ module _ (parts : List Part) (alphabet : List Sym) (lexicons : List (Lexicon Ato
     down (b ∷ path) (Some name) (Some k) tape goes (front, back, member, accepts, rest, tape_is) =
         let e = step_down name k b goes member in
         let is : IsEntryFor parts alphabet (names_of lexicons) flags e.0 b = e.2 in
-        let adds = (is.net.tapes flags (λ j f at. at) (upper_side flags front) (lower_side flags front)).1 (front, accepts, refl, refl) in
+        let adds = (is.net flags (λ j f at. at) (upper_side flags front) (lower_side flags front)).1 (front, accepts, refl, refl) in
         let others = down path (e.0).next b.next back is.next rest in
         (
           e.0 ∷ others.0,
@@ -146,6 +146,6 @@ module _ (parts : List Part) (alphabet : List Sym) (lexicons : List (Lexicon Ato
               let same : entries ≡ r.0 = same_at built k entries r.0 there r.1 in
               let e = (r.2).only b (subst (λ es. Contains es b) same held) in
               let is : IsEntryFor parts alphabet (names_of lexicons) flags e.0 b = e.2 in
-              is.net.symbols pair uses
+              is.symbols pair uses
           | inr missing ↦ let past = missing.0 in let count = are.count in absurd (omega arith)
         ]

@@ -26,10 +26,13 @@ pub record IsPairOver (alphabet : List Sym) (pair : Pair) : Type 0 where
 abbrev pub HasTape : List FlagOp → Automaton Tape → List (Piece Sym) → List (Piece Sym) → Type 0
 HasTape flags net x y = (tape : List Tape) × Accepts net tape × (x ≡ upper_side flags tape) × (y ≡ lower_side flags tape)
 
+-- the pairs of symbols in tapes of the automaton are over the alphabet
+abbrev pub UsesPairsOver : List Sym → Automaton Tape → Type 0
+UsesPairsOver alphabet net = (pair : Pair) → UsesLetter net (OfPair pair) → IsPairOver alphabet pair
+
 -- the automaton's tapes have just the sides that the form adds to a path, whatever flags come behind these
-pub record IsNetOf (parts : List Part) (alphabet : List Sym) (flags : List FlagOp) (form : Form Atom) (net : Automaton Tape) : Type 0 where
-  pub symbols : (pair : Pair) → UsesLetter net (OfPair pair) → IsPairOver alphabet pair
-  pub tapes : (all : List FlagOp) → Keeps flags all → (x y : List (Piece Sym)) → FormAdds symbol_in (stands parts) alphabet [] form x y ↔ HasTape all net x y
+abbrev pub IsNetOf : List Part → List Sym → List FlagOp → Form Atom → Automaton Tape → Type 0
+IsNetOf parts alphabet flags form net = (all : List FlagOp) → Keeps flags all → (x y : List (Piece Sym)) → FormAdds symbol_in (stands parts) alphabet [] form x y ↔ HasTape all net x y
 
 -- the place is that of the lexicon of this name, among those of these names; a path that goes on in none has none
 abbrev pub IsPlaceOf : List (List ℕ) → Option (List ℕ) → Option ℕ → Type 0
@@ -40,6 +43,7 @@ IsPlaceOf names (Some name) (Some place) = slice_get names place ≡ Some name
 
 -- the entry of a lexicon by its automaton and a place
 pub record IsEntryFor (parts : List Part) (alphabet : List Sym) (names : List (List ℕ)) (flags : List FlagOp) (entry : Entry Atom) (built : LexEntry) : Type 0 where
+  pub symbols : UsesPairsOver alphabet built.net
   pub net : IsNetOf parts alphabet flags entry.form built.net
   pub next : IsPlaceOf names entry.next built.next
 

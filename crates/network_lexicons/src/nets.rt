@@ -3,7 +3,7 @@ ghost use Rattle.flag_diacritics.specs.Numbers.{Keeps};
 ghost use Rattle.flag_diacritics.specs.declared.tape.Tape.TheVariants as tape;
 ghost use Rattle.network_expr.specs.Parts.{IsGround};
 ghost use Rattle.network_lexicons.specs.Built.{FormIsBuilt};
-ghost use Rattle.network_lexicons.specs.Entries.{IsNetOf};
+ghost use Rattle.network_lexicons.specs.Entries.{IsNetOf, UsesPairsOver};
 ghost use Rattle.network_lexicons.specs.Plain.{form_of};
 
 use crate::tapes::tape_of;
@@ -27,6 +27,7 @@ pub fn net_of(
     requires ground { IsGround alphabet.now parts.now }
     requires built { FormIsBuilt parts.now alphabet.now (form_of form.now) }
     ensures kept { OnOk result (Keeps flags.old.items flags.new.items) }
+    ensures symbols { IfOk result (UsesPairsOver alphabet.now) }
     ensures net { IfOk result (IsNetOf parts.now alphabet.now flags.new.items (form_of form.now)) }
 {
     match form {
