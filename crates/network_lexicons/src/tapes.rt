@@ -38,8 +38,8 @@ pub fn tape_of(
     'letters: while !are_empty(above, below) {
         let first = first_letter(above, below, flags)?;
         tape.push(first.letter)?;
-        above = &above[first.upper..];
-        below = &below[first.lower..];
+        above = above.split_at(first.upper).1;
+        below = below.split_at(first.lower).1;
     }
     Ok(tape)
 }
