@@ -1,8 +1,8 @@
 -- The automata of forms: of two sides their tape alone, and of an expression the tapes of its pairs.
-use Rattle.std.proofs.Common.{◌≡◌, ◌↔◌, ◌==◌, ℕ, Bool, true, false, IsTrue, List, [], ◌∷◌, ◌++◌, Option, None, Some, All, map, refl, sym, ap, subst, inl, inr, ◌∙◌}
-use Rattle.std.specs.List.{Contains, flat_map, list_any}
+use Rattle.std.proofs.Common.{◌≡◌, ◌↔◌, ◌==◌, ℕ, true, false, IsTrue, List, [], ◌∷◌, ◌++◌, Option, None, Some, All, map, refl, sym, ap, subst, inl, inr, ◌∙◌}
+use Rattle.std.specs.List.{Contains, flat_map}
 use Rattle.std.specs.Option.{option_to_list}
-use Rattle.std.proofs.lemmas.Bool.{eqb-true, false≢true}
+use Rattle.std.proofs.lemmas.Bool.{eqb-true}
 use Rattle.std.proofs.lemmas.List.{map-append}
 use Rattle.std.proofs.lemmas.List.Elements.{All-contains, Contains-append_left, Contains-append_right}
 use Rattle.std.proofs.lemmas.Map.Views.{Contains-from_any}
@@ -36,9 +36,12 @@ use Rattle.network_lexicons.specs.Sides.{upper_pieces, lower_pieces, upper_side,
 use Rattle.network_lexicons.specs.Entries.{UsesPairsOver, IsNetOf}
 
 -- a symbol of a side that is built is one of the alphabet
+same_number : (a b : Sym) → (b.0 == a.0) ≡ true → a ≡ b
+same_number a b e = ap (λ (n : ℕ). record { 0 = n }) (sym (eqb-true b.0 a.0 e))
+
 leaf_over : (alphabet : List Sym) (leaf : Atom) → IsTrue (is_symbol_of alphabet leaf) → Contains alphabet (symbol_in leaf)
-leaf_over alphabet (OfSym s) h = Contains-from_any {eq = λ (q t : Sym). t.0 == q.0} (λ a b e. ap (λ (n : ℕ). record { 0 = n }) (sym (eqb-true b.0 a.0 e))) s alphabet h
-leaf_over alphabet (Name n) h = absurd (false≢true h)
+leaf_over alphabet (OfSym s) h = Contains-from_any {eq = λ (q t : Sym). t.0 == q.0} same_number s alphabet h
+leaf_over alphabet (Name n) h = let no : false ≡ true = h in cc
 
 piece_over : (alphabet : List Sym) (p : Piece Atom) (x : Sym) → PieceIsBuilt alphabet p → piece_by symbol_in p ≡ letter x → Contains alphabet x
 piece_over alphabet (letter leaf) x built is =
@@ -86,8 +89,7 @@ pairs_of_names (p ∷ ps) (t ∷ tape) e =
     let both : ◌≡◌ {A = List (Option Tape)} (Some (OfPair p) ∷ map name ps) (Some t ∷ map Some tape) = e in
     let first : OfPair p ≡ t = cc in
     let rest : map name ps ≡ map Some tape = cc in
-    let tail = pairs_of_names ps tape rest in
-    cc
+    ap (λ (s : Tape). s ∷ tape) (sym first) ∙ ap (λ (ts : List Tape). OfPair p ∷ ts) (pairs_of_names ps tape rest)
 
 -- the tape of two sides
 module _ (flags : List FlagOp) (upper lower : List (PieceOf Atom)) (tape : List Tape) (has : HasSides flags upper lower tape) (m : Automaton Tape) where

@@ -1,11 +1,12 @@
 -- Entries and lexicons, gathered one after another while flags are added.
-use Rattle.std.proofs.Common.{◌≡◌, ℕ, zero, suc, ◌+◌, ◌<◌, List, [], ◌∷◌, ◌++◌, Option, None, Some, length, refl, sym, ap, subst, inl, inr, arith, ◌∙◌}
+use Rattle.std.proofs.Common.{◌≡◌, ℕ, zero, suc, ◌+◌, ◌<◌, ◌≤◌, List, [], ◌∷◌, ◌++◌, Option, None, Some, All, length, map, take, get_or, refl, sym, ap, subst, inl, inr, arith, ◌∙◌}
 use Rattle.std.specs.List.{Contains, slice_get}
-use Rattle.std.proofs.lemmas.List.{length_push}
-use Rattle.std.proofs.lemmas.List.Elements.{Contains-append_left, Contains-push, Contains-push_cases}
-use Rattle.std.proofs.lemmas.Option.{same_Some, slice_get_within}
+use Rattle.std.specs.Option.{option_map}
+use Rattle.std.proofs.lemmas.List.{length_push, length-map, take_all}
+use Rattle.std.proofs.lemmas.List.Elements.{All-contains, Contains-append_left, Contains-push, Contains-push_cases}
+use Rattle.std.proofs.lemmas.Option.{same_Some, slice_get-get_or, slice_get-map, slice_get_within}
 use Rattle.word_relations.proofs.Members.{Contains-nil_cases}
-use Rattle.word_relations.proofs.Places.{slice_get-append_left, slice_get-append_cases, slice_get-push}
+use Rattle.word_relations.proofs.Places.{Contains-from_slice_get, take_more-slice_get, slice_get-append_left, slice_get-append_cases, slice_get-push}
 use Rattle.fsm_base.specs.declared.letters.Sym.{Sym}
 use Rattle.fsa.specs.Automaton.{Automaton}
 use Rattle.regex_ast.specs.declared.expr.Atom.{Atom}
@@ -17,6 +18,20 @@ use Rattle.lexc_compile.specs.declared.entry.LexEntry.{LexEntry}
 use Rattle.network_expr.specs.declared.parts.Part.{Part}
 use Rattle.network_lexicons.specs.Entries.{IsNetOf, IsPlaceOf, IsEntryFor, AreEntriesFor, AreLexiconsFor}
 use Rattle.network_lexicons.proofs.Sided.{keeps_more}
+
+-- what a list of mapped values has at the place of a loop
+module _ {X Y : Type 0} (f : X → Y) (all : List X) (i : ℕ) (x : X) (within : i < length all) (is : x ≡ get_or all i x) where
+  pub mapped_at : slice_get (map f all) i ≡ Some (f x)
+  mapped_at = slice_get-map f all i ∙ ap (option_map f) (slice_get-get_or all i x within ∙ ap Some (sym is))
+
+  pub mapped_more : take (i + 1) (map f all) ≡ take i (map f all) ++ f x ∷ []
+  mapped_more = take_more-slice_get (map f all) i (f x) (slice_get-map f all i ∙ ap (option_map f) (slice_get-get_or all i x within ∙ ap Some (sym is)))
+
+  pub mapped_holds : (P : Y → Type 0) → All P (map f all) → P (f x)
+  mapped_holds P holds = All-contains P (map f all) (f x) holds (Contains-from_slice_get (map f all) i (f x) (slice_get-map f all i ∙ ap (option_map f) (slice_get-get_or all i x within ∙ ap Some (sym is))))
+
+pub mapped_all : {X Y : Type 0} (f : X → Y) (all : List X) (i : ℕ) → length all ≤ i → take i (map f all) ≡ map f all
+mapped_all f all i past = let same = length-map all f in take_all i (map f all) (omega arith)
 
 module _ (parts : List Part) (alphabet : List Sym) (names : List (List ℕ)) where
   -- nothing changes where flags are added
