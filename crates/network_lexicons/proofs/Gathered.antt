@@ -1,5 +1,5 @@
 -- Entries and lexicons, gathered one after another while flags are added.
-use Rattle.std.proofs.Common.{◌≡◌, ℕ, zero, suc, ◌+◌, ◌<◌, ◌≤◌, List, [], ◌∷◌, ◌++◌, Option, None, Some, All, length, map, take, get_or, refl, sym, ap, subst, inl, inr, arith, ◌∙◌}
+use Rattle.std.proofs.Common.{◌≡◌, ℕ, zero, suc, ◌+◌, ◌<◌, ◌≤◌, ◌⊎◌, List, [], ◌∷◌, ◌++◌, Option, None, Some, All, length, map, take, get_or, refl, sym, ap, subst, inl, inr, arith, ◌∙◌}
 use Rattle.std.specs.List.{Contains, slice_get}
 use Rattle.std.specs.Option.{option_map}
 use Rattle.std.proofs.lemmas.List.{length_push, length-map, take_all}
@@ -32,6 +32,20 @@ module _ {X Y : Type 0} (f : X → Y) (all : List X) (i : ℕ) (x : X) (within :
 
 pub mapped_all : {X Y : Type 0} (f : X → Y) (all : List X) (i : ℕ) → length all ≤ i → take i (map f all) ≡ map f all
 mapped_all f all i past = let same = length-map all f in take_all i (map f all) (omega arith)
+
+-- the values behind two lists that are as long
+only_one : {X : Type 0} (x z : X) (j : ℕ) → slice_get (x ∷ []) j ≡ Some z → (j ≡ 0) × (x ≡ z)
+only_one x z zero at = (refl, same_Some x z at)
+only_one x z (suc j) at = let clash : None ≡ Some z = at in cc
+
+last_place : {Y : Type 0} (ys : List Y) (y : Y) (k : ℕ) → k ≡ length ys → slice_get (ys ++ y ∷ []) k ≡ Some y
+last_place ys y k here = ap (slice_get (ys ++ y ∷ [])) here ∙ slice_get-push ys y
+
+pushed_at : {X Y : Type 0} (xs : List X) (ys : List Y) (x : X) (y : Y) → length ys ≡ length xs → (k : ℕ) (z : X) → slice_get (xs ++ x ∷ []) k ≡ Some z → (slice_get xs k ≡ Some z) ⊎ ((x ≡ z) × (slice_get (ys ++ y ∷ []) k ≡ Some y))
+pushed_at xs ys x y same k z at = elim (slice_get-append_cases xs (x ∷ []) k z at) [
+  | inl old ↦ inl old
+  | inr r ↦ let only = only_one x z r.0 r.2 in let place = r.1 in let first = only.0 in inr (only.1, last_place ys y k (omega arith))
+]
 
 module _ (parts : List Part) (alphabet : List Sym) (names : List (List ℕ)) where
   -- nothing changes where flags are added
@@ -78,20 +92,27 @@ module _ (parts : List Part) (alphabet : List Sym) (names : List (List ℕ)) whe
   pub lexicons_none : (flags : List FlagOp) → AreLexiconsFor parts alphabet names flags [] []
   lexicons_none flags = record { count = refl; each = λ k l at. let clash : None ≡ Some l = at in cc }
 
-  pub lexicons_more : (flags more : List FlagOp) (lexicons : List (Lexicon Atom)) (built : List (List LexEntry)) (l : Lexicon Atom) (entries : List LexEntry)
-      → Keeps flags more → AreLexiconsFor parts alphabet names flags lexicons built → AreEntriesFor parts alphabet names more l.entries entries → AreLexiconsFor parts alphabet names more (lexicons ++ l ∷ []) (built ++ entries ∷ [])
-  lexicons_more flags more lexicons built l entries keeps before are = record {
-    count = length_push built entries ∙ ap (λ n. n + 1) before.count ∙ sym (length_push lexicons l);
-    each = λ k m at. elim (slice_get-append_cases lexicons (l ∷ []) k m at) [
-      | inl old ↦
-          let r = before.each k m old in
-          (r.0, slice_get-append_left built (entries ∷ []) k (slice_get_within built k r.0 r.1) ∙ r.1, entries_kept flags more keeps m.entries r.0 r.2)
-      | inr r ↦ last k m r.0 r.1 r.2
-    ];
-  }
-    where
-      last : (k : ℕ) (m : Lexicon Atom) (j : ℕ) → k ≡ j + length lexicons → slice_get (l ∷ []) j ≡ Some m → (es : List LexEntry) × (slice_get (built ++ entries ∷ []) k ≡ Some es) × AreEntriesFor parts alphabet names more m.entries es
-      last k m zero place at =
-          let here : k ≡ length built = let count = before.count in omega arith in
-          (entries, ap (slice_get (built ++ entries ∷ [])) here ∙ slice_get-push built entries, subst (λ (d : Lexicon Atom). AreEntriesFor parts alphabet names more d.entries entries) (same_Some l m at) are)
-      last k m (suc j) place at = let clash : None ≡ Some m = at in cc
+  module _ (flags more : List FlagOp) (lexicons : List (Lexicon Atom)) (built : List (List LexEntry)) (l : Lexicon Atom) (entries : List LexEntry) (keeps : Keeps flags more)
+      (before : AreLexiconsFor parts alphabet names flags lexicons built) (are : AreEntriesFor parts alphabet names more l.entries entries) where
+    abbrev HasEntries : ℕ → Lexicon Atom → Type 0
+    HasEntries k m = (es : List LexEntry) × (slice_get (built ++ entries ∷ []) k ≡ Some es) × AreEntriesFor parts alphabet names more m.entries es
+
+    older : (k : ℕ) (m : Lexicon Atom) → slice_get lexicons k ≡ Some m → HasEntries k m
+    older k m old =
+        let r = before.each k m old in
+        (r.0, slice_get-append_left built (entries ∷ []) k (slice_get_within built k r.0 r.1) ∙ r.1, entries_kept flags more keeps m.entries r.0 r.2)
+
+    newest : (k : ℕ) (m : Lexicon Atom) → l ≡ m → slice_get (built ++ entries ∷ []) k ≡ Some entries → HasEntries k m
+    newest k m same at = (entries, at, subst (λ (d : Lexicon Atom). AreEntriesFor parts alphabet names more d.entries entries) same are)
+
+    each_more : (k : ℕ) (m : Lexicon Atom) → slice_get (lexicons ++ l ∷ []) k ≡ Some m → HasEntries k m
+    each_more k m at = elim (pushed_at lexicons built l entries before.count k m at) as (λ _. HasEntries k m) [
+      | inl old ↦ older k m old
+      | inr r ↦ newest k m r.0 r.1
+    ]
+
+    pub lexicons_more : AreLexiconsFor parts alphabet names more (lexicons ++ l ∷ []) (built ++ entries ∷ [])
+    lexicons_more = record {
+      count = length_push built entries ∙ ap (λ n. n + 1) before.count ∙ sym (length_push lexicons l);
+      each = each_more;
+    }

@@ -1,4 +1,4 @@
-ghost use Rattle.std.specs.Prelude.{◌≡◌, Contains, IfOk, MatchOption, Some, map, slice_get};
+ghost use Rattle.std.specs.Prelude.{◌≡◌, ℕ, Contains, IfOk, MatchOption, Option, Some, map, slice_get};
 ghost use Rattle.word_relations.specs.Words.{IsDistinct};
 ghost use Rattle.network_lexicons.specs.Entries.{IsPlaceOf};
 ghost use Rattle.network_lexicons.specs.Plain.{lexicon_of, names_of};
