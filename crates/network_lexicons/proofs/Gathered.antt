@@ -89,6 +89,24 @@ module _ (parts : List Part) (alphabet : List Sym) (names : List (List ℕ)) whe
       ];
     }
 
+  -- the entries so far, and the flags before and behind them
+  pub record HasGathered (before flags : List FlagOp) (entries : List (Entry Atom)) (built : List LexEntry) : Type 0 where
+    pub kept : Keeps before flags
+    pub entries_are : AreEntriesFor parts alphabet names flags entries built
+
+  module _ (before flags : List FlagOp) (entries new : List (Entry Atom)) (built : List LexEntry) (has : HasGathered before flags entries built) (entry : Entry Atom) (is : new ≡ entries ++ entry ∷ []) where
+    pub gathered_more : (more : List FlagOp) (b : LexEntry) (pushed : List LexEntry) → Keeps flags more → IsEntryFor parts alphabet names more entry b → pushed ≡ built ++ b ∷ [] → HasGathered before more new pushed
+    gathered_more more b pushed keeps entry_is push_is = record {
+      kept = keeps_more before flags more has.kept keeps;
+      entries_are = subst (λ es. AreEntriesFor parts alphabet names more es pushed) (sym is) (subst (λ bs. AreEntriesFor parts alphabet names more (entries ++ entry ∷ []) bs) (sym push_is) (entries_more flags entries built has.entries_are entry more b keeps entry_is));
+    }
+
+    pub gathered_past : ((place : Option ℕ) → IsPlaceOf names entry.next place → ⊥) → HasGathered before flags new built
+    gathered_past missing = record {
+      kept = has.kept;
+      entries_are = subst (λ es. AreEntriesFor parts alphabet names flags es built) (sym is) (entries_past flags entries built has.entries_are entry missing);
+    }
+
   pub lexicons_none : (flags : List FlagOp) → AreLexiconsFor parts alphabet names flags [] []
   lexicons_none flags = record { count = refl; each = λ k l at. let clash : None ≡ Some l = at in cc }
 
