@@ -18,7 +18,10 @@ use Rattle.flag_diacritics.specs.declared.tape.Tape.{Tape}
 use Rattle.flag_diacritics.specs.declared.tape.Tape.TheVariants.{Pair as OfPair, UpFlag, LowFlag}
 use Rattle.lexc_compile.specs.declared.entry.LexEntry.{LexEntry}
 use Rattle.lexc_compile.specs.Paths.{HasPath, SomeEntryUses}
-use Rattle.network_algebra.specs.Networks.{UsesSymbols}
+use Rattle.expr_kinds.specs.declared.form.Kind.TheVariants.{Relation}
+use Rattle.network_algebra.specs.Networks.{IsFor, IsNetwork, UsesSymbols, PairsOf, WordsOf, kind_of_network}
+use Rattle.network_algebra.specs.declared.network.Network.{Network}
+use Rattle.network_algebra.specs.declared.network.Network.TheVariants.{Pairs}
 use Rattle.network_expr.specs.Parts.{stands}
 use Rattle.network_expr.specs.declared.parts.Part.{Part}
 use Rattle.network_lexicons.specs.Plain.{symbol_in, names_of}
@@ -110,3 +113,18 @@ module _ (parts : List Part) (alphabet : List Sym) (lexicons : List (Lexicon Ato
         upper = λ x (pair, uses, is). (over pair uses).up x is;
         lower = λ x (pair, uses, is). (over pair uses).low x is;
       }
+
+  -- what is made of the network, reduced
+  pub related_network : ((tape : List Tape) → Accepts net tape ↔ HasPath built (Some root) tape) → (m : Automaton Pair) → AreSame (IsRelated m) (TapesRelate net flags) → (n : Network)
+      → IsFor (kind_of_network (Pairs m)) (WordsOf (Pairs m)) (PairsOf (Pairs m)) n → AreSame (PairsOf n) (LexiconsRelate symbol_in (stands parts) alphabet lexicons)
+  related_network language m resolved n is u w =
+      let made = is.pairs u w in
+      let tapes = resolved u w in
+      let paths = related language u w in
+      (λ h. paths.0 (tapes.0 (made.0 h)), λ h. made.1 (tapes.1 (paths.1 h)))
+
+pub relation_made : (m : Automaton Pair) (n : Network) → IsFor (kind_of_network (Pairs m)) (WordsOf (Pairs m)) (PairsOf (Pairs m)) n → kind_of_network n ≡ Relation
+relation_made m n is = is.kind_is
+
+pub over_made : (alphabet : List Sym) (a n : Network) → IsNetwork alphabet a → ((symbols : List Sym) → IsNetwork symbols a → IsNetwork symbols n) → IsNetwork alphabet n
+over_made alphabet a n over same = same alphabet over

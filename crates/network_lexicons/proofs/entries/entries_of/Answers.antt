@@ -4,7 +4,7 @@ use Rattle.network_lexicons.specs.Built.{FormIsBuilt}
 use Rattle.network_lexicons.specs.Entries.{AreEntriesFor}
 use Rattle.network_lexicons.proofs.Gathered.{HasGathered, entries_none, gathered_more, gathered_past, mapped_all, mapped_holds, mapped_more}
 use Rattle.network_lexicons.proofs.entries.entries_of.Goals as goal
-use Rattle.network_lexicons.proofs.entries.entries_of.Goals.{in-Some+in_ok-push, in_default}
+use Rattle.network_lexicons.proofs.entries.entries_of.Goals.{in-Some+in_ok-net+in_ok-push, in_default}
 
 pub entries-init : goal.entries-init
 entries-init c = record { kept = λ k x at. at; entries_are = rw c.new-built.ensures.items (entries_none c.args.parts.now c.args.alphabet.now c.args.names.now c.args.flags.now.items) }
@@ -27,7 +27,7 @@ entries-preserved c =
     let next = take (i + 1) (map entry_of all) in
     let more = mapped_more entry_of all i entry c.entries-test.true c.entry-item.is in
     elim c.match-target_of.branch as (λ _. HasGathered parts alphabet names before c.match-target_of.flags.items next c.match-target_of.built.items) [
-      | in-Some+in_ok-push w ↦
+      | in-Some+in_ok-net+in_ok-push w ↦
           rw (w.flags-is, w.built-is)
           (gathered_more parts alphabet names before flags now next c.entries.built.items c.entries.invariant (entry_of entry) more w.net_of.new.flags.items (record { net = w.in_ok-net.net; next = w.in-Some.next }) w.push.new.self.items
           w.in_ok-net.ensures.kept (record { symbols = w.in_ok-net.ensures.symbols; net = w.in_ok-net.ensures.net; next = w.in-Some.ensures }) w.in_ok-push.ensures.items)

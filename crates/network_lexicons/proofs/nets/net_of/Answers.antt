@@ -2,6 +2,8 @@ use Rattle.std.proofs.Common.{IfOk, sym, subst}
 use Rattle.std.proofs.lemmas.Result.{IfOk-weaker}
 use Rattle.regex_ast.specs.declared.expr.Atom.{Atom}
 use Rattle.regex_ast.specs.declared.lexc.Form.{Form}
+use Rattle.regex_ast.specs.Terms.{term}
+use Rattle.flag_diacritics.specs.Numbers.{Keeps}
 use Rattle.network_lexicons.specs.Plain.{form_of}
 use Rattle.network_lexicons.specs.Built.{FormIsBuilt}
 use Rattle.network_lexicons.specs.Entries.{IsNetOf}
@@ -35,7 +37,9 @@ returns-in_ok-tape-in-Sides-clause-net c =
     (IfOk-weaker _ _ _ (λ m. sides_net flags c.in-Sides.upper.items c.in-Sides.lower.items c.in_ok-tape-in-Sides.tape.items has m parts alphabet) (rw c.deref-in-Sides-2.ensures.value at c.word.ensures.language))
 
 pub returns-in_ok-pairs-in-Pairs-clause-kept : goal.returns-in_ok-pairs-in-Pairs-clause-kept
-returns-in_ok-pairs-in-Pairs-clause-kept c = IfOk-weaker _ _ _ (λ m language k x at. at) c.renamed.ensures.language
+returns-in_ok-pairs-in-Pairs-clause-kept c =
+    let same : Keeps c.args.flags.now.items c.args.flags.now.items = λ k x at. at in
+    IfOk-weaker _ _ _ (λ m language. same) c.renamed.ensures.language
 
 pub returns-in_ok-pairs-in-Pairs-clause-symbols : goal.returns-in_ok-pairs-in-Pairs-clause-symbols
 returns-in_ok-pairs-in-Pairs-clause-symbols c = IfOk-weaker _ _ _ (λ m. pairs_symbols c.args.alphabet.now c.in_ok-pairs-in-Pairs.pairs m c.in_ok-pairs-in-Pairs.ensures.symbols) c.renamed.ensures.letters
@@ -45,6 +49,6 @@ returns-in_ok-pairs-in-Pairs-clause-net c =
     let parts = c.args.parts.now in
     let alphabet = c.args.alphabet.now in
     let flags = c.args.flags.now.items in
-    let e = Rattle.regex_ast.specs.Terms.term c.in-Pairs.expr in
+    let e = term c.in-Pairs.expr in
     subst (λ (f : Form Atom). IfOk c.renamed.result (IsNetOf parts alphabet flags (form_of f))) (sym c.in-Pairs.is)
     (IfOk-weaker _ _ _ (λ m. pairs_net alphabet c.in_ok-pairs-in-Pairs.pairs m parts flags e c.in_ok-pairs-in-Pairs.ensures.relation) c.renamed.ensures.language)
