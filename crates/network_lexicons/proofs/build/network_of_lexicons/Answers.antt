@@ -6,6 +6,7 @@ use Rattle.std.proofs.lemmas.Result.{IfOk-weaker}
 use Rattle.lexc_compile.specs.declared.entry.LexEntry.{LexEntry}
 use Rattle.network_algebra.specs.declared.network.Network.TheVariants.{Pairs}
 use Rattle.network_lexicons.specs.Plain.{lexicon_of, names_of}
+use Rattle.network_lexicons.specs.Entries.{AreLexiconsFor}
 use Rattle.network_lexicons.proofs.Placed.{names_counted}
 use Rattle.network_lexicons.proofs.Related.{over_made, related_network, related_symbols, relation_made}
 use Rattle.network_lexicons.proofs.build.network_of_lexicons.Goals as goal
@@ -29,6 +30,12 @@ lexicon-requires c =
 root_at : (c : goal.After-drop-names-inside-5) → slice_get (names_of (map lexicon_of c.args.lexicons.now)) c.in-Some.root ≡ Some (codes "Root")
 root_at c = subst (λ (ns : List (List ℕ)). slice_get ns c.in-Some.root ≡ Some (codes "Root")) c.in_ok-names.ensures c.in-Some.ensures
 
+lexicons_are : (c : goal.After-drop-names-inside-5)
+    → AreLexiconsFor c.args.parts.now c.args.alphabet.now (names_of (map lexicon_of c.args.lexicons.now)) c.lexicons_of.new.flags.items (map lexicon_of c.args.lexicons.now) (map (λ entries. entries.items) c.in_ok-entries.entries.items)
+lexicons_are c =
+    subst (λ (ns : List (List ℕ)). AreLexiconsFor c.args.parts.now c.args.alphabet.now ns c.lexicons_of.new.flags.items (map lexicon_of c.args.lexicons.now) (map (λ entries. entries.items) c.in_ok-entries.entries.items))
+    c.in_ok-names.ensures c.in_ok-entries.ensures.lexicons
+
 pub returns-clause-letters : goal.returns-clause-letters
 returns-clause-letters c =
     let alphabet = c.args.alphabet.now in
@@ -36,7 +43,7 @@ returns-clause-letters c =
     let flags = c.lexicons_of.new.flags.items in
     let built : List (List LexEntry) = map (λ entries. entries.items) c.in_ok-entries.entries.items in
     let letters = rw c.deref.ensures.value at c.in_ok-tapes.ensures.letters in
-    let over = related_symbols c.args.parts.now alphabet lexicons c.requires.distinct flags built c.in_ok-entries.ensures.lexicons c.in-Some.root (root_at c) c.in_ok-tapes.tapes letters c.in_ok-pairs.pairs c.in_ok-pairs.ensures.pairs in
+    let over = related_symbols c.args.parts.now alphabet lexicons c.requires.distinct flags built (lexicons_are c) c.in-Some.root (root_at c) c.in_ok-tapes.tapes letters c.in_ok-pairs.pairs c.in_ok-pairs.ensures.pairs in
     IfOk-weaker _ _ _ (λ n. over_made alphabet (Pairs c.in_ok-pairs.pairs) n over) c.reduced.ensures.letters
 
 pub returns-clause-kind : goal.returns-clause-kind
@@ -50,5 +57,5 @@ returns-clause-meaning c =
     let language = rw c.deref.ensures.value at c.in_ok-tapes.ensures.language in
     let resolved = rw c.deref-2.ensures.value at c.in_ok-pairs.ensures.relation in
     IfOk-weaker _ _ _
-    (λ n. related_network c.args.parts.now c.args.alphabet.now lexicons c.requires.distinct flags built c.in_ok-entries.ensures.lexicons c.in-Some.root (root_at c) c.in_ok-tapes.tapes language c.in_ok-pairs.pairs resolved n)
+    (λ n. related_network c.args.parts.now c.args.alphabet.now lexicons c.requires.distinct flags built (lexicons_are c) c.in-Some.root (root_at c) c.in_ok-tapes.tapes language c.in_ok-pairs.pairs resolved n)
     c.reduced.ensures.meaning
