@@ -21,14 +21,14 @@ use Rattle.network_lexicons.proofs.Sided.{keeps_more}
 
 -- what a list of mapped values has at the place of a loop
 module _ {X Y : Type 0} (f : X → Y) (all : List X) (i : ℕ) (x : X) (within : i < length all) (is : x ≡ get_or all i x) where
-  pub mapped_at : slice_get (map f all) i ≡ Some (f x)
-  mapped_at = slice_get-map f all i ∙ ap (option_map f) (slice_get-get_or all i x within ∙ ap Some (sym is))
+  at_place : slice_get (map f all) i ≡ Some (f x)
+  at_place = slice_get-map f all i ∙ ap (option_map f) (slice_get-get_or all i x within ∙ ap Some (sym is))
 
   pub mapped_more : take (i + 1) (map f all) ≡ take i (map f all) ++ f x ∷ []
-  mapped_more = take_more-slice_get (map f all) i (f x) (slice_get-map f all i ∙ ap (option_map f) (slice_get-get_or all i x within ∙ ap Some (sym is)))
+  mapped_more = take_more-slice_get (map f all) i (f x) at_place
 
   pub mapped_holds : (P : Y → Type 0) → All P (map f all) → P (f x)
-  mapped_holds P holds = All-contains P (map f all) (f x) holds (Contains-from_slice_get (map f all) i (f x) (slice_get-map f all i ∙ ap (option_map f) (slice_get-get_or all i x within ∙ ap Some (sym is))))
+  mapped_holds P holds = All-contains P (map f all) (f x) holds (Contains-from_slice_get (map f all) i (f x) at_place)
 
 pub mapped_all : {X Y : Type 0} (f : X → Y) (all : List X) (i : ℕ) → length all ≤ i → take i (map f all) ≡ map f all
 mapped_all f all i past = let same = length-map all f in take_all i (map f all) (omega arith)

@@ -50,9 +50,6 @@ module _ (texts : List (List ℕ)) (distinct : IsDistinct texts) where
       ∙ ap (λ (b : Bool). cond b (take i texts) (take i texts ++ text ∷ [])) (not_before texts distinct i text at)
       ∙ sym (take_more-slice_get texts i text at)
 
-pub names_all : (texts names : List (List ℕ)) (i : ℕ) → length texts ≤ i → names ≡ take i texts → names ≡ texts
-names_all texts names i past is = is ∙ take_all i texts past
-
 module _ {Y : Type 0} (text : List ℕ) (keys : List (String Y)) where
   -- the place that a search gives
   pub place_found : (i : ℕ) → position (λ k. bytes_eq text (string_bytes k)) keys ≡ Some i → slice_get (map string_bytes keys) i ≡ Some text
@@ -70,8 +67,3 @@ module _ {Y : Type 0} (text : List ℕ) (keys : List (String Y)) where
       let place = slice_get_from_Contains (map string_bytes keys) text held in
       let found : list_any (bytes_eq text) (map string_bytes keys) ≡ true = any_passes_from_place (bytes_eq text) (map string_bytes keys) place.0 text place.1 ((bytes_eq-Decides text text).1 refl) in
       true≢false (sym found ∙ sym (list_any-strings text keys) ∙ sym none)
-
--- a name that isn't there has no place
-pub no_place : (names : List (List ℕ)) (name : List ℕ) → (Contains names name → ⊥) → (place : Option ℕ) → IsPlaceOf names (Some name) place → ⊥
-no_place names name missing None is = is
-no_place names name missing (Some place) is = missing (Contains-from_slice_get names place name is)

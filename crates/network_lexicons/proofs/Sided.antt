@@ -34,9 +34,6 @@ pub record HasFronts (flags : List FlagOp) (upper lower above below : List (Piec
   pub upper_is : (all : List FlagOp) → Keeps flags all → upper_side all tape ++ side_of above ≡ side_of upper
   pub lower_is : (all : List FlagOp) → Keeps flags all → lower_side all tape ++ side_of below ≡ side_of lower
 
-pub fronts_none : (flags : List FlagOp) (upper lower : List (PieceOf Atom)) → HasFronts flags upper lower upper lower []
-fronts_none flags upper lower = record { upper_is = λ all keeps. refl; lower_is = λ all keeps. refl }
-
 pub fronts_more : (flags more : List FlagOp) (upper lower above below : List (PieceOf Atom)) (tape new : List Tape) (first : First)
     → Keeps flags more → IsFirst more above below first → new ≡ tape ++ first.letter ∷ [] → HasFronts flags upper lower above below tape → HasFronts more upper lower (drop first.upper above) (drop first.lower below) new
 fronts_more flags more upper lower above below tape new first keeps is pushed before = record {
@@ -52,10 +49,4 @@ fronts_more flags more upper lower above below tape new first keeps is pushed be
       ∙ ap (λ (s : List (Piece Sym)). lower_side all tape ++ (s ++ rest)) (is.lower_is all kept)
       ∙ ap (λ (s : List (Piece Sym)). lower_side all tape ++ s) (side_split first.lower below)
       ∙ before.lower_is all (keeps_more flags more all keeps kept);
-}
-
-pub fronts_all : (flags : List FlagOp) (upper lower above below : List (PieceOf Atom)) (tape : List Tape) → HasFronts flags upper lower above below tape → above ≡ [] → below ≡ [] → HasSides flags upper lower tape
-fronts_all flags upper lower above below tape has no_above no_below = record {
-  upper_is = λ all keeps. sym (append-nil (upper_side all tape)) ∙ ap (λ (s : List (PieceOf Atom)). upper_side all tape ++ side_of s) (sym no_above) ∙ has.upper_is all keeps;
-  lower_is = λ all keeps. sym (append-nil (lower_side all tape)) ∙ ap (λ (s : List (PieceOf Atom)). lower_side all tape ++ side_of s) (sym no_below) ∙ has.lower_is all keeps;
 }
