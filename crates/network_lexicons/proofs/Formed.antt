@@ -1,5 +1,5 @@
 -- The automata of forms: of two sides their tape alone, and of an expression the tapes of its pairs.
-use Rattle.std.proofs.Common.{◌≡◌, ◌↔◌, ◌==◌, ℕ, true, false, IsTrue, List, [], ◌∷◌, ◌++◌, Option, None, Some, All, map, refl, sym, ap, subst, inl, inr, ◌∙◌}
+use Rattle.std.proofs.Common.{◌≡◌, ◌↔◌, ◌==◌, ℕ, true, false, IsTrue, List, [], ◌∷◌, ◌++◌, Option, Some, All, map, refl, sym, ap, subst, inl, inr, ◌∙◌}
 use Rattle.std.specs.List.{Contains, flat_map}
 use Rattle.std.specs.Option.{option_to_list}
 use Rattle.std.proofs.lemmas.Bool.{eqb-true}
@@ -25,7 +25,7 @@ use Rattle.project_meaning.specs.Trees.{Piece, letter, flag, sides, pairs}
 use Rattle.project_meaning.specs.Lexicons.{piece_by}
 use Rattle.flag_diacritics.specs.Numbers.{Keeps}
 use Rattle.flag_diacritics.specs.declared.tape.Tape.{Tape}
-use Rattle.flag_diacritics.specs.declared.tape.Tape.TheVariants.{Pair as OfPair, UpFlag, LowFlag}
+use Rattle.flag_diacritics.specs.declared.tape.Tape.TheVariants.{Pair as OfPair}
 use Rattle.network_algebra.specs.Networks.{UsesSymbols}
 use Rattle.network_algebra.specs.Renamed.{IsRenamed}
 use Rattle.network_expr.specs.Parts.{stands}
@@ -122,8 +122,7 @@ module _ (alphabet : List Sym) (r : Automaton Pair) (m : Automaton Tape) where
   pub pairs_net : (parts : List Part) (flags : List FlagOp) (e : Term Atom) → AreSame (IsRelated r) (Relates (stands parts) alphabet e) → ((v : List Tape) → Accepts m v ↔ IsRenamed name (Accepts r) v) → IsNetOf parts alphabet flags (pairs e) m
   pairs_net parts flags e related language all keeps x y = (
     λ (u, w, relates, up, low).
-        let v = (related u w).1 relates in
-        (
+        let v = (related u w).1 relates in (
           map OfPair v.0,
           (language (map OfPair v.0)).1 (v.0, v.1, names_of_pairs v.0),
           up ∙ ap (map letter) (sym v.2) ∙ sym (upper_pairs all v.0),
@@ -131,8 +130,7 @@ module _ (alphabet : List Sym) (r : Automaton Pair) (m : Automaton Tape) where
         ),
     λ (tape, path, up, low).
         let v = (language tape).0 path in
-        let is = pairs_of_names v.0 tape v.2 in
-        (
+        let is = pairs_of_names v.0 tape v.2 in (
           uppers v.0,
           lowers v.0,
           (related (uppers v.0) (lowers v.0)).0 (v.0, v.1, refl, refl),

@@ -1,10 +1,10 @@
 -- The places of names.
-use Rattle.std.proofs.Common.{◌≡◌, ℕ, ◌+◌, ◌<◌, ◌≤◌, Bool, true, false, cond, List, [], ◌∷◌, ◌++◌, Option, None, Some, String, length, map, take, get_or, refl, sym, ap, subst, arith, true≢false, ◌∙◌}
+use Rattle.std.proofs.Common.{◌≡◌, ℕ, ◌+◌, Bool, true, false, cond, List, [], ◌∷◌, ◌++◌, Some, String, length, map, take, get_or, refl, sym, ap, arith, true≢false, ◌∙◌}
 use Rattle.std.specs.List.{Contains, slice_get, list_any, position}
 use Rattle.std.specs.Option.{option_map}
 use Rattle.std.specs.Str.{bytes_eq}
 use Rattle.std.specs.String.{string_bytes, string_eq}
-use Rattle.std.proofs.lemmas.List.{length-take, length-map, take_all}
+use Rattle.std.proofs.lemmas.List.{length-take, length-map}
 use Rattle.std.proofs.lemmas.List.Quantifiers.{position-Some}
 use Rattle.std.proofs.lemmas.Map.Keys.{any_passes_from_place}
 use Rattle.std.proofs.lemmas.Map.Views.{Contains-from_any}
@@ -12,14 +12,13 @@ use Rattle.std.proofs.lemmas.Option.{slice_get-map, slice_get-get_or, slice_get_
 use Rattle.std.proofs.lemmas.Slice.Eq.{bytes_eq-Decides}
 use Rattle.indexmap.specs.IndexSet.{insert_key}
 use Rattle.word_relations.specs.Words.{IsDistinct}
-use Rattle.word_relations.proofs.Places.{Contains-from_slice_get, slice_get_from_Contains, take_more-slice_get}
+use Rattle.word_relations.proofs.Places.{slice_get_from_Contains, take_more-slice_get}
 use Rattle.fsm_base.specs.Symbols.{with_text}
 use Rattle.fsm_base.proofs.TableLemmas.{list_any-strings, slice_get_front, with_text-strings}
 use Rattle.regex_ast.specs.declared.expr.Atom.{Atom}
 use Rattle.regex_ast.specs.declared.lexc.Lexicon.{Lexicon as LexiconOf}
 use Rattle.project_meaning.specs.Trees.{Lexicon}
 use Rattle.network_lexicons.specs.Plain.{lexicon_of, names_of}
-use Rattle.network_lexicons.specs.Entries.{IsPlaceOf}
 
 -- the name of a lexicon stands at its place
 pub name_at : (lexicons : List (LexiconOf Atom)) (i : ℕ) (l : LexiconOf Atom) → slice_get lexicons i ≡ Some l → slice_get (names_of (map lexicon_of lexicons)) i ≡ Some l.name

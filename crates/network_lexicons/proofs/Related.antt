@@ -1,5 +1,5 @@
 -- What a network of tapes relates, by the sides of its tapes.
-use Rattle.std.proofs.Common.{◌≡◌, ◌↔◌, ℕ, Bool, ◌&&◌, List, [], ◌∷◌, ◌++◌, Option, None, Some, IsTrue, codes, map, refl, sym, ap, subst, ◌∙◌}
+use Rattle.std.proofs.Common.{◌≡◌, ◌↔◌, ℕ, Bool, ◌&&◌, List, [], ◌∷◌, ◌++◌, Option, None, Some, codes, map, refl, sym, ap, ◌∙◌}
 use Rattle.std.specs.List.{flat_map, slice_get}
 use Rattle.std.specs.Option.{option_to_list}
 use Rattle.word_relations.specs.Relations.{AreSame}
@@ -12,7 +12,7 @@ use Rattle.fst_relation.specs.Relation.{IsRelated, uppers, lowers}
 use Rattle.regex_ast.specs.declared.expr.Atom.{Atom}
 use Rattle.regex_ast.specs.declared.lexc.FlagOp.{FlagOp}
 use Rattle.project_meaning.specs.Trees.{Piece, letter, flag, Lexicon}
-use Rattle.project_meaning.specs.Lexicons.{run_passes, passes, features_behind, flags_pass, letters_of, LexiconsRelate}
+use Rattle.project_meaning.specs.Lexicons.{run_passes, passes, features_behind, letters_of, LexiconsRelate}
 use Rattle.flag_diacritics.specs.Tapes.{flag_of, upper_flag, lower_flag, pairs_of, TapesRelate, UsesPair}
 use Rattle.flag_diacritics.specs.declared.tape.Tape.{Tape}
 use Rattle.flag_diacritics.specs.declared.tape.Tape.TheVariants.{Pair as OfPair, UpFlag, LowFlag}
@@ -79,8 +79,7 @@ module _ (parts : List Part) (alphabet : List Sym) (lexicons : List (Lexicon Ato
   pub related : ((tape : List Tape) → Accepts net tape ↔ HasPath built (Some root) tape) → AreSame (TapesRelate net flags) (LexiconsRelate symbol_in (stands parts) alphabet lexicons)
   related language u w = (
     λ (tape, accepts, (up, low), u_is, w_is).
-        let found = (walks parts alphabet lexicons distinct flags built are (codes "Root") root at (upper_side flags tape) (lower_side flags tape)).0 (tape, (language tape).0 accepts, refl, refl) in
-        (
+        let found = (walks parts alphabet lexicons distinct flags built are (codes "Root") root at (upper_side flags tape) (lower_side flags tape)).0 (tape, (language tape).0 accepts, refl, refl) in (
           found.0,
           upper_side flags tape,
           lower_side flags tape,
@@ -92,8 +91,7 @@ module _ (parts : List Part) (alphabet : List Sym) (lexicons : List (Lexicon Ato
         ),
     λ (path, x, y, is, up, low, u_is, w_is).
         let found = (walks parts alphabet lexicons distinct flags built are (codes "Root") root at x y).1 (path, is) in
-        let tape = found.0 in
-        (
+        let tape = found.0 in (
           tape,
           (language tape).1 found.1,
           (

@@ -1,5 +1,5 @@
 -- The sides of a tape, as it is made of two sides letter by letter.
-use Rattle.std.proofs.Common.{◌≡◌, ℕ, zero, suc, List, [], ◌∷◌, ◌++◌, take, drop, refl, sym, ap, append_assoc, ◌∙◌}
+use Rattle.std.proofs.Common.{◌≡◌, ℕ, zero, suc, List, [], ◌∷◌, ◌++◌, take, drop, refl, ap, append_assoc, ◌∙◌}
 use Rattle.std.specs.List.{flat_map}
 use Rattle.std.proofs.lemmas.List.{append-nil}
 use Rattle.std.proofs.lemmas.List.Concat.{flat_map-append}
@@ -12,7 +12,7 @@ use Rattle.project_meaning.specs.Lexicons.{piece_by}
 use Rattle.flag_diacritics.specs.Numbers.{Keeps}
 use Rattle.flag_diacritics.specs.declared.tape.Tape.{Tape}
 use Rattle.network_lexicons.specs.Plain.{piece_of, symbol_in}
-use Rattle.network_lexicons.specs.Sides.{upper_pieces, lower_pieces, upper_side, lower_side, side_of, IsFirst, HasSides}
+use Rattle.network_lexicons.specs.Sides.{upper_pieces, lower_pieces, upper_side, lower_side, side_of, IsFirst}
 use Rattle.network_lexicons.specs.declared.tapes.First.{First}
 
 -- lists that grow

@@ -1,5 +1,5 @@
 -- Paths over names and paths over places are the same, and so are their sides.
-use Rattle.std.proofs.Common.{◌≡◌, ◌↔◌, ℕ, ◌<◌, List, [], ◌∷◌, ◌++◌, Option, None, Some, length, map, refl, sym, ap, subst, inl, inr, arith, ◌∙◌}
+use Rattle.std.proofs.Common.{◌≡◌, ◌↔◌, ℕ, List, [], ◌∷◌, ◌++◌, Option, None, Some, refl, sym, ap, subst, inl, inr, arith, ◌∙◌}
 use Rattle.std.specs.List.{Contains, slice_get}
 use Rattle.std.specs.Option.{option_map}
 use Rattle.std.proofs.lemmas.List.Concat.{flat_map-append}
@@ -8,8 +8,6 @@ use Rattle.word_relations.specs.Words.{IsDistinct}
 use Rattle.word_relations.proofs.Places.{Contains-from_slice_get, slice_get_from_Contains, same_at}
 use Rattle.fsm_base.specs.declared.letters.Sym.{Sym}
 use Rattle.fsm_base.specs.declared.letters.Pair.{Pair}
-use Rattle.fsa.specs.Automaton.{UsesLetter}
-use Rattle.fsa.specs.Language.{Accepts}
 use Rattle.regex_ast.specs.declared.expr.Atom.{Atom}
 use Rattle.regex_ast.specs.declared.lexc.FlagOp.{FlagOp}
 use Rattle.project_meaning.specs.Trees.{Piece, Form, sides, pairs, Entry, Lexicon}
@@ -22,7 +20,7 @@ use Rattle.network_expr.specs.Parts.{stands}
 use Rattle.network_expr.specs.declared.parts.Part.{Part}
 use Rattle.network_lexicons.specs.Plain.{symbol_in, names_of}
 use Rattle.network_lexicons.specs.Sides.{upper_pieces, lower_pieces, upper_side, lower_side}
-use Rattle.network_lexicons.specs.Entries.{IsPairOver, IsPlaceOf, IsEntryFor, AreEntriesFor, AreLexiconsFor}
+use Rattle.network_lexicons.specs.Entries.{IsPairOver, IsPlaceOf, IsEntryFor, AreLexiconsFor}
 
 -- the lexicon with a name at a place
 lexicon_at : (lexicons : List (Lexicon Atom)) (k : ℕ) (name : List ℕ) → slice_get (names_of lexicons) k ≡ Some name → (l : Lexicon Atom) × (slice_get lexicons k ≡ Some l) × (l.name ≡ name)
@@ -93,8 +91,7 @@ module _ (parts : List Part) (alphabet : List Sym) (lexicons : List (Lexicon Ato
         let b = step_up name k entry next.0 goes member next.1 in
         let is : IsEntryFor parts alphabet (names_of lexicons) flags entry b.0 = b.2 in
         let front = (is.net flags (λ j f at. at) x1 y1).0 (form_to entry.form x1 y1 adds) in
-        let back = up path entry.next (b.0).next x2 y2 is.next rest in
-        (
+        let back = up path entry.next (b.0).next x2 y2 is.next rest in (
           front.0 ++ back.0,
           (b.0 ∷ (back.1).0, (front.0, back.0, b.1, front.1, (back.1).1, refl)),
           x_is ∙ ap (λ s. s ++ x2) front.2 ∙ ap (λ s. upper_side flags front.0 ++ s) back.2 ∙ sym (flat_map-append (upper_pieces flags) front.0 back.0),
@@ -111,8 +108,7 @@ module _ (parts : List Part) (alphabet : List Sym) (lexicons : List (Lexicon Ato
         let e = step_down name k b goes member in
         let is : IsEntryFor parts alphabet (names_of lexicons) flags e.0 b = e.2 in
         let adds = (is.net flags (λ j f at. at) (upper_side flags front) (lower_side flags front)).1 (front, accepts, refl, refl) in
-        let others = down path (e.0).next b.next back is.next rest in
-        (
+        let others = down path (e.0).next b.next back is.next rest in (
           e.0 ∷ others.0,
           (
             upper_side flags front,

@@ -14,7 +14,7 @@ use Rattle.flag_diacritics.specs.declared.tape.Tape.TheVariants.{Pair as OfPair}
 use Rattle.lexc_compile.specs.declared.entry.LexEntry.{LexEntry}
 use Rattle.network_expr.specs.Parts.{stands}
 use Rattle.network_expr.specs.declared.parts.Part.{Part}
-use Rattle.network_lexicons.specs.Plain.{symbol_in, names_of}
+use Rattle.network_lexicons.specs.Plain.{symbol_in}
 use Rattle.network_lexicons.specs.Sides.{upper_side, lower_side}
 
 -- the symbols on both sides of the pair are of the alphabet

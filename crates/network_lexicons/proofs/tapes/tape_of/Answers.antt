@@ -10,6 +10,6 @@ letters-preserved c =
     record {
       kept = keeps_more before flags more c.letters.invariant.kept c.in_ok-first.ensures.kept;
       fronts = rw (c.split_at.ensures.back, c.split_at-in-letters.ensures.back)
-      (fronts_more flags more c.args.upper.now c.args.lower.now c.letters.above.now c.letters.below.now c.letters.tape.items c.push.new.self.items first
-      c.in_ok-first.ensures.kept c.in_ok-first.ensures.first c.in_ok-push.ensures.items c.letters.invariant.fronts);
+          (fronts_more flags more c.args.upper.now c.args.lower.now c.letters.above.now c.letters.below.now c.letters.tape.items c.push.new.self.items first
+          c.in_ok-first.ensures.kept c.in_ok-first.ensures.first c.in_ok-push.ensures.items c.letters.invariant.fronts);
     }
