@@ -1,4 +1,5 @@
 ghost use Rattle.std.specs.Prelude.{◌≡◌, ◌<◌, ◌++◌, ◌∷◌, [], ℕ, List, None, Option, Some, Contains, IfErr, IfOk, OnOk, length, slice_get};
+ghost use Rattle.std.specs.Bool.{OnFalse, OnTrue};
 ghost use Rattle.regex_ast.specs.declared.expr.Atom.{Atom as Leaf};
 ghost use Rattle.regex_ast.specs.Terms.{term};
 ghost use Rattle.expr_leaves.specs.Leaves.{leaves_in, seen};
@@ -153,6 +154,18 @@ pub fn none_built(alloc: Global, count: usize) -> Result<Vec<Option<Network>>, A
     Ok(built)
 }
 
+/// Whether the definition at a place has its network.
+fn has_network(built: &[Option<Network>], place: usize) -> bool
+    requires { place < length built.now }
+    ensures yes { OnTrue result (IsThere built.now place) }
+    ensures no { OnFalse result (slice_get built.now place ≡ Some None) }
+{
+    match &built[place] {
+        Some(_) => true,
+        None => false,
+    }
+}
+
 /// Builds the network of the definition at a place, where it isn't built already.
 fn fill(
     alloc: Global,
@@ -165,7 +178,7 @@ fn fill(
     requires parts { HasParts project.now built.old.items place }
     ensures { OnOk result (HasFilled project.now place built.old.items built.new.items) }
 {
-    if built[place].is_some() {
+    if has_network(built, place) {
         return Ok(());
     }
     let network = plainly_built(alloc, project, place, built)?;

@@ -1,12 +1,13 @@
-use Rattle.std.proofs.Common.{arith, get_or, subst, sym}
+use Rattle.std.proofs.Common.{◌≡◌, List, Option, Some, slice_get, subst, sym}
+use Rattle.network_algebra.specs.declared.network.Network.{Network}
 use Rattle.name_order.specs.Orders.{IsOrder}
 use Rattle.project_model.specs.Referring.{references_of}
 use Rattle.fsm_program.proofs.Networks.{built_here, built_more, never_past, none_so_far, parts_there, place_within}
-use Rattle.fsm_program.specs.Building.{HasParts, IsThere}
+use Rattle.fsm_program.specs.Building.{IsThere}
 use Rattle.fsm_program.proofs.building.network_at.Goals as goal
 
-pub order-starts : goal.order-starts
-order-starts c = none_so_far c.args.project.now c.order-order.result.now c.args.place c.args.built.items c.requires.centres
+pub order-init : goal.order-init
+order-init c = none_so_far c.args.project.now c.order-order.result.now c.args.place c.args.built.items c.requires.centres
 
 pub fill-requires-clause-place : goal.fill-requires-clause-place
 fill-requires-clause-place c =
@@ -19,12 +20,15 @@ fill-requires-clause-parts c =
     parts_there c.args.project.now c.order-order.result.now ordered c.args.place c.order.next-index c.order-test.true c.order.built.items c.order.invariant
 
 pub taken-requires : goal.taken-requires
-taken-requires c = subst (IsThere c.fill.new.built.items) c.if-next-place.true c.in_ok-fill.ensures.there
+taken-requires c =
+    subst (λ (nets : List (Option Network)). IsThere nets c.args.place) (sym c.deref_mut.ensures.value)
+    (subst (IsThere c.fill.new.built.items) c.if-next-place.true c.in_ok-fill.ensures.there)
 
-pub returns-then : goal.returns-then
-returns-then c =
+pub returns-then-next-place : goal.returns-then-next-place
+returns-then-next-place c =
     let ordered = subst (λ ds. IsOrder (references_of ds) c.order-order.result.now) c.plan-plan.ensures.definitions c.order-order.ensures in
-    built_here c.args.project.now c.order-order.result.now ordered c.args.place c.order.next-index c.order-test.true c.order.built.items c.order.invariant c.fill.new.built.items c.taken.result c.in_ok-fill.ensures c.if-next-place.true c.taken.ensures
+    built_here c.args.project.now c.order-order.result.now ordered c.args.place c.order.next-index c.order-test.true c.order.built.items c.order.invariant c.fill.new.built.items c.taken.result c.in_ok-fill.ensures c.if-next-place.true
+    (subst (λ (nets : List (Option Network)). slice_get nets c.args.place ≡ Some (Some c.taken.result)) c.deref_mut.ensures.value c.taken.ensures)
 
 pub order-preserved : goal.order-preserved
 order-preserved c =
