@@ -15,6 +15,10 @@ is_not_among names name = by (is_among names name)
     by true = refl
     by false = refl
 
+pub is_none : (found : Option ℕ) → ((line : ℕ) → found ≢ Some line) → found ≡ None
+is_none None none = refl
+is_none (Some line) none = absurd (none line refl)
+
 abbrev pub entries_of : List (Lexicon Raw) → List EntryAt
 entries_of lexicons = flat_map (λ l. l.entries) (map lexicon_of lexicons)
 

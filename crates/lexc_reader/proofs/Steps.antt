@@ -201,6 +201,7 @@ module _ (text : List ℕ) (found : Found) where
           none (spelling k) first k refl
 
       has_tokens : HasTokens (lines_of text found) true text all.tokens.items all.ending rest
+      unfolding rest
       has_tokens =
           subst (λ (ts : List Token). HasTokens (lines_of text found) true text ts all.ending rest) (sym gathered.all)
           (no_end, behind, subst (λ (z : List ℕ). Follows true text found.token z) (sym behind_is) is.follows, subst (λ (n : ℕ). HasTokens n false behind gathered.others all.ending rest) lines_same gathered.has)
@@ -238,6 +239,7 @@ module _ (text : List ℕ) (found : Found) where
         barred reason limit = fault_here InLexicon known is reason (entry_too_many known text rest all.tokens.items form next reason some_text no_word has_all says_all limit)
 
         pub entry_read : (new : Known) → (limit_of known form ≡ None) × (new ≡ with_entry known found.line form next) → IsStep (lines_of text found) InLexicon known text new (record { stage = InLexicon; len = found.len + all.len; line = all.behind })
+        unfolding rest
         entry_read new added =
             let rest_is : rest ≡ drop (found.len + all.len) text = ap (drop all.len) behind_is ∙ drop-drop all.len found.len text in
             record {

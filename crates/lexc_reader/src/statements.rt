@@ -1,4 +1,4 @@
-ghost use Rattle.std.specs.Prelude.{◌≡◌, ◌≢◌, ◌+◌, ◌<◌, ◌^◌};
+ghost use Rattle.std.specs.Prelude.{◌≡◌, ◌+◌, ◌-◌, ◌<◌, ◌^◌, List, false, true};
 ghost use Rattle.regex_tokens.specs.Cuts.{newlines};
 ghost use Rattle.lexc_forms.specs.declared.letters.Letter.{Letter};
 ghost use Rattle.lexc_tokens.specs.declared.token.Token.TheVariants as tokens;

@@ -5,4 +5,4 @@ use Rattle.lexc_reader.proofs.state.add_features.Given as goal
 
 -- the features so far, and those of the other pieces
 abbrev pub invariant-pieces : goal.invariant-pieces
-invariant-pieces l = with_texts l.features (features_of (drop l.piece-index l.side)) ≡ with_texts l.fn.features.old (features_of l.side)
+invariant-pieces l = with_texts l.features (features_of (drop l.piece-index l.side)) ≡ with_texts l.fn.features (features_of l.side)
