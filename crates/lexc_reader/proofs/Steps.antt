@@ -1,5 +1,6 @@
 -- Statements, one by one: what the text says is what the text behind a statement says.
-use Rattle.std.proofs.Common.{◌≡◌, ◌≢◌, ◌+◌, ◌-◌, ◌^◌, ◌<◌, ◌≤◌, ℕ, Bool, true, false, List, [], ◌∷◌, length, take, drop, Option, None, Some, Result, Ok, Err, refl, sym, ap, subst, ◌∙◌, inl, inr, arith, length-drop}
+use Rattle.std.proofs.Common.{◌≡◌, ◌≢◌, ◌==◌, ◌+◌, ◌-◌, ◌^◌, ◌<◌, ◌≤◌, ℕ, Bool, true, false, List, [], ◌∷◌, length, take, drop, Option, None, Some, Result, Ok, Err, refl, sym, ap, subst, ◌∙◌, inl, inr, arith, length-drop}
+use Rattle.std.proofs.lemmas.Bool.Decides.{Decides-eqb}
 use Rattle.std.proofs.lemmas.List.{drop-drop}
 use Rattle.regex_ast.specs.Flags.{IsFlag}
 use Rattle.regex_ast.specs.declared.expr.Raw.{Raw}
@@ -12,6 +13,7 @@ use Rattle.regex_tokens.specs.Cuts.{newlines}
 use Rattle.project_meaning.specs.Trees.{Form}
 use Rattle.lexc_forms.specs.Letters.{characters_of, text_of}
 use Rattle.lexc_forms.specs.declared.letters.Letter.{Letter}
+use Rattle.lexc_forms.specs.declared.letters.Letter.TheVariants.{Plain, Escaped}
 use Rattle.lexc_tokens.specs.Steps.{IsNext}
 use Rattle.lexc_tokens.specs.Tokens.{Follows, NoneFollows, Stands, IsWord, letter_front, behind_blanks, inner_len}
 use Rattle.lexc_tokens.specs.declared.expressions.Inside.TheVariants.{Nothing}
@@ -65,6 +67,20 @@ stands_some opening text (word []) rest is e = is.0 refl
 stands_some opening text (word (l ∷ ls)) rest is e = no_letter text l is.2.0 is.2.1 e
 stands_some opening text semicolon rest is e = let clash : 59 ∷ rest ≡ [] = sym is ∙ e in cc
 stands_some opening text (expression x) rest is e = let clash : 60 ∷ is.1 ≡ [] = sym is.2 ∙ e in cc
+
+-- letters that aren't other than `#`
+pub is_hash : (letters : List Letter) → ((letters ≢ hash) → ⊥) → letters ≡ hash
+is_hash [] none = absurd (none (λ e. cc))
+is_hash (Escaped c ∷ letters) none = absurd (none (λ e. cc))
+is_hash (Plain c ∷ letter ∷ letters) none = absurd (none (λ e. cc))
+is_hash (Plain c ∷ []) none = by (c == 35) refl
+  where
+    by : (test : Bool) → (c == 35) ≡ test → Plain c ∷ [] ≡ hash
+    by true is = ap (λ (n : ℕ). Plain n ∷ []) ((Decides-eqb c 35).0 is)
+    by false is = absurd (none (λ e. let same : c ≡ 35 = cc in let clash : (35 == 35) ≡ false = subst (λ (n : ℕ). (n == 35) ≡ false) same is in cc))
+
+pub one_word : (letters others : List Letter) → word letters ≡ word others → letters ≡ others
+one_word letters others same = cc
 
 module _ (text : List ℕ) (found : Found) where
   module _ (stage : Stage) (known : Known) (is : IsFound (opens stage) text found) where
