@@ -1,0 +1,96 @@
+-- Rules by their parts.
+use Rattle.std.proofs.Common.{◌≡◌, ◌≢◌, ◌==◌, ℕ, true, false, List, [], ◌∷◌, ◌++◌, length, Option, None, Some, refl, sym, ap, subst, ◌∙◌}
+use Rattle.regex_ast.specs.Terms.{Contexts, no_context, between}
+use Rattle.regex_ast.specs.declared.expr.Raw.{Raw}
+use Rattle.regex_ast.specs.declared.twolc.RuleKind.{RuleKind}
+use Rattle.project_meaning.specs.Trees.{Pair, Part, Rule}
+use Rattle.twolc_tokens.specs.declared.token.Operator.{Operator}
+use Rattle.twolc_tokens.specs.declared.token.Operator.TheVariants.{Semicolon, Underscore}
+use Rattle.twolc_tokens.specs.declared.token.Placed.{Placed}
+use Rattle.twolc_tokens.specs.declared.token.Token.{Token}
+use Rattle.twolc_tokens.specs.declared.token.Token.TheVariants.{Operator as operator, Quoted as quoted, Atom as atom}
+use Rattle.twolc_grammar.specs.Atoms.{Names, centre_in}
+use Rattle.twolc_grammar.specs.Sections.{tokens_of}
+use Rattle.twolc_grammar.specs.Statements.{AreContexts, IsStatement, in_rules, kind_of, rule}
+use Rattle.twolc_expressions.specs.Reading.{IsFound}
+use Rattle.twolc_rules.specs.Reading.{IsAtomSplit, IsOperatorSplit, IsQuotedSplit}
+
+abbrev pub IsRule : Names → List Token → Rule Raw → Type 0
+IsRule names tokens r = IsStatement names in_rules tokens (rule r)
+
+abbrev head : List ℕ → List ℕ → Operator → List Token → List Token
+head name centre arrow rest = quoted name ∷ atom centre ∷ operator arrow ∷ rest
+
+behind_name : (n : List ℕ) (b : List Token) (m c : List ℕ) (o : Operator) (rest : List Token) → quoted n ∷ b ≡ head m c o rest → b ≡ atom c ∷ operator o ∷ rest
+behind_name n b m c o rest e = cc
+
+behind_centre : (n : List ℕ) (b : List Token) (c : List ℕ) (o : Operator) (rest : List Token) → atom n ∷ b ≡ atom c ∷ operator o ∷ rest → b ≡ operator o ∷ rest
+behind_centre n b c o rest e = cc
+
+centre_same : (n : List ℕ) (b : List Token) (c : List ℕ) (o : Operator) (rest : List Token) → atom n ∷ b ≡ atom c ∷ operator o ∷ rest → n ≡ c
+centre_same n b c o rest e = let first : atom n ≡ atom c = cc in cc
+
+arrow_same : (o q : Operator) (a b : List Token) → operator o ∷ a ≡ operator q ∷ b → o ≡ q
+arrow_same o q a b e = let first : operator o ≡ operator q = cc in cc
+
+rest_same : (o q : Operator) (a b : List Token) → operator o ∷ a ≡ operator q ∷ b → a ≡ b
+rest_same o q a b e = cc
+
+some_same : {A : Type 0} (x y : A) → Some x ≡ Some y → x ≡ y
+some_same x y e = cc
+
+module _ (names : Names) (tokens : List Token) where
+  pub no_name : IsQuotedSplit tokens None → IsFound (IsRule names tokens) None
+  no_name none = λ r (c, o, rest, e, more). none r.name (atom c ∷ operator o ∷ rest) e
+
+  module _ (name : List ℕ) (behind : List Token) (named : IsQuotedSplit tokens (Some (name, behind))) where
+    pub no_centre : IsAtomSplit behind None → IsFound (IsRule names tokens) None
+    no_centre none = λ r (c, o, rest, e, more). none c (operator o ∷ rest) (behind_name name behind r.name c o rest (sym named ∙ e))
+
+    module _ (centre : List ℕ) (last : List Token) (centred : IsAtomSplit behind (Some (centre, last))) where
+      pub no_arrow : IsOperatorSplit last None → IsFound (IsRule names tokens) None
+      no_arrow none = λ r (c, o, rest, e, more). none o rest (behind_centre centre last c o rest (sym centred ∙ behind_name name behind r.name c o rest (sym named ∙ e)))
+
+      module _ (arrow : Operator) (rest : List Token) (led : IsOperatorSplit last (Some (arrow, rest))) where
+        centre_is : (n c : List ℕ) (o : Operator) (other : List Token) → tokens ≡ head n c o other → centre ≡ c
+        centre_is n c o other e = centre_same centre last c o other (sym centred ∙ behind_name name behind n c o other (sym named ∙ e))
+
+        last_is : (n c : List ℕ) (o : Operator) (other : List Token) → tokens ≡ head n c o other → operator arrow ∷ rest ≡ operator o ∷ other
+        last_is n c o other e = sym led ∙ behind_centre centre last c o other (sym centred ∙ behind_name name behind n c o other (sym named ∙ e))
+
+        pub strange_arrow : None ≡ kind_of arrow → IsFound (IsRule names tokens) None
+        strange_arrow none = λ r (c, o, other, e, centred_is, kind, more). let clash : None ≡ Some r.kind = none ∙ ap kind_of (arrow_same arrow o rest other (last_is r.name c o other e)) ∙ kind in cc
+
+        pub strange_centre : None ≡ centre_in names centre → IsFound (IsRule names tokens) None
+        strange_centre none = λ r (c, o, other, e, centred_is, more). let clash : None ≡ Some r.centre = none ∙ ap (centre_in names) (centre_is r.name c o other e) ∙ centred_is in cc
+
+        pub strange_contexts : IsFound (AreContexts names rest) None → IsFound (IsRule names tokens) None
+        strange_contexts none = λ r (c, o, other, e, centred_is, kind, are, some). none r.contexts (subst (λ ts. AreContexts names ts r.contexts) (sym (rest_same arrow o rest other (last_is r.name c o other e))) are)
+
+        no_others : (cs : Contexts (Part Raw)) → rest ≡ [] → AreContexts names rest cs → cs ≡ no_context
+        no_others no_context none h = refl
+        no_others (between l r cs) none (left, right, more, e, others) = absurd (not_empty left (right ++ (operator Semicolon ∷ more)) (operator Underscore) (sym none ∙ e))
+          where
+            not_empty : (xs ys : List Token) (y : Token) → [] ≡ xs ++ (y ∷ ys) → ⊥
+            not_empty [] ys y e = cc
+            not_empty (x ∷ xs) ys y e = cc
+
+        pub no_contexts : rest ≡ [] → IsFound (IsRule names tokens) None
+        no_contexts none = λ r (c, o, other, e, centred_is, kind, are, some).
+          some (no_others r.contexts none (subst (λ ts. AreContexts names ts r.contexts) (sym (rest_same arrow o rest other (last_is r.name c o other e))) are))
+
+        empties : (cs : Contexts (Part Raw)) → cs ≡ no_context → AreContexts names rest cs → rest ≡ []
+        empties cs e h = subst (λ ds. AreContexts names rest ds) e h
+
+        pub made : (r : Rule Raw) → r.name ≡ name → Some r.centre ≡ centre_in names centre → Some r.kind ≡ kind_of arrow → (rest ≡ [] → ⊥) → AreContexts names rest r.contexts → IsRule names tokens r
+        made r name_is centre_is kind_is some are =
+            (centre, arrow, rest, named ∙ ap (λ n. quoted n ∷ behind) (sym name_is) ∙ ap (λ ts. quoted r.name ∷ ts) (centred ∙ ap (λ ts. atom centre ∷ ts) led), sym centre_is, sym kind_is, are, λ e. some (empties r.contexts e are))
+
+-- whether tokens are left
+pub none_left : (rest : List Placed) → true ≡ (length rest == 0) → tokens_of rest ≡ []
+none_left [] none = refl
+none_left (p ∷ rest) none = absurd cc
+
+pub some_left : (rest : List Placed) → false ≡ (length rest == 0) → tokens_of rest ≡ [] → ⊥
+some_left [] some e = cc
+some_left (p ∷ rest) some e = cc

@@ -1,0 +1,105 @@
+-- The alphabet, sets and definitions by their parts.
+use Rattle.std.proofs.Common.{◌≡◌, ◌<◌, ◌==◌, ℕ, Bool, true, false, List, [], ◌∷◌, ◌++◌, map, length, Vec, Global, Option, None, Some, Result, Ok, Err, IfOk, refl, sym, ap, subst, ◌∙◌, arith}
+use Rattle.std.specs.Option.{option_map}
+use Rattle.std.specs.declared.alloc.AllocError.{AllocError}
+use Rattle.regex_ast.specs.Terms.{Term}
+use Rattle.regex_ast.specs.declared.expr.Raw.{Raw}
+use Rattle.regex_ast.specs.declared.twolc.PairAtom.{PairAtom}
+use Rattle.project_meaning.specs.Trees.{Pair, Part, PairDefinition, Set}
+use Rattle.twolc_atoms.specs.Views.{pair_view}
+use Rattle.twolc_tokens.specs.declared.token.Operator.TheVariants.{Equals, Semicolon}
+use Rattle.twolc_tokens.specs.declared.token.Placed.{Placed}
+use Rattle.twolc_tokens.specs.declared.token.Token.{Token}
+use Rattle.twolc_tokens.specs.declared.token.Token.TheVariants.{Operator as operator, Atom as atom}
+use Rattle.twolc_grammar.specs.Atoms.{Names, no_names, one_symbol_in, symbols_in}
+use Rattle.twolc_grammar.specs.Expressions.{IsExpression, has_edge}
+use Rattle.twolc_grammar.specs.Sections.{tokens_of}
+use Rattle.twolc_grammar.specs.Statements.{IsNamed, IsStatement, alphabet, in_alphabet, in_definitions, in_sets, definition, set}
+use Rattle.twolc_expressions.specs.Reading.{IsFound}
+use Rattle.twolc_statements.specs.Reading.{IsAtomSplit, IsEndSplit, IsEqualsSplit, IsNameSplit, each_found, pair_in, symbol_in}
+use Rattle.twolc_statements.proofs.Each.{each_again, each_takes, fronts_same, list_found, list_none}
+
+behind_name : (n m : List ℕ) (a b : List Token) → atom n ∷ operator Equals ∷ a ≡ atom m ∷ operator Equals ∷ b → a ≡ b
+behind_name n m a b e = cc
+
+behind_same : (tokens : List Token) (n m : List ℕ) (a b : List Token) → IsNamed tokens n a → IsNamed tokens m b → a ≡ b
+behind_same tokens n m a b h g = behind_name n m a b (sym h.0 ∙ g.0)
+
+front_same : (tokens : List Token) (n m : List ℕ) (behind front other : List Token) → IsNamed tokens n behind → behind ≡ front ++ operator Semicolon ∷ [] → IsNamed tokens m (other ++ operator Semicolon ∷ []) → front ≡ other
+front_same tokens n m behind front other named ended h = fronts_same front other (operator Semicolon) (sym ended ∙ behind_same tokens n m behind (other ++ operator Semicolon ∷ []) named h)
+
+-- The alphabet.
+
+abbrev pub IsAlphabet : List Token → List (Pair Raw) → Type 0
+IsAlphabet tokens pairs = IsStatement no_names in_alphabet tokens (alphabet pairs)
+
+abbrev pub pairs_of : Vec (PairAtom Raw) Global → List (Pair Raw)
+pairs_of pairs = map pair_view pairs.items
+
+pub alphabet_none : (tokens : List Token) → IsEndSplit tokens None → IsFound (IsAlphabet tokens) None
+alphabet_none tokens none = list_none symbols_in tokens none
+
+pub alphabet_ok : (tokens front : List Token) (r : Result (Option (Vec (PairAtom Raw) Global)) AllocError) → tokens ≡ front ++ operator Semicolon ∷ [] → IfOk r (λ found. option_map pairs_of found ≡ each_found pair_in front) → IfOk r (λ found. IsFound (IsAlphabet tokens) (option_map pairs_of found))
+alphabet_ok tokens front (Ok found) split e = list_found symbols_in tokens front (option_map pairs_of found) split e
+alphabet_ok tokens front (Err error) split e = e
+
+-- Sets.
+
+abbrev pub IsSet : List Token → Set Raw → Type 0
+IsSet tokens s = IsStatement no_names in_sets tokens (set s)
+
+set_fronts : (tokens : List Token) (name : List ℕ) (behind front : List Token) (s : Set Raw) → IsNamed tokens name behind → behind ≡ front ++ operator Semicolon ∷ [] → IsSet tokens s → (atoms : List (List ℕ)) × (front ≡ map atom atoms) × (0 < length atoms) × (map (λ x. Some x) s.symbols ≡ map one_symbol_in atoms)
+set_fronts tokens name behind front s named ended (list, atoms, is, listed, some, said) =
+    (atoms, front_same tokens name s.name behind front (map atom atoms) named ended (subst (λ ts. IsNamed tokens s.name ts) listed is), some, said)
+
+pub set_unnamed : (tokens : List Token) → IsNameSplit tokens None → IsFound (IsSet tokens) None
+set_unnamed tokens none = λ s h. none s.name h.0 h.1.1.0
+
+pub set_unended : (tokens : List Token) (name : List ℕ) (behind : List Token) → IsNamed tokens name behind → IsEndSplit behind None → IsFound (IsSet tokens) None
+set_unended tokens name behind named none = λ s (list, atoms, is, listed, some, said). none (map atom atoms) (behind_same tokens name s.name behind list named is ∙ listed)
+
+none_many : (atoms : List (List ℕ)) → [] ≡ map atom atoms → 0 < length atoms → ⊥
+none_many [] e some = omega (arith, some)
+none_many (a ∷ atoms) e some = cc
+
+pub set_empty : (tokens : List Token) (name : List ℕ) (behind : List Token) (front : List Placed) → IsNamed tokens name behind → behind ≡ tokens_of front ++ operator Semicolon ∷ [] → true ≡ (length front == 0) → IsFound (IsSet tokens) None
+set_empty tokens name behind [] named ended none = λ s h. let f = set_fronts tokens name behind [] s named ended h in none_many f.0 f.1.0 f.1.1.0
+set_empty tokens name behind (p ∷ front) named ended none = absurd cc
+
+pub set_strange : (tokens : List Token) (name : List ℕ) (behind front : List Token) → IsNamed tokens name behind → behind ≡ front ++ operator Semicolon ∷ [] → None ≡ each_found symbol_in front → IsFound (IsSet tokens) None
+set_strange tokens name behind front named ended none = λ s h.
+    let f = set_fronts tokens name behind front s named ended h in
+    let clash : None ≡ Some s.symbols = none ∙ ap (each_found symbol_in) f.1.0 ∙ each_again one_symbol_in f.0 s.symbols f.1.1.1 in cc
+
+many : (front : List Placed) (atoms : List (List ℕ)) → false ≡ (length front == 0) → tokens_of front ≡ map atom atoms → 0 < length atoms
+many [] atoms some e = absurd cc
+many (p ∷ front) [] some e = absurd cc
+many (p ∷ front) (a ∷ atoms) some e = omega arith
+
+pub set_made : (tokens : List Token) (name : List ℕ) (behind : List Token) (front : List Placed) (symbols : List Raw) → IsNamed tokens name behind → behind ≡ tokens_of front ++ operator Semicolon ∷ [] → false ≡ (length front == 0) → Some symbols ≡ each_found symbol_in (tokens_of front) → IsSet tokens (record { name = name; symbols = symbols })
+set_made tokens name behind front symbols named ended some is =
+    let f = each_takes one_symbol_in (tokens_of front) symbols (sym is) in
+    (behind, f.0, named, ended ∙ ap (λ ts. ts ++ operator Semicolon ∷ []) f.1.0, many front f.0 some f.1.0, f.1.1)
+
+-- Definitions.
+
+abbrev pub IsDefinition : Names → List Token → PairDefinition Raw → Type 0
+IsDefinition names tokens d = IsStatement names in_definitions tokens (definition d)
+
+module _ (names : Names) (tokens : List Token) where
+  pub unnamed : IsNameSplit tokens None → IsFound (IsDefinition names tokens) None
+  unnamed none = λ d h. none d.name (h.0 ++ operator Semicolon ∷ []) h.1.0
+
+  module _ (name : List ℕ) (behind : List Token) (named : IsNamed tokens name behind) where
+    pub unended : IsEndSplit behind None → IsFound (IsDefinition names tokens) None
+    unended none = λ d h. none h.0 (behind_same tokens name d.name behind (h.0 ++ operator Semicolon ∷ []) named h.1.0)
+
+    module _ (front : List Token) (ended : behind ≡ front ++ operator Semicolon ∷ []) where
+      pub edged : true ≡ has_edge front → IsFound (IsDefinition names tokens) None
+      edged has = λ d h. let same = front_same tokens name d.name behind front h.0 named ended h.1.0 in let clash : true ≡ false = has ∙ ap has_edge same ∙ h.1.1.1 in cc
+
+      pub strange : IsFound (IsExpression names front) None → IsFound (IsDefinition names tokens) None
+      strange none = λ d h. none d.term (subst (λ ts. IsExpression names ts d.term) (sym (front_same tokens name d.name behind front h.0 named ended h.1.0)) h.1.1.0)
+
+      pub made : (t : Term (Part Raw)) → false ≡ has_edge front → IsExpression names front t → IsDefinition names tokens (record { name = name; term = t })
+      made t no_edge is = (front, subst (λ ts. IsNamed tokens name ts) ended named, is, sym no_edge)
