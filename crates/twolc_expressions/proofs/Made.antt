@@ -1,5 +1,6 @@
 -- Rows that are made item by item, or not at all.
 use Rattle.std.proofs.Common.{◌≡◌, ◌+◌, ◌<◌, ◌≤◌, ℕ, List, [], ◌∷◌, ◌++◌, Option, None, Some, length, drop, get_or, map, refl, sym, ap, ◌∙◌}
+use Rattle.std.proofs.lemmas.List.{drop_all}
 use Rattle.std.specs.Option.{option_map, option_and_then}
 use Rattle.regex_ast.specs.Terms.{Term, Terms, Links, term, terms_of, links_of, then_term, no_term, no_link, or, and, less}
 use Rattle.regex_ast.specs.declared.expr.Expr.{Expr}
@@ -7,7 +8,7 @@ use Rattle.regex_ast.specs.declared.expr.Link.{Link, Or, And, Less}
 use Rattle.regex_ast.specs.declared.expr.Raw.{Raw}
 use Rattle.regex_ast.specs.declared.twolc.PairPart.{PairPart}
 use Rattle.expr_leaves.specs.Mapped.{mapped, mapped_each, mapped_links}
-use Rattle.expr_leaves.proofs.Behind.{left_behind, none_left}
+use Rattle.word_relations.proofs.Behind.{left_behind}
 use Rattle.project_meaning.specs.Trees.{Part}
 use Rattle.twolc_atoms.specs.Views.{part_view}
 use Rattle.twolc_grammar.specs.Atoms.{Names}
@@ -47,7 +48,7 @@ module _ {X Y S : Type 0} (put : Y → S → S) (made : List X → Option S) whe
   failed xs i x found below is none so_far = ap (option_map (onto put found)) (sym (none (drop (i + 1) xs)) ∙ ap made (sym (left_behind xs i x below is))) ∙ so_far
 
   pub ended : (xs : List X) (i : ℕ) (found : List Y) (nothing all : S) → length xs ≤ i → made [] ≡ Some nothing → all ≡ onto put found nothing → SoFar xs i found → Some all ≡ made xs
-  ended xs i found nothing all over none_is all_is so_far = ap Some all_is ∙ ap (option_map (onto put found)) (sym none_is ∙ ap made (sym (none_left xs i over))) ∙ so_far
+  ended xs i found nothing all over none_is all_is so_far = ap Some all_is ∙ ap (option_map (onto put found)) (sym none_is ∙ ap made (sym (drop_all i xs over))) ∙ so_far
 
 -- Operands.
 

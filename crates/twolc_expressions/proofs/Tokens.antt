@@ -1,8 +1,9 @@
 -- Tokens as those of xfst, one after another.
 use Rattle.std.proofs.Common.{◌≡◌, ◌+◌, ◌<◌, ◌≤◌, ℕ, Bool, false, List, [], ◌∷◌, ◌++◌, Option, None, Some, length, drop, get_or, map, refl, sym, ap, subst, ◌∙◌, append_assoc, append-nil}
+use Rattle.std.proofs.lemmas.List.{drop_all}
 use Rattle.std.specs.Option.{option_map, option_and_then}
 use Rattle.regex_tokens.specs.declared.token.Token.{Token as XfstToken}
-use Rattle.expr_leaves.proofs.Behind.{left_behind, none_left}
+use Rattle.word_relations.proofs.Behind.{left_behind}
 use Rattle.twolc_tokens.specs.declared.token.Placed.{Placed}
 use Rattle.twolc_grammar.specs.Expressions.{as_token, as_xfst, is_caret}
 use Rattle.twolc_grammar.specs.Sections.{tokens_of}
@@ -36,4 +37,4 @@ failed tokens i mark p found below is none so_far =
     ap (option_map (λ xs. found ++ xs)) (sym here) ∙ so_far
 
 pub ended : (tokens : List Placed) (i : ℕ) (mark : Bool) (found : List XfstToken) → length tokens ≤ i → SoFar tokens i mark found → Some found ≡ as_xfst false (tokens_of tokens)
-ended tokens i mark found over so_far = ap Some (sym (append-nil found)) ∙ ap (λ ps. option_map (λ xs. found ++ xs) (as_xfst mark (tokens_of ps))) (sym (none_left tokens i over)) ∙ so_far
+ended tokens i mark found over so_far = ap Some (sym (append-nil found)) ∙ ap (λ ps. option_map (λ xs. found ++ xs) (as_xfst mark (tokens_of ps))) (sym (drop_all i tokens over)) ∙ so_far

@@ -1,6 +1,7 @@
-ghost use Rattle.std.specs.Prelude.{◌≡◌, false};
+ghost use Rattle.std.specs.Prelude.{◌≡◌, ◌&&◌, IsTrue, false, nat_lt};
 ghost use Rattle.std.specs.List.{list_all, list_any};
-ghost use Rattle.regex_grammar.specs.Grammar.{is_digit, is_number};
+ghost use Rattle.regex_grammar.specs.Grammar.{is_digit, is_number, number_of};
+ghost use Rattle.regex_reader.specs.Limits.{highest_power};
 ghost use Rattle.twolc_grammar.specs.Expressions.{has_edge, has_high_power, is_edge, is_high};
 ghost use Rattle.twolc_grammar.specs.Sections.{tokens_of};
 
@@ -44,10 +45,26 @@ fn is_high(token: &Token) -> bool
     ensures { result ≡ is_high token.now }
 {
     match token {
-        Token::Atom(digits) => {
-            is_number(digits.as_str().as_bytes()) && digits.as_str().parse::<u8>().is_err()
-        }
+        Token::Atom(atom) => is_high_number(atom.as_str()),
         _ => false,
+    }
+}
+
+/// Whether the text is a number above 255.
+fn is_high_number(text: &str) -> bool
+    ensures { result ≡ is_number text.now && nat_lt highest_power (number_of text.now) }
+{
+    is_number(text.as_bytes()) && is_above(text)
+}
+
+/// Whether the number that digits say is above 255.
+fn is_above(digits: &str) -> bool
+    requires { IsTrue (is_number digits.now) }
+    ensures { result ≡ nat_lt highest_power (number_of digits.now) }
+{
+    match digits.parse::<u8>() {
+        Ok(_) => false,
+        Err(_) => true,
     }
 }
 
