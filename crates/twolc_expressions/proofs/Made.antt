@@ -1,5 +1,5 @@
 -- Rows that are made item by item, or not at all.
-use Rattle.std.proofs.Common.{◌≡◌, ◌+◌, ◌<◌, ◌≤◌, ℕ, List, [], ◌∷◌, ◌++◌, Option, None, Some, length, drop, get_or, map, refl, sym, ap, ◌∙◌}
+use Rattle.std.proofs.Common.{◌≡◌, ◌+◌, ◌<◌, ◌≤◌, ℕ, List, [], ◌∷◌, ◌++◌, Option, None, Some, length, drop, get_or, map, refl, sym, ap, subst, ◌∙◌}
 use Rattle.std.proofs.lemmas.List.{drop_all}
 use Rattle.std.specs.Option.{option_map, option_and_then}
 use Rattle.regex_ast.specs.Terms.{Term, Terms, Links, term, terms_of, links_of, then_term, no_term, no_link, or, and, less}
@@ -33,12 +33,15 @@ module _ {X Y S : Type 0} (put : Y → S → S) (made : List X → Option S) whe
   front found new y None e = refl
   front found new y (Some s) e = ap Some (ap (λ z. onto put z s) e ∙ onto-append put found y s)
 
-  pub begin : (xs : List X) → SoFar xs 0 []
+  begin : (xs : List X) → SoFar xs 0 []
   begin xs = by (made xs)
     where
       by : (o : Option S) → option_map (onto put []) o ≡ o
       by None = refl
       by (Some s) = refl
+
+  pub begun : (xs : List X) (found : List Y) → found ≡ [] → SoFar xs 0 found
+  begun xs found none = subst (λ (ys : List Y). SoFar xs 0 ys) (sym none) (begin xs)
 
   pub more : (xs : List X) (i : ℕ) (x : X) (found new : List Y) (y : Y) → i < length xs → x ≡ get_or xs i x → new ≡ found ++ y ∷ [] → ((rest : List X) → made (x ∷ rest) ≡ option_map (put y) (made rest)) → SoFar xs i found → SoFar xs (i + 1) new
   more xs i x found new y below is new_is stands so_far =

@@ -1,7 +1,11 @@
 -- Rules by their parts.
-use Rattle.std.proofs.Common.{◌≡◌, ◌≢◌, ◌==◌, ℕ, true, false, List, [], ◌∷◌, ◌++◌, length, Option, None, Some, refl, sym, ap, subst, ◌∙◌}
+use Rattle.std.proofs.Common.{◌≡◌, ◌≢◌, ◌==◌, ℕ, true, false, List, [], ◌∷◌, ◌++◌, length, Vec, Global, Option, None, Some, refl, sym, ap, subst, ◌∙◌}
+use Rattle.std.specs.Option.{option_map}
 use Rattle.regex_ast.specs.Terms.{Contexts, no_context, between}
+use Rattle.regex_ast.specs.declared.expr.Context.{Context}
 use Rattle.regex_ast.specs.declared.expr.Raw.{Raw}
+use Rattle.regex_ast.specs.declared.twolc.PairAtom.{PairAtom}
+use Rattle.regex_ast.specs.declared.twolc.PairPart.{PairPart}
 use Rattle.regex_ast.specs.declared.twolc.RuleKind.{RuleKind}
 use Rattle.project_meaning.specs.Trees.{Pair, Part, Rule}
 use Rattle.twolc_tokens.specs.declared.token.Operator.{Operator}
@@ -9,11 +13,15 @@ use Rattle.twolc_tokens.specs.declared.token.Operator.TheVariants.{Semicolon, Un
 use Rattle.twolc_tokens.specs.declared.token.Placed.{Placed}
 use Rattle.twolc_tokens.specs.declared.token.Token.{Token}
 use Rattle.twolc_tokens.specs.declared.token.Token.TheVariants.{Operator as operator, Quoted as quoted, Atom as atom}
+use Rattle.twolc_atoms.specs.Views.{pair_view}
 use Rattle.twolc_grammar.specs.Atoms.{Names, centre_in}
 use Rattle.twolc_grammar.specs.Sections.{tokens_of}
 use Rattle.twolc_grammar.specs.Statements.{AreContexts, IsStatement, in_rules, kind_of, rule}
 use Rattle.twolc_expressions.specs.Reading.{IsFound}
-use Rattle.twolc_rules.specs.Reading.{IsAtomSplit, IsOperatorSplit, IsQuotedSplit}
+use Rattle.twolc_rules.specs.Reading.{IsAtomSplit, IsOperatorSplit, IsQuotedSplit, context_views}
+
+abbrev views_in : Vec (Context (PairPart Raw)) Global → Contexts (Part Raw)
+views_in v = context_views v.items
 
 abbrev pub IsRule : Names → List Token → Rule Raw → Type 0
 IsRule names tokens r = IsStatement names in_rules tokens (rule r)
@@ -61,11 +69,11 @@ module _ (names : Names) (tokens : List Token) where
         pub strange_arrow : None ≡ kind_of arrow → IsFound (IsRule names tokens) None
         strange_arrow none = λ r (c, o, other, e, centred_is, kind, more). let clash : None ≡ Some r.kind = none ∙ ap kind_of (arrow_same arrow o rest other (last_is r.name c o other e)) ∙ kind in cc
 
-        pub strange_centre : None ≡ centre_in names centre → IsFound (IsRule names tokens) None
-        strange_centre none = λ r (c, o, other, e, centred_is, more). let clash : None ≡ Some r.centre = none ∙ ap (centre_in names) (centre_is r.name c o other e) ∙ centred_is in cc
+        pub strange_centre : (p : Option (PairAtom Raw)) → p ≡ None → option_map pair_view p ≡ centre_in names centre → IsFound (IsRule names tokens) None
+        strange_centre p none found = λ r (c, o, other, e, centred_is, more). let clash : None ≡ Some r.centre = ap (option_map pair_view) (sym none) ∙ found ∙ ap (centre_in names) (centre_is r.name c o other e) ∙ centred_is in cc
 
-        pub strange_contexts : IsFound (AreContexts names rest) None → IsFound (IsRule names tokens) None
-        strange_contexts none = λ r (c, o, other, e, centred_is, kind, are, some). none r.contexts (subst (λ ts. AreContexts names ts r.contexts) (sym (rest_same arrow o rest other (last_is r.name c o other e))) are)
+        pub strange_contexts : (o : Option (Vec (Context (PairPart Raw)) Global)) → o ≡ None → IsFound (AreContexts names rest) (option_map views_in o) → IsFound (IsRule names tokens) None
+        strange_contexts o is found = let none : IsFound (AreContexts names rest) None = subst (λ (x : Option (Vec (Context (PairPart Raw)) Global)). IsFound (AreContexts names rest) (option_map views_in x)) is found in λ r (c, o, other, e, centred_is, kind, are, some). none r.contexts (subst (λ ts. AreContexts names ts r.contexts) (sym (rest_same arrow o rest other (last_is r.name c o other e))) are)
 
         no_others : (cs : Contexts (Part Raw)) → rest ≡ [] → AreContexts names rest cs → cs ≡ no_context
         no_others no_context none h = refl
@@ -82,9 +90,15 @@ module _ (names : Names) (tokens : List Token) where
         empties : (cs : Contexts (Part Raw)) → cs ≡ no_context → AreContexts names rest cs → rest ≡ []
         empties cs e h = subst (λ ds. AreContexts names rest ds) e h
 
-        pub made : (r : Rule Raw) → r.name ≡ name → Some r.centre ≡ centre_in names centre → Some r.kind ≡ kind_of arrow → (rest ≡ [] → ⊥) → AreContexts names rest r.contexts → IsRule names tokens r
-        made r name_is centre_is kind_is some are =
+        rule_is : (r : Rule Raw) → r.name ≡ name → Some r.centre ≡ centre_in names centre → Some r.kind ≡ kind_of arrow → (rest ≡ [] → ⊥) → AreContexts names rest r.contexts → IsRule names tokens r
+        rule_is r name_is centre_is kind_is some are =
             (centre, arrow, rest, named ∙ ap (λ n. quoted n ∷ behind) (sym name_is) ∙ ap (λ ts. quoted r.name ∷ ts) (centred ∙ ap (λ ts. atom centre ∷ ts) led), sym centre_is, sym kind_is, are, λ e. some (empties r.contexts e are))
+
+        pub made : (copy : List ℕ) (p : Option (PairAtom Raw)) (pair : PairAtom Raw) (kind : RuleKind) (o : Option (Vec (Context (PairPart Raw)) Global)) (contexts : Vec (Context (PairPart Raw)) Global) → copy ≡ name → p ≡ Some pair → option_map pair_view p ≡ centre_in names centre → Some kind ≡ kind_of arrow → (rest ≡ [] → ⊥)
+            → o ≡ Some contexts → IsFound (AreContexts names rest) (option_map views_in o) → IsRule names tokens (record { name = copy; centre = pair_view pair; kind = kind; contexts = views_in contexts })
+        made copy p pair kind o contexts name_is pair_is found kind_is some is are =
+            rule_is (record { name = copy; centre = pair_view pair; kind = kind; contexts = views_in contexts }) name_is (ap (option_map pair_view) (sym pair_is) ∙ found) kind_is some
+            (subst (λ (x : Option (Vec (Context (PairPart Raw)) Global)). IsFound (AreContexts names rest) (option_map views_in x)) is are)
 
 -- whether tokens are left
 pub none_left : (rest : List Placed) → true ≡ (length rest == 0) → tokens_of rest ≡ []

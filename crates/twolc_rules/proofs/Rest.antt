@@ -2,8 +2,10 @@
 use Rattle.std.proofs.Common.{◌≡◌, ◌==◌, ◌<◌, ℕ, true, false, List, [], ◌∷◌, ◌++◌, length, Option, None, Some, refl, sym, ap, subst, ◌∙◌, arith, length-append}
 use Rattle.std.proofs.lemmas.List.{length-map}
 use Rattle.std.specs.List.{list_all}
+use Rattle.std.specs.Option.{option_map}
 use Rattle.regex_ast.specs.Terms.{Term, Contexts, no_context, between}
 use Rattle.regex_ast.specs.declared.expr.Context.{Context}
+use Rattle.regex_ast.specs.declared.expr.Expr.{Expr}
 use Rattle.regex_ast.specs.declared.expr.Raw.{Raw}
 use Rattle.regex_ast.specs.declared.twolc.PairPart.{PairPart}
 use Rattle.regex_tokens.proofs.Lists.{split_once}
@@ -40,8 +42,18 @@ pub record SoFar (names : Names) (tokens rest : List Token) (found : List (Conte
   pub forth : (cs : Contexts (Part Raw)) → AreContexts names rest cs → AreContexts names tokens (onto context_before found cs)
   pub back : (cs : Contexts (Part Raw)) → AreContexts names tokens cs → (more : Contexts (Part Raw)) × AreContexts names rest more
 
-pub begin : (names : Names) (tokens : List Token) → SoFar names tokens tokens []
+begin : (names : Names) (tokens : List Token) → SoFar names tokens tokens []
 begin names tokens = record { forth = λ cs h. h; back = λ cs h. (cs, h) }
+
+pub begun : (names : Names) (tokens : List Token) (found : List (Context (PairPart Raw))) → found ≡ [] → SoFar names tokens tokens found
+begun names tokens found none = subst (λ (cs : List (Context (PairPart Raw))). SoFar names tokens tokens cs) (sym none) (begin names tokens)
+
+-- a part, as it was read
+pub part_said : (names : Names) (tokens : List Token) (o : Option (Expr (PairPart Raw))) (e : Expr (PairPart Raw)) → o ≡ Some e → IsFound (IsPart names tokens) (option_map pair_term o) → IsPart names tokens (pair_term e)
+part_said names tokens o e is found = subst (λ (x : Option (Expr (PairPart Raw))). IsFound (IsPart names tokens) (option_map pair_term x)) is found
+
+pub part_missing : (names : Names) (tokens : List Token) (o : Option (Expr (PairPart Raw))) → o ≡ None → IsFound (IsPart names tokens) (option_map pair_term o) → IsFound (IsPart names tokens) None
+part_missing names tokens o is found = subst (λ (x : Option (Expr (PairPart Raw))). IsFound (IsPart names tokens) (option_map pair_term x)) is found
 
 -- the first context, of which the left part is these tokens
 record Opened (names : Names) (left behind : List Token) : Type 0 where

@@ -3,8 +3,10 @@ use Rattle.std.proofs.Common.{◌≡◌, ◌<◌, ◌==◌, ℕ, Bool, true, fal
 use Rattle.std.specs.Option.{option_map}
 use Rattle.std.specs.declared.alloc.AllocError.{AllocError}
 use Rattle.regex_ast.specs.Terms.{Term}
+use Rattle.regex_ast.specs.declared.expr.Expr.{Expr}
 use Rattle.regex_ast.specs.declared.expr.Raw.{Raw}
 use Rattle.regex_ast.specs.declared.twolc.PairAtom.{PairAtom}
+use Rattle.regex_ast.specs.declared.twolc.PairPart.{PairPart}
 use Rattle.project_meaning.specs.Trees.{Pair, Part, PairDefinition, Set}
 use Rattle.twolc_atoms.specs.Views.{pair_view}
 use Rattle.twolc_tokens.specs.declared.token.Operator.TheVariants.{Equals, Semicolon}
@@ -15,7 +17,7 @@ use Rattle.twolc_grammar.specs.Atoms.{Names, no_names, one_symbol_in, symbols_in
 use Rattle.twolc_grammar.specs.Expressions.{IsExpression, has_edge}
 use Rattle.twolc_grammar.specs.Sections.{tokens_of}
 use Rattle.twolc_grammar.specs.Statements.{IsNamed, IsStatement, alphabet, in_alphabet, in_definitions, in_sets, definition, set}
-use Rattle.twolc_expressions.specs.Reading.{IsFound}
+use Rattle.twolc_expressions.specs.Reading.{IsFound, pair_term}
 use Rattle.twolc_statements.specs.Reading.{IsAtomSplit, IsEndSplit, IsEqualsSplit, IsNameSplit, each_found, pair_in, symbol_in}
 use Rattle.twolc_statements.proofs.Each.{each_again, each_takes, fronts_same, list_found, list_none}
 
@@ -66,20 +68,24 @@ pub set_empty : (tokens : List Token) (name : List ℕ) (behind : List Token) (f
 set_empty tokens name behind [] named ended none = λ s h. let f = set_fronts tokens name behind [] s named ended h in none_many f.0 f.1.0 f.1.1.0
 set_empty tokens name behind (p ∷ front) named ended none = absurd cc
 
-pub set_strange : (tokens : List Token) (name : List ℕ) (behind front : List Token) → IsNamed tokens name behind → behind ≡ front ++ operator Semicolon ∷ [] → None ≡ each_found symbol_in front → IsFound (IsSet tokens) None
-set_strange tokens name behind front named ended none = λ s h.
+abbrev items_of : Vec Raw Global → List Raw
+items_of v = v.items
+
+pub set_strange : (tokens : List Token) (name : List ℕ) (behind front : List Token) (o : Option (Vec Raw Global)) → IsNamed tokens name behind → behind ≡ front ++ operator Semicolon ∷ [] → o ≡ None → option_map items_of o ≡ each_found symbol_in front → IsFound (IsSet tokens) None
+set_strange tokens name behind front o named ended none made = λ s h.
     let f = set_fronts tokens name behind front s named ended h in
-    let clash : None ≡ Some s.symbols = none ∙ ap (each_found symbol_in) f.1.0 ∙ each_again one_symbol_in f.0 s.symbols f.1.1.1 in cc
+    let clash : None ≡ Some s.symbols = ap (option_map items_of) (sym none) ∙ made ∙ ap (each_found symbol_in) f.1.0 ∙ each_again one_symbol_in f.0 s.symbols f.1.1.1 in cc
 
 many : (front : List Placed) (atoms : List (List ℕ)) → false ≡ (length front == 0) → tokens_of front ≡ map atom atoms → 0 < length atoms
 many [] atoms some e = absurd cc
 many (p ∷ front) [] some e = absurd cc
 many (p ∷ front) (a ∷ atoms) some e = omega arith
 
-pub set_made : (tokens : List Token) (name : List ℕ) (behind : List Token) (front : List Placed) (symbols : List Raw) → IsNamed tokens name behind → behind ≡ tokens_of front ++ operator Semicolon ∷ [] → false ≡ (length front == 0) → Some symbols ≡ each_found symbol_in (tokens_of front) → IsSet tokens (record { name = name; symbols = symbols })
-set_made tokens name behind front symbols named ended some is =
-    let f = each_takes one_symbol_in (tokens_of front) symbols (sym is) in
-    (behind, f.0, named, ended ∙ ap (λ ts. ts ++ operator Semicolon ∷ []) f.1.0, many front f.0 some f.1.0, f.1.1)
+pub set_made : (tokens : List Token) (name : List ℕ) (behind : List Token) (front : List Placed) (o : Option (Vec Raw Global)) (symbols : Vec Raw Global) (copy : List ℕ) → IsNamed tokens name behind → behind ≡ tokens_of front ++ operator Semicolon ∷ [] → false ≡ (length front == 0) → o ≡ Some symbols → option_map items_of o ≡ each_found symbol_in (tokens_of front) → copy ≡ name → IsSet tokens (record { name = copy; symbols = symbols.items })
+set_made tokens name behind front o symbols copy named ended some is made same =
+    let found : Some symbols.items ≡ each_found symbol_in (tokens_of front) = ap (option_map items_of) (sym is) ∙ made in
+    let f = each_takes one_symbol_in (tokens_of front) symbols.items (sym found) in
+    (behind, f.0, subst (λ n. IsNamed tokens n behind) (sym same) named, ended ∙ ap (λ ts. ts ++ operator Semicolon ∷ []) f.1.0, many front f.0 some f.1.0, f.1.1)
 
 -- Definitions.
 
@@ -98,8 +104,10 @@ module _ (names : Names) (tokens : List Token) where
       pub edged : true ≡ has_edge front → IsFound (IsDefinition names tokens) None
       edged has = λ d h. let same = front_same tokens name d.name behind front h.0 named ended h.1.0 in let clash : true ≡ false = has ∙ ap has_edge same ∙ h.1.1.1 in cc
 
-      pub strange : IsFound (IsExpression names front) None → IsFound (IsDefinition names tokens) None
-      strange none = λ d h. none d.term (subst (λ ts. IsExpression names ts d.term) (sym (front_same tokens name d.name behind front h.0 named ended h.1.0)) h.1.1.0)
+      pub strange : (o : Option (Expr (PairPart Raw))) → o ≡ None → IsFound (IsExpression names front) (option_map pair_term o) → IsFound (IsDefinition names tokens) None
+      strange o is found = let none : IsFound (IsExpression names front) None = subst (λ (x : Option (Expr (PairPart Raw))). IsFound (IsExpression names front) (option_map pair_term x)) is found in λ d h. none d.term (subst (λ ts. IsExpression names ts d.term) (sym (front_same tokens name d.name behind front h.0 named ended h.1.0)) h.1.1.0)
 
-      pub made : (t : Term (Part Raw)) → false ≡ has_edge front → IsExpression names front t → IsDefinition names tokens (record { name = name; term = t })
-      made t no_edge is = (front, subst (λ ts. IsNamed tokens name ts) ended named, is, sym no_edge)
+      pub made : (o : Option (Expr (PairPart Raw))) (e : Expr (PairPart Raw)) (copy : List ℕ) → false ≡ has_edge front → o ≡ Some e → IsFound (IsExpression names front) (option_map pair_term o) → copy ≡ name → IsDefinition names tokens (record { name = copy; term = pair_term e })
+      made o e copy no_edge is found same =
+          let said : IsExpression names front (pair_term e) = subst (λ (x : Option (Expr (PairPart Raw))). IsFound (IsExpression names front) (option_map pair_term x)) is found in
+          (front, subst (λ n. IsNamed tokens n (front ++ operator Semicolon ∷ [])) (sym same) (subst (λ ts. IsNamed tokens name ts) ended named), said, sym no_edge)

@@ -1,13 +1,13 @@
 use Rattle.std.proofs.Common.{[], map, sym, ap, ◌∙◌, refl, arith}
 use Rattle.std.specs.Option.{option_map}
 use Rattle.twolc_atoms.specs.Views.{pair_view}
-use Rattle.twolc_expressions.proofs.Made.{begin, more, failed, ended}
+use Rattle.twolc_expressions.proofs.Made.{begun, more, failed, ended}
 use Rattle.twolc_statements.specs.Reading.{pair_in}
 use Rattle.twolc_statements.proofs.Rows.{before, made, stands, none, all_viewed}
 use Rattle.twolc_statements.proofs.list.pairs_in.Goals as goal
 
 pub tokens-init : goal.tokens-init
-tokens-init c = begin (before pair_view) (made pair_in) c.args.tokens.now
+tokens-init c = begun (before pair_view) (made pair_in) c.args.tokens.now c.new-found.result.items c.new-found.ensures.items
 
 pub tokens-preserved : goal.tokens-preserved
 tokens-preserved c =

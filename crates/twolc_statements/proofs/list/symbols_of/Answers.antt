@@ -1,11 +1,11 @@
 use Rattle.std.proofs.Common.{[], sym, ◌∙◌, refl, arith}
-use Rattle.twolc_expressions.proofs.Made.{begin, more, failed, ended}
+use Rattle.twolc_expressions.proofs.Made.{begun, more, failed, ended}
 use Rattle.twolc_statements.specs.Reading.{symbol_in}
 use Rattle.twolc_statements.proofs.Rows.{before, itself, made, stands, none, all_plain}
 use Rattle.twolc_statements.proofs.list.symbols_of.Goals as goal
 
 pub tokens-init : goal.tokens-init
-tokens-init c = begin (before itself) (made symbol_in) c.args.tokens.now
+tokens-init c = begun (before itself) (made symbol_in) c.args.tokens.now c.new-found.result.items c.new-found.ensures.items
 
 pub tokens-preserved : goal.tokens-preserved
 tokens-preserved c =
