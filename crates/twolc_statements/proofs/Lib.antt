@@ -1,3 +1,4 @@
 pub mod Each
+pub mod Fronts
 pub mod Parts
 pub mod Rows

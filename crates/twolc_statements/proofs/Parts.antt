@@ -7,6 +7,7 @@ use Rattle.regex_ast.specs.declared.expr.Expr.{Expr}
 use Rattle.regex_ast.specs.declared.expr.Raw.{Raw}
 use Rattle.regex_ast.specs.declared.twolc.PairAtom.{PairAtom}
 use Rattle.regex_ast.specs.declared.twolc.PairPart.{PairPart}
+use Rattle.regex_reader.specs.Files.{is_name}
 use Rattle.project_meaning.specs.Trees.{Pair, Part, PairDefinition, Set}
 use Rattle.twolc_atoms.specs.Views.{pair_view}
 use Rattle.twolc_tokens.specs.declared.token.Operator.TheVariants.{Equals, Semicolon}
@@ -29,6 +30,27 @@ behind_same tokens n m a b h g = behind_name n m a b (sym h.0 ∙ g.0)
 
 front_same : (tokens : List Token) (n m : List ℕ) (behind front other : List Token) → IsNamed tokens n behind → behind ≡ front ++ operator Semicolon ∷ [] → IsNamed tokens m (other ++ operator Semicolon ∷ []) → front ≡ other
 front_same tokens n m behind front other named ended h = fronts_same front other (operator Semicolon) (sym ended ∙ behind_same tokens n m behind (other ++ operator Semicolon ∷ []) named h)
+
+-- Names.
+
+atom_same : (n m : List ℕ) (a b : List Token) → atom n ∷ a ≡ atom m ∷ b → n ≡ m
+atom_same n m a b e = let first : atom n ≡ atom m = cc in cc
+
+behind_atom : (n m : List ℕ) (a b : List Token) → atom n ∷ a ≡ atom m ∷ b → a ≡ b
+behind_atom n m a b e = cc
+
+pub name_no_atom : (tokens : List Token) → IsAtomSplit tokens None → IsNameSplit tokens None
+name_no_atom tokens none = λ name behind h. none name (operator Equals ∷ behind) h.0
+
+module _ (tokens : List Token) (n : List ℕ) (rest : List Token) (first : tokens ≡ atom n ∷ rest) where
+  pub name_no_equals : IsEqualsSplit rest None → IsNameSplit tokens None
+  name_no_equals none = λ name behind h. none behind (behind_atom n name rest (operator Equals ∷ behind) (sym first ∙ h.0))
+
+  pub name_other : is_name n ≡ false → IsNameSplit tokens None
+  name_other no_name = λ name behind h. let clash : false ≡ true = sym no_name ∙ (ap is_name (atom_same n name rest (operator Equals ∷ behind) (sym first ∙ h.0)) ∙ h.1) in cc
+
+  pub name_there : (behind : List Token) → rest ≡ operator Equals ∷ behind → is_name n ≡ true → IsNameSplit tokens (Some (n, behind))
+  name_there behind second fine = (first ∙ ap (λ ts. atom n ∷ ts) second, fine)
 
 -- The alphabet.
 

@@ -1,5 +1,5 @@
 -- Words for what the functions of this crate compute on their way to a statement.
-use Rattle.std.specs.Prelude.{◌≡◌, ℕ, true, List, [], ◌∷◌, ◌++◌, Option, None, Some}
+use Rattle.std.specs.Prelude.{◌≡◌, ℕ, Bool, true, false, List, [], ◌∷◌, ◌++◌, Option, None, Some}
 use Rattle.std.specs.Option.{option_map, option_and_then}
 use Rattle.regex_ast.specs.declared.expr.Raw.{Raw}
 use Rattle.regex_ast.specs.declared.twolc.PairDefine.{PairDefine}
@@ -44,6 +44,10 @@ IsEndSplit tokens (Some front) = tokens ≡ front ++ operator Semicolon ∷ []
 abbrev pub IsAtomSplit : List Token → Option (List ℕ × List Token) → Type 0
 IsAtomSplit tokens None = (text : List ℕ) (rest : List Token) → tokens ≡ atom text ∷ rest → ⊥
 IsAtomSplit tokens (Some x) = tokens ≡ atom x.0 ∷ x.1
+
+abbrev pub is_equals : Token → Bool
+is_equals (operator Equals) = true
+is_equals _ = false
 
 -- a `=` is in front of these, or none
 abbrev pub IsEqualsSplit : List Token → Option (List Token) → Type 0

@@ -1,7 +1,7 @@
 ghost use Rattle.std.specs.Prelude.{◌≡◌};
 ghost use Rattle.std.specs.Option.{option_map};
-ghost use Rattle.twolc_grammar.specs.Sections.{tokens_of};
-ghost use Rattle.twolc_statements.specs.Reading.{IsAtomSplit, IsEndSplit, IsEqualsSplit, IsNameSplit};
+ghost use Rattle.twolc_grammar.specs.Sections.{is_semicolon, tokens_of};
+ghost use Rattle.twolc_statements.specs.Reading.{IsAtomSplit, IsEndSplit, IsEqualsSplit, IsNameSplit, is_equals};
 
 use crate::name::is_name;
 use fsm_base::Text;
@@ -14,10 +14,16 @@ pub fn split_end(tokens: &[Placed]) -> Option<&[Placed]>
     let Some((last, front)) = tokens.split_last() else {
         return None;
     };
-    match &last.token {
-        Token::Operator(Operator::Semicolon) => Some(front),
-        _ => None,
+    if !is_semicolon(&last.token) {
+        return None;
     }
+    Some(front)
+}
+
+fn is_semicolon(token: &Token) -> bool
+    ensures { result ≡ is_semicolon token.now }
+{
+    matches!(token, Token::Operator(Operator::Semicolon))
 }
 
 /// The name before a `=` in front, and the tokens behind it.
@@ -52,8 +58,14 @@ fn split_equals(tokens: &[Placed]) -> Option<&[Placed]>
     let Some((first, rest)) = tokens.split_first() else {
         return None;
     };
-    match &first.token {
-        Token::Operator(Operator::Equals) => Some(rest),
-        _ => None,
+    if !is_equals(&first.token) {
+        return None;
     }
+    Some(rest)
+}
+
+fn is_equals(token: &Token) -> bool
+    ensures { result ≡ is_equals token.now }
+{
+    matches!(token, Token::Operator(Operator::Equals))
 }
