@@ -53,8 +53,8 @@ ended_so tokens front e = ap (list_any is_semicolon) e ∙ semicolon_there front
 -- every statement but a rule has one
 has_semicolon : (names : Names) (section : Section) (tokens : List Token) (s : Statement) → section ≢ in_rules → IsStatement names section tokens s → list_any is_semicolon tokens ≡ true
 has_semicolon names in_alphabet tokens (alphabet pairs) no_rule (atoms, list, said) = ended_so tokens (map atom atoms) list
-has_semicolon names in_sets tokens (set s) no_rule (list, atoms, named, listed, more) = ap (list_any is_semicolon) named.0 ∙ ended_so list (map atom atoms) listed
-has_semicolon names in_definitions tokens (definition d) no_rule (expression, named, more) = ap (list_any is_semicolon) named.0 ∙ semicolon_there expression
+has_semicolon names in_sets tokens (set s) no_rule h = ap (list_any is_semicolon) h.2.0 ∙ ended_so h.0 (map atom h.1) h.3
+has_semicolon names in_definitions tokens (definition d) no_rule h = ap (list_any is_semicolon) h.1.0 ∙ semicolon_there h.0
 has_semicolon names in_rules tokens s no_rule h = absurd (no_rule refl)
 has_semicolon names section tokens s no_rule h = absurd h
 

@@ -49,15 +49,15 @@ some_same x y e = cc
 
 module _ (names : Names) (tokens : List Token) where
   pub no_name : IsQuotedSplit tokens None → IsFound (IsRule names tokens) None
-  no_name none = λ r (c, o, rest, e, more). none r.name (atom c ∷ operator o ∷ rest) e
+  no_name none = λ r h. none r.name (atom h.0 ∷ operator h.1 ∷ h.2) h.3
 
   module _ (name : List ℕ) (behind : List Token) (named : IsQuotedSplit tokens (Some (name, behind))) where
     pub no_centre : IsAtomSplit behind None → IsFound (IsRule names tokens) None
-    no_centre none = λ r (c, o, rest, e, more). none c (operator o ∷ rest) (behind_name name behind r.name c o rest (sym named ∙ e))
+    no_centre none = λ r h. none h.0 (operator h.1 ∷ h.2) (behind_name name behind r.name h.0 h.1 h.2 (sym named ∙ h.3))
 
     module _ (centre : List ℕ) (last : List Token) (centred : IsAtomSplit behind (Some (centre, last))) where
       pub no_arrow : IsOperatorSplit last None → IsFound (IsRule names tokens) None
-      no_arrow none = λ r (c, o, rest, e, more). none o rest (behind_centre centre last c o rest (sym centred ∙ behind_name name behind r.name c o rest (sym named ∙ e)))
+      no_arrow none = λ r h. none h.1 h.2 (behind_centre centre last h.0 h.1 h.2 (sym centred ∙ behind_name name behind r.name h.0 h.1 h.2 (sym named ∙ h.3)))
 
       module _ (arrow : Operator) (rest : List Token) (led : IsOperatorSplit last (Some (arrow, rest))) where
         centre_is : (n c : List ℕ) (o : Operator) (other : List Token) → tokens ≡ head n c o other → centre ≡ c
@@ -67,25 +67,25 @@ module _ (names : Names) (tokens : List Token) where
         last_is n c o other e = sym led ∙ behind_centre centre last c o other (sym centred ∙ behind_name name behind n c o other (sym named ∙ e))
 
         pub strange_arrow : None ≡ kind_of arrow → IsFound (IsRule names tokens) None
-        strange_arrow none = λ r (c, o, other, e, centred_is, kind, more). let clash : None ≡ Some r.kind = none ∙ ap kind_of (arrow_same arrow o rest other (last_is r.name c o other e)) ∙ kind in cc
+        strange_arrow none = λ r h. let clash : None ≡ Some r.kind = none ∙ ap kind_of (arrow_same arrow h.1 rest h.2 (last_is r.name h.0 h.1 h.2 h.3)) ∙ h.5 in cc
 
         pub strange_centre : (p : Option (PairAtom Raw)) → p ≡ None → option_map pair_view p ≡ centre_in names centre → IsFound (IsRule names tokens) None
-        strange_centre p none found = λ r (c, o, other, e, centred_is, more). let clash : None ≡ Some r.centre = ap (option_map pair_view) (sym none) ∙ found ∙ ap (centre_in names) (centre_is r.name c o other e) ∙ centred_is in cc
+        strange_centre p none found = λ r h. let clash : None ≡ Some r.centre = ap (option_map pair_view) (sym none) ∙ found ∙ ap (centre_in names) (centre_is r.name h.0 h.1 h.2 h.3) ∙ h.4 in cc
 
         pub strange_contexts : (o : Option (Vec (Context (PairPart Raw)) Global)) → o ≡ None → IsFound (AreContexts names rest) (option_map views_in o) → IsFound (IsRule names tokens) None
-        strange_contexts o is found = let none : IsFound (AreContexts names rest) None = subst (λ (x : Option (Vec (Context (PairPart Raw)) Global)). IsFound (AreContexts names rest) (option_map views_in x)) is found in λ r (c, o, other, e, centred_is, kind, are, some). none r.contexts (subst (λ ts. AreContexts names ts r.contexts) (sym (rest_same arrow o rest other (last_is r.name c o other e))) are)
+        strange_contexts o is found = let none : IsFound (AreContexts names rest) None = subst (λ (x : Option (Vec (Context (PairPart Raw)) Global)). IsFound (AreContexts names rest) (option_map views_in x)) is found in λ r h. none r.contexts (subst (λ ts. AreContexts names ts r.contexts) (sym (rest_same arrow h.1 rest h.2 (last_is r.name h.0 h.1 h.2 h.3))) h.6)
 
         no_others : (cs : Contexts (Part Raw)) → rest ≡ [] → AreContexts names rest cs → cs ≡ no_context
         no_others no_context none h = refl
-        no_others (between l r cs) none (left, right, more, e, others) = absurd (not_empty left (right ++ (operator Semicolon ∷ more)) (operator Underscore) (sym none ∙ e))
+        no_others (between l r cs) none h = absurd (not_empty h.0 (h.1 ++ (operator Semicolon ∷ h.2)) (operator Underscore) (sym none ∙ h.3))
           where
             not_empty : (xs ys : List Token) (y : Token) → [] ≡ xs ++ (y ∷ ys) → ⊥
             not_empty [] ys y e = cc
             not_empty (x ∷ xs) ys y e = cc
 
         pub no_contexts : rest ≡ [] → IsFound (IsRule names tokens) None
-        no_contexts none = λ r (c, o, other, e, centred_is, kind, are, some).
-          some (no_others r.contexts none (subst (λ ts. AreContexts names ts r.contexts) (sym (rest_same arrow o rest other (last_is r.name c o other e))) are))
+        no_contexts none = λ r h.
+          h.7 (no_others r.contexts none (subst (λ ts. AreContexts names ts r.contexts) (sym (rest_same arrow h.1 rest h.2 (last_is r.name h.0 h.1 h.2 h.3))) h.6))
 
         empties : (cs : Contexts (Part Raw)) → cs ≡ no_context → AreContexts names rest cs → rest ≡ []
         empties cs e h = subst (λ ds. AreContexts names rest ds) e h

@@ -101,8 +101,8 @@ module _ (names : Names) (rest left behind : List Token) (split : IsSplit behind
 pub no_underscore : (names : Names) (rest : List Placed) → false ≡ (length rest == 0) → IsSplit behind_left (tokens_of rest) None → (cs : Contexts (Part Raw)) → AreContexts names (tokens_of rest) cs → ⊥
 no_underscore names [] some none cs h = cc
 no_underscore names (p ∷ rest) some none no_context h = cc
-no_underscore names (p ∷ rest) some none (between l r cs) (left, right, more, e, others) =
-    has_sign behind_left left (right ++ (operator Semicolon ∷ more)) (subst (λ ts. list_all (is_inner behind_left) ts ≡ true) e none)
+no_underscore names (p ∷ rest) some none (between l r cs) h =
+    has_sign behind_left h.0 (h.1 ++ (operator Semicolon ∷ h.2)) (subst (λ ts. list_all (is_inner behind_left) ts ≡ true) h.3 none)
 
 -- where what is left is none, all is none
 pub failed : (names : Names) (tokens rest : List Token) (found : List (Context (PairPart Raw))) → ((cs : Contexts (Part Raw)) → AreContexts names rest cs → ⊥) → SoFar names tokens rest found → IsFound (AreContexts names tokens) None

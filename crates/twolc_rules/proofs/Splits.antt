@@ -90,7 +90,7 @@ all_inner s mark (t ∷ ts) xs e = by (as_token mark t) refl (as_xfst (is_caret 
 
 pub part_inner : (s : Separator) (names : Names) (tokens : List Token) (t : Term (Part Raw)) → IsPart names tokens t → list_all (is_inner s) tokens ≡ true
 part_inner s names [] t h = refl
-part_inner s names (x ∷ tokens) t (xs, ex, more) = all_inner s false (x ∷ tokens) xs ex
+part_inner s names (x ∷ tokens) t h = all_inner s false (x ∷ tokens) h.0 h.1
 
 -- where tokens have one, not all are others
 pub has_sign : (s : Separator) (front behind : List Token) → list_all (is_inner s) (front ++ sign s ∷ behind) ≡ true → ⊥

@@ -69,7 +69,7 @@ listed_front of tokens front xs split (atoms, list, said) = (atoms, fronts_same 
 pub list_found : {B : Type 0} (of : List ℕ → Option B) (tokens front : List Token) (o : Option (List B)) → tokens ≡ front ++ operator Semicolon ∷ [] → o ≡ each_found (of_atom of) front → IsFound (Listed of tokens) o
 list_found of tokens front None split e = λ xs h. none_again of front xs e (listed_front of tokens front xs split h)
 list_found of tokens front (Some xs) split e =
-    let found = each_takes of front xs (sym e) in (found.0, split ∙ ap (λ f. f ++ operator Semicolon ∷ []) found.1.0, found.1.1)
+    let found = each_takes of front xs (sym e) in (found.0, split ∙ ap (λ f. f ++ operator Semicolon ∷ []) found.1, found.2)
 
 pub list_none : {B : Type 0} (of : List ℕ → Option B) (tokens : List Token) → ((front : List Token) → tokens ≡ front ++ operator Semicolon ∷ [] → ⊥) → IsFound (Listed of tokens) None
-list_none of tokens none = λ xs h. none (map atom h.0) h.1.0
+list_none of tokens none = λ xs h. none (map atom h.0) h.1

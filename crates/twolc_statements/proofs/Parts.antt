@@ -77,7 +77,7 @@ set_fronts tokens name behind front s named ended (list, atoms, is, listed, some
     (atoms, front_same tokens name s.name behind front (map atom atoms) named ended (subst (λ ts. IsNamed tokens s.name ts) listed is), some, said)
 
 pub set_unnamed : (tokens : List Token) → IsNameSplit tokens None → IsFound (IsSet tokens) None
-set_unnamed tokens none = λ s h. none s.name h.0 h.1.1.0
+set_unnamed tokens none = λ s h. none s.name h.0 h.2
 
 pub set_unended : (tokens : List Token) (name : List ℕ) (behind : List Token) → IsNamed tokens name behind → IsEndSplit behind None → IsFound (IsSet tokens) None
 set_unended tokens name behind named none = λ s (list, atoms, is, listed, some, said). none (map atom atoms) (behind_same tokens name s.name behind list named is ∙ listed)
@@ -87,7 +87,7 @@ none_many [] e some = omega (arith, some)
 none_many (a ∷ atoms) e some = cc
 
 pub set_empty : (tokens : List Token) (name : List ℕ) (behind : List Token) (front : List Placed) → IsNamed tokens name behind → behind ≡ tokens_of front ++ operator Semicolon ∷ [] → true ≡ (length front == 0) → IsFound (IsSet tokens) None
-set_empty tokens name behind [] named ended none = λ s h. let f = set_fronts tokens name behind [] s named ended h in none_many f.0 f.1.0 f.1.1.0
+set_empty tokens name behind [] named ended none = λ s h. let f = set_fronts tokens name behind [] s named ended h in none_many f.0 f.1 f.2
 set_empty tokens name behind (p ∷ front) named ended none = absurd cc
 
 abbrev items_of : Vec Raw Global → List Raw
@@ -96,7 +96,7 @@ items_of v = v.items
 pub set_strange : (tokens : List Token) (name : List ℕ) (behind front : List Token) (o : Option (Vec Raw Global)) → IsNamed tokens name behind → behind ≡ front ++ operator Semicolon ∷ [] → o ≡ None → option_map items_of o ≡ each_found symbol_in front → IsFound (IsSet tokens) None
 set_strange tokens name behind front o named ended none made = λ s h.
     let f = set_fronts tokens name behind front s named ended h in
-    let clash : None ≡ Some s.symbols = ap (option_map items_of) (sym none) ∙ made ∙ ap (each_found symbol_in) f.1.0 ∙ each_again one_symbol_in f.0 s.symbols f.1.1.1 in cc
+    let clash : None ≡ Some s.symbols = ap (option_map items_of) (sym none) ∙ made ∙ ap (each_found symbol_in) f.1 ∙ each_again one_symbol_in f.0 s.symbols f.3 in cc
 
 many : (front : List Placed) (atoms : List (List ℕ)) → false ≡ (length front == 0) → tokens_of front ≡ map atom atoms → 0 < length atoms
 many [] atoms some e = absurd cc
@@ -107,7 +107,7 @@ pub set_made : (tokens : List Token) (name : List ℕ) (behind : List Token) (fr
 set_made tokens name behind front o symbols copy named ended some is made same =
     let found : Some symbols.items ≡ each_found symbol_in (tokens_of front) = ap (option_map items_of) (sym is) ∙ made in
     let f = each_takes one_symbol_in (tokens_of front) symbols.items (sym found) in
-    (behind, f.0, subst (λ n. IsNamed tokens n behind) (sym same) named, ended ∙ ap (λ ts. ts ++ operator Semicolon ∷ []) f.1.0, many front f.0 some f.1.0, f.1.1)
+    (behind, f.0, subst (λ n. IsNamed tokens n behind) (sym same) named, ended ∙ ap (λ ts. ts ++ operator Semicolon ∷ []) f.1, many front f.0 some f.1, f.2)
 
 -- Definitions.
 
@@ -116,18 +116,18 @@ IsDefinition names tokens d = IsStatement names in_definitions tokens (definitio
 
 module _ (names : Names) (tokens : List Token) where
   pub unnamed : IsNameSplit tokens None → IsFound (IsDefinition names tokens) None
-  unnamed none = λ d h. none d.name (h.0 ++ operator Semicolon ∷ []) h.1.0
+  unnamed none = λ d h. none d.name (h.0 ++ operator Semicolon ∷ []) h.1
 
   module _ (name : List ℕ) (behind : List Token) (named : IsNamed tokens name behind) where
     pub unended : IsEndSplit behind None → IsFound (IsDefinition names tokens) None
-    unended none = λ d h. none h.0 (behind_same tokens name d.name behind (h.0 ++ operator Semicolon ∷ []) named h.1.0)
+    unended none = λ d h. none h.0 (behind_same tokens name d.name behind (h.0 ++ operator Semicolon ∷ []) named h.1)
 
     module _ (front : List Token) (ended : behind ≡ front ++ operator Semicolon ∷ []) where
       pub edged : true ≡ has_edge front → IsFound (IsDefinition names tokens) None
-      edged has = λ d h. let same = front_same tokens name d.name behind front h.0 named ended h.1.0 in let clash : true ≡ false = has ∙ ap has_edge same ∙ h.1.1.1 in cc
+      edged has = λ d h. let same = front_same tokens name d.name behind front h.0 named ended h.1 in let clash : true ≡ false = has ∙ ap has_edge same ∙ h.3 in cc
 
       pub strange : (o : Option (Expr (PairPart Raw))) → o ≡ None → IsFound (IsExpression names front) (option_map pair_term o) → IsFound (IsDefinition names tokens) None
-      strange o is found = let none : IsFound (IsExpression names front) None = subst (λ (x : Option (Expr (PairPart Raw))). IsFound (IsExpression names front) (option_map pair_term x)) is found in λ d h. none d.term (subst (λ ts. IsExpression names ts d.term) (sym (front_same tokens name d.name behind front h.0 named ended h.1.0)) h.1.1.0)
+      strange o is found = let none : IsFound (IsExpression names front) None = subst (λ (x : Option (Expr (PairPart Raw))). IsFound (IsExpression names front) (option_map pair_term x)) is found in λ d h. none d.term (subst (λ ts. IsExpression names ts d.term) (sym (front_same tokens name d.name behind front h.0 named ended h.1)) h.2)
 
       pub made : (o : Option (Expr (PairPart Raw))) (e : Expr (PairPart Raw)) (copy : List ℕ) → false ≡ has_edge front → o ≡ Some e → IsFound (IsExpression names front) (option_map pair_term o) → copy ≡ name → IsDefinition names tokens (record { name = copy; term = pair_term e })
       made o e copy no_edge is found same =
