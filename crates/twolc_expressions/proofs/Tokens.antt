@@ -27,7 +27,7 @@ pub more : (tokens : List Placed) (i : ℕ) (mark next : Bool) (p : Placed) (fou
 more tokens i mark next p found new x below is new_is made caret so_far =
     let rest : Option (List XfstToken) = as_xfst (is_caret p.token) (tokens_of (drop (i + 1) tokens)) in
     let here : as_xfst mark (tokens_of (drop i tokens)) ≡ option_map (λ xs. x ∷ xs) rest =
-        ap (λ ps. as_xfst mark (tokens_of ps)) (left_behind tokens i p below is) ∙ ap (option_and_then (λ y. option_map (λ xs. y ∷ xs) rest)) (sym made) in
+    ap (λ ps. as_xfst mark (tokens_of ps)) (left_behind tokens i p below is) ∙ ap (option_and_then (λ y. option_map (λ xs. y ∷ xs) rest)) (sym made) in
     ap (λ b. option_map (λ xs. new ++ xs) (as_xfst b (tokens_of (drop (i + 1) tokens)))) caret ∙ step found new x rest new_is ∙ ap (option_map (λ xs. found ++ xs)) (sym here) ∙ so_far
 
 pub failed : (tokens : List Placed) (i : ℕ) (mark : Bool) (p : Placed) (found : List XfstToken) → i < length tokens → p ≡ get_or tokens i p → None ≡ as_token mark p.token → SoFar tokens i mark found → None ≡ as_xfst false (tokens_of tokens)

@@ -83,7 +83,7 @@ module _ (section : Section) (g : Grammar Raw) (tokens : List Placed) (p : Place
   pub open_there : (ending : Ending) → section ≢ in_rules → list_any is_semicolon (tokens_of tokens) ≡ false → SaysError (at (within section) g tokens ending) (open_fault p.line (tokens_of tokens) ending)
   open_there (NoToken line) no_rule none = no_token_there line (is_open_there section p more no_rule (sym (ap (λ ts. list_any is_semicolon (tokens_of ts)) is) ∙ none))
   open_there Whole no_rule none = subst (λ ts. Says (at (within section) g ts Whole) (fault_at p.line (cond (is_too_deep 0 (tokens_of ts)) why.LimitNesting why.Statement))) (sym is)
-    (unended section g p more (cond (is_too_deep 0 (tokens_of (p ∷ more))) why.LimitNesting why.Statement) no_rule not_led may (is_open_there section p more no_rule here) (open_verdict (names_of g) section (tokens_of (p ∷ more)) (is_too_deep 0 (tokens_of (p ∷ more))) no_rule here refl))
+      (unended section g p more (cond (is_too_deep 0 (tokens_of (p ∷ more))) why.LimitNesting why.Statement) no_rule not_led may (is_open_there section p more no_rule here) (open_verdict (names_of g) section (tokens_of (p ∷ more)) (is_too_deep 0 (tokens_of (p ∷ more))) no_rule here refl))
     where
       here : list_any is_semicolon (tokens_of (p ∷ more)) ≡ false
       here = sym (ap (λ ts. list_any is_semicolon (tokens_of ts)) is) ∙ none
@@ -129,10 +129,10 @@ module _ (section : Section) (g : Grammar Raw) (tokens : List Placed) (p : Place
 
   pub read_on : (s : Statement) → broken_at section rest ending ≡ None → Verdict (names_of g) section (tokens_of one) (Ok s) → LeadsTo (at (within section) g tokens ending) (at (stage_behind section) (with_statement g s) rest ending)
   read_on s ends verdict = λ answer says.
-    subst (λ ts. Says (at (within section) g ts ending) answer) tokens_are
+      subst (λ ts. Says (at (within section) g ts ending) answer) tokens_are
       (read section g p begins.0 rest ending s answer not_led may whole_is (ends_here section rest ending ends) (subst (λ xs. Verdict (names_of g) section (tokens_of xs) (Ok s)) begins.1 verdict) says)
 
   pub refused_there : (reason : Why) → broken_at section rest ending ≡ None → Verdict (names_of g) section (tokens_of one) (Err reason) → Says (at (within section) g tokens ending) (fault_at p.line reason)
   refused_there reason ends verdict =
-    subst (λ ts. Says (at (within section) g ts ending) (fault_at p.line reason)) tokens_are
+      subst (λ ts. Says (at (within section) g ts ending) (fault_at p.line reason)) tokens_are
       (refused section g p begins.0 rest ending reason not_led may whole_is (ends_here section rest ending ends) (subst (λ xs. Verdict (names_of g) section (tokens_of xs) (Err reason)) begins.1 verdict))

@@ -48,9 +48,7 @@ fn place_of_quoted(tokens: &[Placed]) -> Option<usize>
     ensures first { result ≡ position (λ p. is_quoted p.token) tokens.now }
     ensures within { IfSome result (λ place. place < 2 ^ 64 - 1) }
 {
-    tokens
-        .iter()
-        .position(|placed| is_quoted(&placed.token))
+    tokens.iter().position(|placed| is_quoted(&placed.token))
 }
 
 /// The place of the first `;`, counted from 0.
@@ -58,9 +56,7 @@ fn place_of_semicolon(tokens: &[Placed]) -> Option<usize>
     ensures first { result ≡ position (λ p. is_semicolon p.token) tokens.now }
     ensures within { IfSome result (λ place. place < 2 ^ 64 - 1) }
 {
-    tokens
-        .iter()
-        .position(|placed| is_semicolon(&placed.token))
+    tokens.iter().position(|placed| is_semicolon(&placed.token))
 }
 
 fn is_semicolon(token: &Token) -> bool

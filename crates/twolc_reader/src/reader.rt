@@ -40,11 +40,7 @@ pub fn read_twolc(alloc: Global, text: &str) -> Result<Grammar<Raw>, ReadError>
 }
 
 /// The grammar that tokens say which end so, or the first fault.
-fn grammar_of(
-    alloc: Global,
-    tokens: &[Placed],
-    ending: Ending,
-) -> Result<Grammar<Raw>, ReadError>
+fn grammar_of(alloc: Global, tokens: &[Placed], ending: Ending) -> Result<Grammar<Raw>, ReadError>
     ensures { IsAnswer (Says (nothing_read tokens.now ending)) result }
 {
     let mut grammar = Grammar {
@@ -68,14 +64,14 @@ fn grammar_of(
 }
 
 /// The stage behind the head word or the statement in front, and what is left.
-fn step(
+fn step<'a>(
     alloc: Global,
     stage: Stage,
-    tokens: &[Placed],
+    tokens: &'a [Placed],
     ending: Ending,
     grammar: &mut Grammar<Raw>,
     names: &mut KnownNames,
-) -> Result<(Stage, &[Placed]), ReadError>
+) -> Result<(Stage, &'a [Placed]), ReadError>
     requires some { tokens.now ≢ [] }
     requires known { names.old ≡ names_of (grammar_view grammar.old) }
     ensures { IsStep stage tokens.now ending grammar.old grammar.new names.new (result_map_both (λ x. (x.0, x.1.now)) (λ e. e) result) }

@@ -61,9 +61,7 @@ fn led_by(stage: Stage, word: &str) -> Option<Section>
         Stage::Listed | Stage::Within(Section::Sets) if word == "Definitions" => {
             Some(Section::Definitions)
         }
-        Stage::Listed | Stage::Within(Section::Sets | Section::Definitions)
-            if word == "Rules" =>
-        {
+        Stage::Listed | Stage::Within(Section::Sets | Section::Definitions) if word == "Rules" => {
             Some(Section::Rules)
         }
         _ => None,

@@ -16,4 +16,3 @@ other_first ps p more t rest is other e = other (first_same p.token t (tokens_of
 
 pub first_is : (ps : List Placed) (p : Placed) (more : List Placed) (t : Token) → ps ≡ p ∷ more → p.token ≡ t → tokens_of ps ≡ t ∷ tokens_of more
 first_is ps p more t is same = ap tokens_of is ∙ ap (λ x. x ∷ tokens_of more) same
-

@@ -85,7 +85,7 @@ module _ (names : Names) (tokens : List Token) where
 
         pub no_contexts : rest ≡ [] → IsFound (IsRule names tokens) None
         no_contexts none = λ r h.
-          h.7 (no_others r.contexts none (subst (λ ts. AreContexts names ts r.contexts) (sym (rest_same arrow h.1 rest h.2 (last_is r.name h.0 h.1 h.2 h.3))) h.6))
+            h.7 (no_others r.contexts none (subst (λ ts. AreContexts names ts r.contexts) (sym (rest_same arrow h.1 rest h.2 (last_is r.name h.0 h.1 h.2 h.3))) h.6))
 
         empties : (cs : Contexts (Part Raw)) → cs ≡ no_context → AreContexts names rest cs → rest ≡ []
         empties cs e h = subst (λ ds. AreContexts names rest ds) e h

@@ -93,7 +93,7 @@ module _ (names : Names) (rest left behind : List Token) (split : IsSplit behind
     pub go_on : (tokens : List Token) (found new : List (Context (PairPart Raw))) (c : Context (PairPart Raw)) → IsPart names left (pair_term c.left) → IsPart names right (pair_term c.right) → new ≡ found ++ c ∷ [] → SoFar names tokens rest found → SoFar names tokens more new
     go_on tokens found new c l r new_is so_far = record {
       forth = λ cs h. subst (λ whole. AreContexts names tokens whole) (sym (ap (λ ys. onto context_before ys cs) new_is ∙ onto-append context_before found c cs))
-        (so_far.forth (context_before c cs) (left, right, more, split.1 ∙ ap (λ ts. left ++ (operator Underscore ∷ ts)) ended.1, l, r, h));
+          (so_far.forth (context_before c cs) (left, right, more, split.1 ∙ ap (λ ts. left ++ (operator Underscore ∷ ts)) ended.1, l, r, h));
       back = λ cs h. let b = so_far.back cs h in others_left b.0 b.1;
     }
 

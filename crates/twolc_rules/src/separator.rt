@@ -16,10 +16,7 @@ pub enum Separator {
 }
 
 /// The tokens before and behind the first such separator.
-pub fn split_at_separator(
-    tokens: &[Placed],
-    separator: Separator,
-) -> Option<(&[Placed], &[Placed])>
+pub fn split_at_separator(tokens: &[Placed], separator: Separator) -> Option<(&[Placed], &[Placed])>
     ensures { IsSplit separator (tokens_of tokens.now) (option_map (λ x. (tokens_of x.0.now, tokens_of x.1.now)) result) }
 {
     let Some(place) = place_of(tokens, separator) else {

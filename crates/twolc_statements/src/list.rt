@@ -48,10 +48,7 @@ pub fn set_in(alloc: Global, tokens: &[Placed]) -> Result<Option<SetOf<Raw>>, Al
 }
 
 /// The pairs that these tokens are, each an atom of the alphabet.
-fn pairs_in(
-    alloc: Global,
-    tokens: &[Placed],
-) -> Result<Option<Vec<PairAtom<Raw>>>, AllocError>
+fn pairs_in(alloc: Global, tokens: &[Placed]) -> Result<Option<Vec<PairAtom<Raw>>>, AllocError>
     ensures { IfOk result (λ found. option_map (λ ps. map pair_view ps.items) found ≡ each_found pair_in (tokens_of tokens.now)) }
 {
     let mut found = Vec::new(alloc);

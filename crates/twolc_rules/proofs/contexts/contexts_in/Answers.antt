@@ -20,13 +20,13 @@ pub returns-in_default-3 : goal.returns-in_default-3
 returns-in_default-3 c =
     failed c.args.names.now (tokens_of c.args.tokens.now) (tokens_of c.contexts.rest.now) c.contexts.found.items
     (no_left c.args.names.now (tokens_of c.contexts.rest.now) (tokens_of c.in-Some.left.now) (tokens_of c.in-Some.behind.now) c.in-Some.ensures
-      (part_missing c.args.names.now (tokens_of c.in-Some.left.now) c.in_ok-left.field-0 c.in_default-3.is c.in_ok-left.ensures)) c.contexts.invariant
+    (part_missing c.args.names.now (tokens_of c.in-Some.left.now) c.in_ok-left.field-0 c.in_default-3.is c.in_ok-left.ensures)) c.contexts.invariant
 
 pub returns-in_default-4 : goal.returns-in_default-4
 returns-in_default-4 c =
     failed c.args.names.now (tokens_of c.args.tokens.now) (tokens_of c.contexts.rest.now) c.contexts.found.items
     (no_right c.args.names.now (tokens_of c.contexts.rest.now) (tokens_of c.in-Some.left.now) (tokens_of c.in-Some.behind.now) c.in-Some.ensures (tokens_of c.in-Some-2.right.now) (tokens_of c.in-Some-2.more.now) c.in-Some-2.ensures
-      (part_missing c.args.names.now (tokens_of c.in-Some-2.right.now) c.in_ok-right.field-0 c.in_default-4.is c.in_ok-right.ensures)) c.contexts.invariant
+    (part_missing c.args.names.now (tokens_of c.in-Some-2.right.now) c.in_ok-right.field-0 c.in_default-4.is c.in_ok-right.ensures)) c.contexts.invariant
 
 pub contexts-preserved : goal.contexts-preserved
 contexts-preserved c =
