@@ -6,7 +6,7 @@ ghost use Rattle.twolc_reader.specs.Reading.{IsAnswer, IsRead, IsStep, broken_at
 
 use crate::one::split_one;
 use crate::stage::{Section, Stage, begun, leads};
-use crate::statement::{put, statement};
+use crate::statement::{put, verdict};
 use regex_ast::{Grammar, Raw, ReadError, Why};
 use regex_tokens::Ending;
 use std::alloc::Global;
@@ -97,7 +97,7 @@ fn step<'a>(
             why: Why::Token,
         });
     }
-    let found = statement(alloc, names, section, first.line, one)?;
+    let found = verdict(alloc, names, section, first.line, one)?;
     put(found, grammar, names)?;
     Ok((section.behind_statement(), behind))
 }

@@ -36,7 +36,7 @@ pub enum Statement {
 ///
 /// `Fault` at this line, of these the first one that it has: `LimitNesting`, `Statement`, `LimitPower`, `LimitRule`,
 /// `Duplicate`. `Memory` where there was no memory.
-pub fn statement(
+pub fn verdict(
     alloc: Global,
     names: &KnownNames,
     section: Section,
