@@ -8,5 +8,5 @@ returns-in_default c = λ o rest. none_first c.args.tokens.now (operator o) rest
 pub returns-in-Operator : goal.returns-in-Operator
 returns-in-Operator c = first_is c.args.tokens.now c.in-Some.first.now c.in-Some.rest.now (operator c.in-Operator.operator) c.in-Some.ensures.cases.0 c.in-Operator.is
 
-pub returns-in_default-2 : goal.returns-in_default-2
-returns-in_default-2 c = λ o rest. other_first c.args.tokens.now c.in-Some.first.now c.in-Some.rest.now (operator o) rest c.in-Some.ensures.cases.0 (c.in_default-2.not-Operator o)
+pub returns-in_default-token : goal.returns-in_default-token
+returns-in_default-token c = λ o rest. other_first c.args.tokens.now c.in-Some.first.now c.in-Some.rest.now (operator o) rest c.in-Some.ensures.cases.0 (c.in_default-token.not-Operator o)

@@ -8,5 +8,5 @@ returns-in_default c = λ text rest. none_first c.args.tokens.now (quoted text) 
 pub returns-in-Quoted : goal.returns-in-Quoted
 returns-in-Quoted c = first_is c.args.tokens.now c.in-Some.first.now c.in-Some.rest.now (quoted c.in-Quoted.name) c.in-Some.ensures.cases.0 c.in-Quoted.is
 
-pub returns-in_default-2 : goal.returns-in_default-2
-returns-in_default-2 c = λ text rest. other_first c.args.tokens.now c.in-Some.first.now c.in-Some.rest.now (quoted text) rest c.in-Some.ensures.cases.0 (c.in_default-2.not-Quoted text)
+pub returns-in_default-token : goal.returns-in_default-token
+returns-in_default-token c = λ text rest. other_first c.args.tokens.now c.in-Some.first.now c.in-Some.rest.now (quoted text) rest c.in-Some.ensures.cases.0 (c.in_default-token.not-Quoted text)

@@ -8,5 +8,5 @@ returns-in_default c = λ text rest. none_first c.args.tokens.now (atom text) re
 pub returns-in-Atom : goal.returns-in-Atom
 returns-in-Atom c = first_is c.args.tokens.now c.in-Some.first.now c.in-Some.rest.now (atom c.in-Atom.atom) c.in-Some.ensures.cases.0 c.in-Atom.is
 
-pub returns-in_default-2 : goal.returns-in_default-2
-returns-in_default-2 c = λ text rest. other_first c.args.tokens.now c.in-Some.first.now c.in-Some.rest.now (atom text) rest c.in-Some.ensures.cases.0 (c.in_default-2.not-Atom text)
+pub returns-in_default-token : goal.returns-in_default-token
+returns-in_default-token c = λ text rest. other_first c.args.tokens.now c.in-Some.first.now c.in-Some.rest.now (atom text) rest c.in-Some.ensures.cases.0 (c.in_default-token.not-Atom text)
