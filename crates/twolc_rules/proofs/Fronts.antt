@@ -1,5 +1,6 @@
 -- The first of tokens that stand somewhere.
-use Rattle.std.proofs.Common.{◌≡◌, ℕ, List, [], ◌∷◌, length, sym, ap, ◌∙◌, arith}
+use Rattle.std.proofs.Common.{◌≡◌, ◌==◌, ℕ, true, List, [], ◌∷◌, length, sym, ap, ◌∙◌, arith}
+use Rattle.std.proofs.lemmas.Bool.Decides.{nat_tests}
 use Rattle.twolc_tokens.specs.declared.token.Placed.{Placed}
 use Rattle.twolc_tokens.specs.declared.token.Token.{Token}
 use Rattle.twolc_grammar.specs.Sections.{tokens_of}
@@ -16,3 +17,10 @@ other_first ps p more t rest is other e = other (first_same p.token t (tokens_of
 
 pub first_is : (ps : List Placed) (p : Placed) (more : List Placed) (t : Token) → ps ≡ p ∷ more → p.token ≡ t → tokens_of ps ≡ t ∷ tokens_of more
 first_is ps p more t is same = ap tokens_of is ∙ ap (λ x. x ∷ tokens_of more) same
+
+-- whether any are there
+by_zero : (n : ℕ) → true ≡ (n == 0) → n ≡ 0
+by_zero n e = let none : (n == 0) ≡ true = sym e in grind (arith, nat_tests)
+
+pub no_items : (p : Placed) (ps : List Placed) → true ≡ (length (p ∷ ps) == 0) → ⊥
+no_items p ps e = omega (arith, by_zero (length (p ∷ ps)) e)

@@ -19,6 +19,7 @@ use Rattle.twolc_grammar.specs.Sections.{tokens_of}
 use Rattle.twolc_grammar.specs.Statements.{AreContexts, IsStatement, in_rules, kind_of, rule}
 use Rattle.twolc_expressions.specs.Reading.{IsFound}
 use Rattle.twolc_rules.specs.Reading.{IsAtomSplit, IsOperatorSplit, IsQuotedSplit, context_views}
+use Rattle.twolc_rules.proofs.Fronts.{no_items}
 
 abbrev views_in : Vec (Context (PairPart Raw)) Global → Contexts (Part Raw)
 views_in v = context_views v.items
@@ -103,7 +104,7 @@ module _ (names : Names) (tokens : List Token) where
 -- whether tokens are left
 pub none_left : (rest : List Placed) → true ≡ (length rest == 0) → tokens_of rest ≡ []
 none_left [] none = refl
-none_left (p ∷ rest) none = absurd cc
+none_left (p ∷ rest) none = absurd (no_items p rest none)
 
 pub some_left : (rest : List Placed) → false ≡ (length rest == 0) → tokens_of rest ≡ [] → ⊥
 some_left [] some e = cc

@@ -23,6 +23,7 @@ use Rattle.twolc_expressions.proofs.Made.{onto, onto-append}
 use Rattle.twolc_rules.specs.declared.separator.Separator.{Separator}
 use Rattle.twolc_rules.specs.declared.separator.Separator.TheVariants.{Underscore as behind_left, Semicolon as behind_right}
 use Rattle.twolc_rules.specs.Reading.{context_before, context_views, sign, is_inner, IsSplit}
+use Rattle.twolc_rules.proofs.Fronts.{no_items}
 use Rattle.twolc_rules.proofs.Splits.{part_inner, has_sign, sign_ends}
 
 tails : {A : Type 0} (x y : A) (xs ys : List A) → x ∷ xs ≡ y ∷ ys → xs ≡ ys
@@ -114,7 +115,7 @@ views_all (c ∷ cs) = ap (λ rest. context_before c rest) (views_all cs)
 
 pub ended : (names : Names) (tokens : List Token) (rest : List Placed) (found : List (Context (PairPart Raw))) → true ≡ (length rest == 0) → SoFar names tokens (tokens_of rest) found → IsFound (AreContexts names tokens) (Some (context_views found))
 ended names tokens [] found none so_far = subst (λ cs. AreContexts names tokens cs) (views_all found) (so_far.forth no_context refl)
-ended names tokens (p ∷ rest) found none so_far = absurd cc
+ended names tokens (p ∷ rest) found none so_far = absurd (no_items p rest none)
 
 -- what is behind a token is shorter
 pub shorter : (rest behind : List Placed) (front : List Token) (t : Token) → tokens_of rest ≡ front ++ t ∷ tokens_of behind → length behind < length rest

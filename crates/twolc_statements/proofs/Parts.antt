@@ -1,6 +1,7 @@
 -- The alphabet, sets and definitions by their parts.
 use Rattle.std.proofs.Common.{◌≡◌, ◌<◌, ◌==◌, ℕ, Bool, true, false, List, [], ◌∷◌, ◌++◌, map, length, Vec, Global, Option, None, Some, Result, Ok, Err, IfOk, refl, sym, ap, subst, ◌∙◌, arith}
 use Rattle.std.specs.Option.{option_map}
+use Rattle.std.proofs.lemmas.Bool.Decides.{nat_tests}
 use Rattle.std.specs.declared.alloc.AllocError.{AllocError}
 use Rattle.regex_ast.specs.Terms.{Term}
 use Rattle.regex_ast.specs.declared.expr.Expr.{Expr}
@@ -86,9 +87,15 @@ none_many : (atoms : List (List ℕ)) → [] ≡ map atom atoms → 0 < length a
 none_many [] e some = omega (arith, some)
 none_many (a ∷ atoms) e some = cc
 
+by_zero : (n : ℕ) → true ≡ (n == 0) → n ≡ 0
+by_zero n e = let none : (n == 0) ≡ true = sym e in grind (arith, nat_tests)
+
+no_items : (p : Placed) (ps : List Placed) → true ≡ (length (p ∷ ps) == 0) → ⊥
+no_items p ps e = omega (arith, by_zero (length (p ∷ ps)) e)
+
 pub set_empty : (tokens : List Token) (name : List ℕ) (behind : List Token) (front : List Placed) → IsNamed tokens name behind → behind ≡ tokens_of front ++ operator Semicolon ∷ [] → true ≡ (length front == 0) → IsFound (IsSet tokens) None
 set_empty tokens name behind [] named ended none = λ s h. let f = set_fronts tokens name behind [] s named ended h in none_many f.0 f.1 f.2
-set_empty tokens name behind (p ∷ front) named ended none = absurd cc
+set_empty tokens name behind (p ∷ front) named ended none = absurd (no_items p front none)
 
 abbrev items_of : Vec Raw Global → List Raw
 items_of v = v.items
