@@ -47,7 +47,7 @@ in_expression-returns-in-Rules t c =
     let is = ap term c.in-Rules.is ∙ term_rules c.in-Rules.rules in
     let all = rw c.deref-in-Rules.ensures.value at c.in_groups.ensures in
     let alone = rw c.deref-in-Rules-2.ensures.value at c.inserts_alone.ensures in
-    c.built_if.ensures ∙ ap (λ b. built_if c.with_kind.result b) alone
+    c.built_if-in-Rules.ensures ∙ ap (λ b. built_if c.with_kind.result b) alone
     ∙ ap (λ f. built_if f (inserts_alone (groups_of c.in-Rules.rules.groups.items))) (c.with_kind.ensures ∙ ap (λ f. with_kind f Relation) (c.heavier-in-Rules.ensures ∙ ap (λ f. heavier f 1) (c.as_language-in-Rules.ensures ∙ ap as_language all))) ∙ ap (form_in (leaves_at c.args.names.now) (weights_at c.args.names.now) (is_known_at c.args.names.now) is_symbol) (sym is)
 
 pub in_expression-returns-in-Steps : goal.in_expression-returns-in-Steps
