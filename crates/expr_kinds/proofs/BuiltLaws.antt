@@ -1,11 +1,11 @@
 -- Whether a network is built, as one pass tells it.
 use Rattle.std.proofs.Common.{◌≡◌, ◌↔◌, ℕ, Bool, true, false, ◌&&◌, IsTrue, List, [], ◌∷◌, refl, sym, ◌∙◌}
-use Rattle.regex_ast.specs.Terms.{Term, Terms, Links, Contexts, Steps, empty, any, edge, atom, letters, group, maybe, not_one, cross, suffixed, prefixed, ignore, concat, chain, only, rules, steps, no_term, then_term, no_link, or, and, less, no_context, between, no_step, cross_with, then}
+use Rattle.regex_ast.specs.Terms.{Term, Terms, Links, Contexts, Steps, Mappings, Groups, empty, any, edge, atom, letters, group, maybe, not_one, cross, suffixed, prefixed, ignore, concat, chain, only, rules, steps, no_term, then_term, no_link, or, and, less, no_context, between, no_step, cross_with, then, no_mapping, plain, markup, insert, no_group, then_group}
 use Rattle.regex_ast.specs.declared.expr.Suffix.{Suffix}
 use Rattle.regex_ast.specs.declared.expr.Suffix.TheVariants.{Star, Plus, Power, Upper, Lower, Inverse, Reverse}
-use Rattle.expr_kinds.specs.Built.{IsBuiltBy, AreBuiltBy, LinksAreBuiltBy, ContextsAreBuiltBy, StepsAreBuiltBy}
+use Rattle.expr_kinds.specs.Built.{IsBuiltBy, AreBuiltBy, LinksAreBuiltBy, ContextsAreBuiltBy, StepsAreBuiltBy, MappingsAreBuiltBy, GroupsAreBuiltBy}
 use Rattle.expr_kinds.specs.Kinds.{Leaves}
-use Rattle.expr_kinds.specs.Forms.{as_language, heavier, beside, behind, with_each, with_kind, nothing, form_in, form_in_each, form_in_links, form_in_steps, form_in_contexts, form_in_groups}
+use Rattle.expr_kinds.specs.Forms.{as_language, built_if, heavier, beside, behind, with_each, with_kind, nothing, form_in, form_in_each, form_in_links, form_in_steps, form_in_contexts, form_in_mappings, form_in_groups}
 use Rattle.expr_kinds.specs.declared.form.Form.{Form}
 use Rattle.expr_kinds.specs.declared.form.Kind.TheVariants.{Relation}
 use Rattle.expr_kinds.proofs.FitLaws.{both_true}
@@ -63,7 +63,7 @@ mutual
   built_is leaves leaf built letter (concat es) = from_none (AreBuiltBy built letter es) (form_in_each leaves leaf built letter nothing es).built (each_built leaves leaf built letter nothing es)
   built_is leaves leaf built letter (chain e links) = from_first (form_in leaves leaf built letter e).built (IsBuiltBy built letter e) (LinksAreBuiltBy built letter links) (built_is leaves leaf built letter e) (form_in_links leaves leaf built letter (form_in leaves leaf built letter e) links).built (links_built leaves leaf built letter (form_in leaves leaf built letter e) links)
   built_is leaves leaf built letter (only e contexts) = from_first (form_in leaves leaf built letter e).built (IsBuiltBy built letter e) (ContextsAreBuiltBy built letter contexts) (built_is leaves leaf built letter e) (form_in_contexts leaves leaf built letter (form_in leaves leaf built letter e) contexts).built (contexts_built leaves leaf built letter (form_in leaves leaf built letter e) contexts)
-  built_is leaves leaf built letter (rules optional groups) = never (form_in_groups leaves leaf built letter nothing groups).built
+  built_is leaves leaf built letter (rules optional groups) = from_none (GroupsAreBuiltBy built letter groups) (form_in_groups leaves leaf built letter nothing groups).built (groups_built leaves leaf built letter nothing groups)
   built_is leaves leaf built letter (steps e more) = from_first (form_in leaves leaf built letter e).built (IsBuiltBy built letter e) (StepsAreBuiltBy built letter more) (built_is leaves leaf built letter e) (form_in_steps leaves leaf built letter (form_in leaves leaf built letter e) more).built (steps_built leaves leaf built letter (form_in leaves leaf built letter e) more)
 
   each_built : {A : Type 0} (leaves : Leaves A) (leaf : A → ℕ) (built letter : A → Bool) (before : Form) (es : Terms A) → IsTrue (form_in_each leaves leaf built letter before es).built ↔ (IsTrue before.built × AreBuiltBy built letter es)
@@ -91,4 +91,43 @@ mutual
       let rest = contexts_built leaves leaf built letter (beside before (beside (form_in leaves leaf built letter l) (form_in leaves leaf built letter r))) contexts in (
         λ h. let a = rest.0 h in let b = pair.0 a.0 in let c = parts.0 b.1 in (b.0, (left.0 c.0, right.0 c.1, a.1)),
         λ h. rest.1 (pair.1 (h.0, parts.1 (left.1 h.1.0, right.1 h.1.1)), h.1.2),
+      )
+
+  mappings_built : {A : Type 0} (leaves : Leaves A) (leaf : A → ℕ) (built letter : A → Bool) (before : Form) (maps : Mappings A) → IsTrue (form_in_mappings leaves leaf built letter before maps).built ↔ (IsTrue before.built × MappingsAreBuiltBy built letter maps)
+  mappings_built leaves leaf built letter before no_mapping = (λ h. (h, tt), λ h. h.0)
+  mappings_built leaves leaf built letter before (plain c r maps) =
+      let first = built_is leaves leaf built letter c in
+      let second = built_is leaves leaf built letter r in
+      let parts = both_true (form_in leaves leaf built letter c).built (form_in leaves leaf built letter r).built in
+      let pair = both_true before.built ((form_in leaves leaf built letter c).built && (form_in leaves leaf built letter r).built) in
+      let rest = mappings_built leaves leaf built letter (beside before (beside (form_in leaves leaf built letter c) (form_in leaves leaf built letter r))) maps in (
+        λ h. let a = rest.0 h in let b = pair.0 a.0 in let d = parts.0 b.1 in (b.0, (tt, first.0 d.0, second.0 d.1, a.1)),
+        λ h. rest.1 (pair.1 (h.0, parts.1 (first.1 h.1.1, second.1 h.1.2)), h.1.3),
+      )
+  mappings_built leaves leaf built letter before (markup c b a maps) =
+      let first = built_is leaves leaf built letter c in
+      let second = built_is leaves leaf built letter b in
+      let third = built_is leaves leaf built letter a in
+      let outer = both_true (form_in leaves leaf built letter b).built (form_in leaves leaf built letter a).built in
+      let parts = both_true (form_in leaves leaf built letter c).built ((form_in leaves leaf built letter b).built && (form_in leaves leaf built letter a).built) in
+      let pair = both_true before.built ((form_in leaves leaf built letter c).built && ((form_in leaves leaf built letter b).built && (form_in leaves leaf built letter a).built)) in
+      let rest = mappings_built leaves leaf built letter (beside before (beside (form_in leaves leaf built letter c) (beside (form_in leaves leaf built letter b) (form_in leaves leaf built letter a)))) maps in (
+        λ h. let x = rest.0 h in let y = pair.0 x.0 in let z = parts.0 y.1 in let v = outer.0 z.1 in (y.0, (tt, first.0 z.0, second.0 v.0, third.0 v.1, x.1)),
+        λ h. rest.1 (pair.1 (h.0, parts.1 (first.1 h.1.1, outer.1 (second.1 h.1.2, third.1 h.1.3))), h.1.4),
+      )
+  mappings_built leaves leaf built letter before (insert r maps) =
+      let inner = beside before (form_in leaves leaf built letter r) in
+      let rest = mappings_built leaves leaf built letter (built_if inner false) maps in
+      (λ h. absurd ((never inner.built).0 (rest.0 h).0), λ h. absurd h.1)
+
+  groups_built : {A : Type 0} (leaves : Leaves A) (leaf : A → ℕ) (built letter : A → Bool) (before : Form) (groups : Groups A) → IsTrue (form_in_groups leaves leaf built letter before groups).built ↔ (IsTrue before.built × GroupsAreBuiltBy built letter groups)
+  groups_built leaves leaf built letter before no_group = (λ h. (h, tt), λ h. h.0)
+  groups_built leaves leaf built letter before (then_group maps side contexts groups) =
+      let first = form_in_mappings leaves leaf built letter before maps in
+      let second = form_in_contexts leaves leaf built letter first contexts in
+      let here = mappings_built leaves leaf built letter before maps in
+      let there = contexts_built leaves leaf built letter first contexts in
+      let rest = groups_built leaves leaf built letter second groups in (
+        λ h. let x = rest.0 h in let y = there.0 x.0 in let z = here.0 y.0 in (z.0, (z.1, y.1, x.1)),
+        λ h. rest.1 (there.1 (here.1 (h.0, h.1.0), h.1.1), h.1.2),
       )

@@ -5,4 +5,3 @@ pub mod FitLaws
 pub mod WeightLaws
 pub mod BuiltLaws
 pub mod LeafLaws
-pub mod Ruleless

@@ -1,11 +1,11 @@
--- The expressions whose networks are built: those without an insertion, with such leaves, sets of rules and centres as can be built.
+-- The expressions whose networks are built: those without an insertion, with such leaves and centres as can be built.
 use Rattle.std.specs.Prelude.{Bool, IsTrue}
 use Rattle.std.specs.List.{list_all}
 use Rattle.regex_ast.specs.Terms.{Term, Terms, Links, Contexts, Steps, Mappings, Groups, empty, any, edge, atom, letters, group, maybe, not_one, cross, suffixed, prefixed, ignore, concat, chain, only, rules, steps, no_term, then_term, no_link, or, and, less, no_context, between, no_step, cross_with, then, no_mapping, plain, markup, insert, no_group, then_group}
 
--- each leaf passes the first test, and each symbol in braces the second (no name may stand there); a set of rules is built by its parts
--- as the third says, and each of its centres passes the last
-module _ {A : Type 0} (leaf letter : A → Bool) (Rules : Type 0 → Type 0) (Centre : Term A → Type 0) where
+-- each leaf passes the first test, each symbol in braces the second (no name may stand there), and each centre of a replacement the
+-- third
+module _ {A : Type 0} (leaf letter : A → Bool) (Centre : Term A → Type 0) where
   abbrev mutual
     pub IsBuiltWith : Term A → Type 0
     IsBuiltWith empty = Unit {0}
@@ -23,7 +23,7 @@ module _ {A : Type 0} (leaf letter : A → Bool) (Rules : Type 0 → Type 0) (Ce
     IsBuiltWith (concat es) = AreBuiltWith es
     IsBuiltWith (chain e links) = IsBuiltWith e × LinksAreBuiltWith links
     IsBuiltWith (only e contexts) = IsBuiltWith e × ContextsAreBuiltWith contexts
-    IsBuiltWith (rules optional groups) = Rules (GroupsAreBuiltWith groups)
+    IsBuiltWith (rules optional groups) = GroupsAreBuiltWith groups
     IsBuiltWith (steps e more) = IsBuiltWith e × StepsAreBuiltWith more
 
     pub AreBuiltWith : Terms A → Type 0
@@ -60,47 +60,46 @@ module _ {A : Type 0} (leaf letter : A → Bool) (Rules : Type 0 → Type 0) (Ce
 abbrev pub AnyCentre : {A : Type 0} → Term A → Type 0
 AnyCentre e = Unit {0}
 
--- no set of rules, and those whose parts are built
-abbrev pub NoRules : Type 0 → Type 0
-NoRules parts = ⊥
-
-abbrev pub WithRules : Type 0 → Type 0
-WithRules parts = parts
-
--- the same where no set of rules may stand: what a project may have so far
+-- the same where nothing is asked of centres
 abbrev pub IsBuiltBy : {A : Type 0} → (A → Bool) → (A → Bool) → Term A → Type 0
-IsBuiltBy leaf letter = IsBuiltWith leaf letter NoRules AnyCentre
+IsBuiltBy leaf letter = IsBuiltWith leaf letter AnyCentre
 
 abbrev pub AreBuiltBy : {A : Type 0} → (A → Bool) → (A → Bool) → Terms A → Type 0
-AreBuiltBy leaf letter = AreBuiltWith leaf letter NoRules AnyCentre
+AreBuiltBy leaf letter = AreBuiltWith leaf letter AnyCentre
 
 abbrev pub LinksAreBuiltBy : {A : Type 0} → (A → Bool) → (A → Bool) → Links A → Type 0
-LinksAreBuiltBy leaf letter = LinksAreBuiltWith leaf letter NoRules AnyCentre
+LinksAreBuiltBy leaf letter = LinksAreBuiltWith leaf letter AnyCentre
 
 abbrev pub ContextsAreBuiltBy : {A : Type 0} → (A → Bool) → (A → Bool) → Contexts A → Type 0
-ContextsAreBuiltBy leaf letter = ContextsAreBuiltWith leaf letter NoRules AnyCentre
+ContextsAreBuiltBy leaf letter = ContextsAreBuiltWith leaf letter AnyCentre
 
 abbrev pub StepsAreBuiltBy : {A : Type 0} → (A → Bool) → (A → Bool) → Steps A → Type 0
-StepsAreBuiltBy leaf letter = StepsAreBuiltWith leaf letter NoRules AnyCentre
+StepsAreBuiltBy leaf letter = StepsAreBuiltWith leaf letter AnyCentre
 
--- sets of rules may stand there, and one test is for all leaves
+abbrev pub MappingsAreBuiltBy : {A : Type 0} → (A → Bool) → (A → Bool) → Mappings A → Type 0
+MappingsAreBuiltBy leaf letter = MappingsAreBuiltWith leaf letter AnyCentre
+
+abbrev pub GroupsAreBuiltBy : {A : Type 0} → (A → Bool) → (A → Bool) → Groups A → Type 0
+GroupsAreBuiltBy leaf letter = GroupsAreBuiltWith leaf letter AnyCentre
+
+-- and where one test is for all leaves
 abbrev pub IsBuilt : {A : Type 0} → (A → Bool) → Term A → Type 0
-IsBuilt leaf = IsBuiltWith leaf leaf WithRules AnyCentre
+IsBuilt leaf = IsBuiltBy leaf leaf
 
 abbrev pub AreBuilt : {A : Type 0} → (A → Bool) → Terms A → Type 0
-AreBuilt leaf = AreBuiltWith leaf leaf WithRules AnyCentre
+AreBuilt leaf = AreBuiltBy leaf leaf
 
 abbrev pub LinksAreBuilt : {A : Type 0} → (A → Bool) → Links A → Type 0
-LinksAreBuilt leaf = LinksAreBuiltWith leaf leaf WithRules AnyCentre
+LinksAreBuilt leaf = LinksAreBuiltBy leaf leaf
 
 abbrev pub ContextsAreBuilt : {A : Type 0} → (A → Bool) → Contexts A → Type 0
-ContextsAreBuilt leaf = ContextsAreBuiltWith leaf leaf WithRules AnyCentre
+ContextsAreBuilt leaf = ContextsAreBuiltBy leaf leaf
 
 abbrev pub StepsAreBuilt : {A : Type 0} → (A → Bool) → Steps A → Type 0
-StepsAreBuilt leaf = StepsAreBuiltWith leaf leaf WithRules AnyCentre
+StepsAreBuilt leaf = StepsAreBuiltBy leaf leaf
 
 abbrev pub MappingsAreBuilt : {A : Type 0} → (A → Bool) → Mappings A → Type 0
-MappingsAreBuilt leaf = MappingsAreBuiltWith leaf leaf WithRules AnyCentre
+MappingsAreBuilt leaf = MappingsAreBuiltBy leaf leaf
 
 abbrev pub GroupsAreBuilt : {A : Type 0} → (A → Bool) → Groups A → Type 0
-GroupsAreBuilt leaf = GroupsAreBuiltWith leaf leaf WithRules AnyCentre
+GroupsAreBuilt leaf = GroupsAreBuiltBy leaf leaf

@@ -71,7 +71,7 @@ abbrev mutual
   form_in leaves leaf built letter (concat es) = heavier (form_in_each leaves leaf built letter nothing es) (count_of es - 1)
   form_in leaves leaf built letter (chain e links) = form_in_links leaves leaf built letter (form_in leaves leaf built letter e) links
   form_in leaves leaf built letter (only e contexts) = heavier (as_language (form_in_contexts leaves leaf built letter (form_in leaves leaf built letter e) contexts)) 1
-  form_in leaves leaf built letter (rules optional groups) = with_kind (heavier (as_language (built_if (form_in_groups leaves leaf built letter nothing groups) false)) 1) Relation
+  form_in leaves leaf built letter (rules optional groups) = with_kind (heavier (as_language (form_in_groups leaves leaf built letter nothing groups)) 1) Relation
   form_in leaves leaf built letter (steps e more) = form_in_steps leaves leaf built letter (form_in leaves leaf built letter e) more
 
   -- what was told before with what the items tell
@@ -98,7 +98,7 @@ abbrev mutual
   form_in_mappings leaves leaf built letter before no_mapping = before
   form_in_mappings leaves leaf built letter before (plain c r maps) = form_in_mappings leaves leaf built letter (beside before (beside (form_in leaves leaf built letter c) (form_in leaves leaf built letter r))) maps
   form_in_mappings leaves leaf built letter before (markup c b a maps) = form_in_mappings leaves leaf built letter (beside before (beside (form_in leaves leaf built letter c) (beside (form_in leaves leaf built letter b) (form_in leaves leaf built letter a)))) maps
-  form_in_mappings leaves leaf built letter before (insert r maps) = form_in_mappings leaves leaf built letter (beside before (form_in leaves leaf built letter r)) maps
+  form_in_mappings leaves leaf built letter before (insert r maps) = form_in_mappings leaves leaf built letter (built_if (beside before (form_in leaves leaf built letter r)) false) maps
 
   pub form_in_groups : {A : Type 0} → Leaves A → (A → ℕ) → (A → Bool) → (A → Bool) → Form → Groups A → Form
   form_in_groups leaves leaf built letter before no_group = before

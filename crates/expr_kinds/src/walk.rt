@@ -118,7 +118,6 @@ fn in_expression(names: &[Form], expr: &Expr<Atom>) -> Form
             .as_language()
             .heavier(1),
         Expr::Rules(rules) => in_groups(names, &rules.groups)
-            .built_if(false)
             .as_language()
             .heavier(1)
             .with_kind(Kind::Relation),
@@ -251,6 +250,6 @@ fn in_mapping(names: &[Form], form: Form, mapping: &Mapping<Atom>) -> Form
         } => form.beside(in_expression(names, centre).beside(in_expression(names, before).beside(
             in_expression(names, after),
         ))),
-        Mapping::Insert { result: by } => form.beside(in_expression(names, by)),
+        Mapping::Insert { result: by } => { form.beside(in_expression(names, by)).built_if(false) }
     }
 }

@@ -64,7 +64,7 @@ module _ {K C : Type 0} (spells : C → Bool) where
       concatenation_goes s t (leaf_goes s t m c each.0) (leaves_go s t m all each.1)
 
   mutual
-    set_goes : {A B L M : Type 0} (s : Side K C A L) (t : Side K C B M) → Meets spells s t → Meets spells t s → (e : Term C) → IsBuilt spells e
+    pub set_goes : {A B L M : Type 0} (s : Side K C A L) (t : Side K C B M) → Meets spells s t → Meets spells t s → (e : Term C) → IsBuilt spells e
         → Goes s t (Has s e) (Has t e)
     set_goes s t m n empty built = empty_goes s t
     set_goes s t m n any built = one_letter s t

@@ -1,3 +1,4 @@
+pub mod Trying
 pub mod Endings
 pub mod LastByte
 pub mod Lawful

@@ -1,5 +1,5 @@
 -- The networks of a project's definitions are built of one another.
-use Rattle.std.proofs.Common.{◌≡◌, ◌⊎◌, ◌<◌, ◌≤◌, ◌+◌, ◌++◌, ℕ, Bool, true, false, cond, nat_lt, List, [], ◌∷◌, length, take, get_or, map, AllPairs, Contains, Option, Some, None, is_some, IsTrue, slice_get, refl, sym, ap, subst, ◌∙◌, inl, inr, arith}
+use Rattle.std.proofs.Common.{◌≡◌, ◌⊎◌, ◌<◌, ◌≤◌, ◌+◌, ◌++◌, ℕ, Bool, true, false, cond, nat_lt, List, [], ◌∷◌, length, take, get_or, AllPairs, Contains, Option, Some, None, is_some, IsTrue, Result, Ok, Err, IfOk, IfErr, OnOk, slice_get, refl, sym, ap, subst, ◌∙◌, inl, inr, arith}
 use Rattle.std.proofs.Math.ListN.{replicate, set}
 use Rattle.std.proofs.lemmas.Bool.{cases_eq}
 use Rattle.std.proofs.lemmas.Bool.Decides.{nat_tests}
@@ -12,36 +12,37 @@ use Rattle.std.specs.List.{flat_map}
 use Rattle.std.specs.Option.{option_map}
 use Rattle.word_relations.proofs.Members.{Contains-nil_cases, Contains-cons_cases, Contains-head}
 use Rattle.word_relations.proofs.Places.{Contains-from_slice_get, slice_get-append_left, slice_get-append_right, slice_get-set_other, slice_get-set_same}
-use Rattle.word_relations.specs.Relations.{AreSame}
 use Rattle.fsm_base.specs.Alphabet.{symbols_of}
 use Rattle.fsm_base.specs.declared.letters.Sym.{Sym as Symbol}
 use Rattle.regex_ast.specs.declared.expr.Atom.{Atom}
 use Rattle.regex_ast.specs.declared.expr.Atom.TheVariants.{Sym, Name}
 use Rattle.regex_ast.specs.Terms.{Term}
 use Rattle.expr_kinds.specs.Atoms.{is_leaf_at, is_symbol_of, kind_at, kinds_at, leaves_at}
-use Rattle.expr_kinds.proofs.Ruleless.{with_rules}
-use Rattle.expr_kinds.specs.Built.{IsBuilt}
-use Rattle.expr_kinds.specs.Kinds.{Fits, kind_of}
-use Rattle.expr_kinds.specs.declared.form.Kind.{Kind}
+use Rattle.expr_kinds.specs.Built.{IsBuilt, IsBuiltBy}
+use Rattle.expr_kinds.specs.Kinds.{Fits}
 use Rattle.expr_kinds.proofs.LeafLaws.{fits_alike, kind_alike}
 use Rattle.expr_leaves.specs.Leaves.{leaves_in, seen}
 use Rattle.name_order.specs.Graph.{Refers}
 use Rattle.name_order.specs.Orders.{IsOrder}
-use Rattle.network_algebra.specs.Networks.{IsNetwork, kind_of_network}
+use Rattle.network_algebra.specs.Networks.{IsNetwork}
 use Rattle.network_algebra.specs.declared.network.Network.{Network}
-use Rattle.network_expr.specs.Built.{IsPlainOver}
 use Rattle.network_expr.specs.Parts.{IsGround, is_leaf_of, kind_of_part, kinds, part_of}
 use Rattle.network_expr.specs.declared.parts.Part.{Part}
-use Rattle.network_build.specs.Networks.{IsNetworkOf}
+use Rattle.network_centres.specs.Centres.{HasEmptyCentre}
+use Rattle.network_build.specs.Networks.{IsNetworkOf, IsWhyNotBuilt}
+use Rattle.network_build.specs.declared.compiled.BuildError.{BuildError}
+use Rattle.network_build.specs.declared.compiled.BuildError.TheVariants.{Memory, EmptyCentre}
+use Rattle.project_meaning.specs.Centres.{HasOwnEmptyCentre}
 use Rattle.network_build.proofs.Built.{built_alone, built_by}
 use Rattle.project_model.specs.Plans.{IsPlan, IsSoundOver, body_term}
 use Rattle.project_model.specs.Referring.{place_in, places_in, references_of}
 use Rattle.project_model.specs.declared.definition.Definition.{Definition}
 use Rattle.project_model.proofs.Gathering.{listed_is}
 use Rattle.fsm_program.specs.Building.{AreBuilt, AreNamesAmong, ArePartsOf, HasParts, HasPut, IsBuiltAt, IsThere}
+use Rattle.fsm_program.specs.Centres.{CentresAreBuilt, HasFilled, HasNoCentre, HasNoOwn, IsWhyUnbuilt, OfPlace}
 use Rattle.fsm_program.specs.Loaded.{LoadedView, plan_in}
 use Rattle.fsm_program.proofs.Parts.{part_found, part_there}
-use Rattle.fsm_program.proofs.Shown.{name_spelled_here}
+use Rattle.fsm_program.proofs.Shown.{name_spelled_here, own_centre}
 
 never : IsTrue false → ⊥
 never e = cc
@@ -59,7 +60,7 @@ below : (n m : ℕ) → n < m → nat_lt n m ≡ true
 below n m less = grind (arith, nat_tests)
 
 -- a name in the expression of a definition is referred to
-named_at : (definitions : List Definition) (place : ℕ) (d : Definition) → slice_get definitions place ≡ Some d → (p : ℕ) → Contains (leaves_in (body_term d.body)) (Name p) → p < length definitions
+pub named_at : (definitions : List Definition) (place : ℕ) (d : Definition) → slice_get definitions place ≡ Some d → (p : ℕ) → Contains (leaves_in (body_term d.body)) (Name p) → p < length definitions
     → Refers (references_of definitions) place p
 named_at definitions place d at p stood within =
     let n = length definitions in
@@ -109,7 +110,7 @@ module _ (loaded : LoadedView) (plan : IsPlan (plan_in loaded)) (built : List (O
   sound : IsSoundOver loaded.forms alphabet d
   sound = All-contains (IsSoundOver loaded.forms alphabet) loaded.definitions d plan.sound (Contains-from_slice_get loaded.definitions place d at)
 
-  pub built_over : IsPlainOver parts alphabet t
+  pub built_over : IsBuiltBy (is_leaf_of parts alphabet) (is_symbol_of alphabet) t
   built_over = built_by (is_leaf_at loaded.forms alphabet) (is_symbol_of alphabet) (is_leaf_of parts alphabet) (is_symbol_of alphabet) t sound.built (leaf, λ a stood h. h)
     where
       leaf : (a : Atom) → Contains (leaves_in t) a → IsTrue (is_leaf_at loaded.forms alphabet a) → IsTrue (is_leaf_of parts alphabet a)
@@ -117,7 +118,7 @@ module _ (loaded : LoadedView) (plan : IsPlan (plan_in loaded)) (built : List (O
       leaf (Name p) stood h = named_there p stood h
 
   alone : IsBuilt (is_leaf_of parts alphabet) t
-  alone = with_rules (is_leaf_of parts alphabet) (is_leaf_of parts alphabet) _ _ t (built_alone (is_leaf_of parts alphabet) (is_symbol_of alphabet) letter t built_over)
+  alone = built_alone (is_leaf_of parts alphabet) (is_symbol_of alphabet) letter t built_over
     where
       letter : (a : Atom) → IsTrue (is_symbol_of alphabet a) → IsTrue (is_leaf_of parts alphabet a)
       letter (Sym s) h = h
@@ -147,8 +148,32 @@ module _ (loaded : LoadedView) (plan : IsPlan (plan_in loaded)) (built : List (O
         of.kind ∙ kind_alike (leaves_at loaded.forms) (kinds parts) (is_leaf_of parts alphabet) same_kind same_symbol t alone
         ∙ sym (plan.forms.kinds place d at);
     over = of.over;
-    means = λ said from name at_name. name_spelled_here said loaded from place d at parts each n built_over of.relation name at_name;
+    means = λ said from name at_name. name_spelled_here said loaded from place d at parts each built_over n of.relation name at_name;
   }
+
+  -- it has an own empty centre where its network can't be built
+  own : HasEmptyCentre parts alphabet t → OfPlace loaded place HasOwnEmptyCentre
+  own h said from name at_name = (own_centre said loaded from place d at parts each built_over name at_name).0 h
+
+  no_own : (HasEmptyCentre parts alphabet t → ⊥) → OfPlace loaded place HasNoOwn
+  no_own none said from name at_name h = none ((own_centre said loaded from place d at parts each built_over name at_name).1 h)
+
+  no_centre : HasNoCentre loaded place → HasEmptyCentre parts alphabet t → ⊥
+  no_centre plain (c, among, empty) = Contains-nil_cases c (subst (λ (cs : List (Term Atom)). Contains cs c) (plain d at) among)
+
+  -- what building it answers
+  pub built_as : (r : Result Network BuildError) → IfOk r (IsNetworkOf parts alphabet t) → IfOk r (IsBuiltAt loaded place)
+  built_as (Ok n) of = built_at n of
+  built_as (Err error) of = of
+
+  pub filled_as : (r : Result Network BuildError) → OnOk r (HasEmptyCentre parts alphabet t → ⊥) → OnOk r (OfPlace loaded place HasNoOwn)
+  filled_as (Ok n) none = no_own none
+  filled_as (Err error) none = none
+
+  pub why_as : (r : Result Network BuildError) → IfErr r (IsWhyNotBuilt parts alphabet d) → IfErr r (IsWhyUnbuilt loaded place)
+  why_as (Ok n) is = is
+  why_as (Err (Memory refused)) is = tt
+  why_as (Err (EmptyCentre line)) is = (own is.1, λ plain. no_centre plain is.1)
 
 -- one leaf more
 module _ (before : List Atom) (leaf : Atom) (names : List (Option ℕ)) (are : AreNamesAmong before names) where
@@ -201,7 +226,7 @@ names_next leaves i d old new below more so_far =
     subst (λ (xs : List Atom). AreNamesAmong xs new) (sym (seen_more leaves i d below)) (more (seen (take i leaves)) so_far)
 
 -- each item of a list of one item many times
-replicate_same : {X : Type 0} (n : ℕ) (x : X) (p : ℕ) (y : X) → slice_get (replicate n x) p ≡ Some y → x ≡ y
+pub replicate_same : {X : Type 0} (n : ℕ) (x : X) (p : ℕ) (y : X) → slice_get (replicate n x) p ≡ Some y → x ≡ y
 replicate_same {X} n x p y at =
     let within = slice_get_within (replicate n x) p y at in
     let inside : p < n = omega (arith, within, length-replicate n x) in
@@ -290,26 +315,71 @@ clash : (n : Network) → ◌≡◌ {A = Option (Option Network)} (Some None) (S
 clash n e = cc
 
 -- one place more, without network
-pub none_pushed : (built : List (Option Network)) → ((place : ℕ) (n : Network) → slice_get built place ≡ Some (Some n) → ⊥) → (place : ℕ) (n : Network) → slice_get (built ++ None ∷ []) place ≡ Some (Some n) → ⊥
-none_pushed built none place n at = by (cases_eq place (0 + length built))
+pub none_pushed : (built : List (Option Network)) → ((place : ℕ) → place < length built → slice_get built place ≡ Some None) → (place : ℕ) → place < length built + 1 → slice_get (built ++ None ∷ []) place ≡ Some None
+none_pushed built none place within = by (cases_eq place (0 + length built))
   where
-    by : (place ≡ 0 + length built) ⊎ (place ≡ 0 + length built → ⊥) → ⊥
-    by (inl same) = clash n (sym (slice_get-append_right built (None ∷ []) 0) ∙ subst (λ (k : ℕ). slice_get (built ++ None ∷ []) k ≡ Some (Some n)) same at)
+    by : (place ≡ 0 + length built) ⊎ (place ≡ 0 + length built → ⊥) → slice_get (built ++ None ∷ []) place ≡ Some None
+    by (inl same) = ap (slice_get (built ++ None ∷ [])) same ∙ slice_get-append_right built (None ∷ []) 0
     by (inr apart) =
-        let inside = slice_get_within (built ++ None ∷ []) place (Some n) at in
-        let within : place < length built = omega (arith, inside, length-append built (None ∷ []), apart) in
-        none place n (sym (slice_get-append_left built (None ∷ []) place within) ∙ at)
+        let lower : place < length built = omega (arith, within, apart) in
+        slice_get-append_left built (None ∷ []) place lower ∙ none place lower
+
+-- with one network more
+pub network_put : (loaded : LoadedView) (built : List (Option Network)) (place : ℕ) (n : Network) → place < length built → AreBuilt loaded built → IsBuiltAt loaded place n → AreBuilt loaded (set built place (Some n))
+network_put loaded built place n within are good = record {
+  count = length-set built place (Some n) ∙ are.count;
+  each = λ p m at. elim (cases_eq p place) as (λ _. IsBuiltAt loaded p m) [
+    | inl same ↦
+        (let at_place = subst (λ (k : ℕ). slice_get (set built place (Some n)) k ≡ Some (Some m)) same at in
+        let is : Some n ≡ Some m = same_Some (Some n) (Some m) (sym (slice_get-set_same built place (Some n) within) ∙ at_place) in
+        subst (λ (k : ℕ). IsBuiltAt loaded k m) (sym same) (subst (IsBuiltAt loaded place) (same_Some n m is) good))
+    | inr other ↦ are.each p m (sym (slice_get-set_other built place p (Some n) other) ∙ at)
+  ];
+}
+
+-- a place that has its network already, and one that gets it
+pub filled_before : (loaded : LoadedView) (built : List (Option Network)) (place : ℕ) → CentresAreBuilt loaded built → IsThere built place → HasFilled loaded place built built
+filled_before loaded built place are there = record { are = are; there = there; kept = λ other h. h }
+
+pub filled_now : (loaded : LoadedView) (built : List (Option Network)) (place : ℕ) (n : Network) → place < length built → CentresAreBuilt loaded built → IsBuiltAt loaded place n
+    → HasFilled loaded place built (set built place (Some n))
+filled_now loaded built place n within ready good = record {
+  are = record {
+    are = network_put loaded built place n within ready.are good;
+    plain = λ p none. elim (cases_eq p place) as (λ _. HasNoCentre loaded p) [
+      | inl same ↦ absurd (clash n (sym none ∙ subst (λ (k : ℕ). slice_get (set built place (Some n)) k ≡ Some (Some n)) (sym same) (slice_get-set_same built place (Some n) within)))
+      | inr other ↦ ready.plain p (sym (slice_get-set_other built place p (Some n) other) ∙ none)
+    ];
+  };
+  there = (n, slice_get-set_same built place (Some n) within);
+  kept = λ p (m, at). elim (cases_eq p place) as (λ _. IsThere (set built place (Some n)) p) [
+    | inl same ↦ (n, subst (λ (k : ℕ). slice_get (set built place (Some n)) k ≡ Some (Some n)) (sym same) (slice_get-set_same built place (Some n) within))
+    | inr other ↦ (m, slice_get-set_other built place p (Some n) other ∙ at)
+  ];
+}
+
+-- what stands at a place, by a test
+pub there_by : (built : List (Option Network)) (place : ℕ) (o : Option Network) → slice_get built place ≡ Some o → IsTrue (is_some o) → IsThere built place
+there_by built place None at some = absurd (never some)
+there_by built place (Some n) at some = (n, at)
+
+pub none_by : (built : List (Option Network)) (place : ℕ) (o : Option Network) → slice_get built place ≡ Some o → is_some o ≡ false → slice_get built place ≡ Some None
+none_by built place None at none = at
+none_by built place (Some n) at none = let clash : true ≡ false = none in absurd (cc)
+
+-- what is read at a place that has a network
+pub read_there : (built : List (Option Network)) (place : ℕ) (o : Option Network) → IsThere built place → o ≡ get_or built place o → slice_get built place ≡ Some o
+read_there built place o (n, at) is = slice_get-get_or built place o (slice_get_within built place (Some n) at) ∙ ap (λ (x : Option Network). Some x) (sym is)
 
 -- the networks of a front of the order, of which the wanted one is none
 pub record BuiltSoFar (loaded : LoadedView) (order : List ℕ) (wanted i : ℕ) (built : List (Option Network)) : Type 0 where
-  pub are : AreBuilt loaded built
+  pub are : CentresAreBuilt loaded built
   pub there : (place : ℕ) → Contains (take i order) place → IsThere built place
   pub unwanted : Contains (take i order) wanted → ⊥
 
-pub none_so_far : (loaded : LoadedView) (order : List ℕ) (wanted : ℕ) (built : List (Option Network)) → length built ≡ length loaded.definitions
-    → ((place : ℕ) (n : Network) → slice_get built place ≡ Some (Some n) → ⊥) → BuiltSoFar loaded order wanted 0 built
-none_so_far loaded order wanted built count none = record {
-  are = record { count = count; each = λ place n at. absurd (none place n at) };
+pub none_so_far : (loaded : LoadedView) (order : List ℕ) (wanted : ℕ) (built : List (Option Network)) → CentresAreBuilt loaded built → BuiltSoFar loaded order wanted 0 built
+none_so_far loaded order wanted built are = record {
+  are = are;
   there = λ place h. absurd (Contains-nil_cases place h);
   unwanted = λ h. Contains-nil_cases wanted h;
 }
@@ -332,37 +402,22 @@ module _ (loaded : LoadedView) (order : List ℕ) (ordered : IsOrder (references
   parts_there other refers = so_far.there other (ordered.behind i place other here_at refers)
 
   -- with the network of the next one
-  pub built_more : (place ≡ wanted → ⊥) → (n : Network) → IsBuiltAt loaded place n → BuiltSoFar loaded order wanted (i + 1) (set built place (Some n))
-  built_more apart n good = record {
-    are = record {
-      count = length-set built place (Some n) ∙ so_far.are.count;
-      each = λ p m at. elim (cases_eq p place) as (λ _. IsBuiltAt loaded p m) [
-        | inl same ↦
-            (let at_place = subst (λ (k : ℕ). slice_get (set built place (Some n)) k ≡ Some (Some m)) same at in
-            let is : Some n ≡ Some m = same_Some (Some n) (Some m) (sym (slice_get-set_same built place (Some n) within) ∙ at_place) in
-            subst (λ (k : ℕ). IsBuiltAt loaded k m) (sym same) (subst (IsBuiltAt loaded place) (same_Some n m is) good))
-        | inr other ↦ so_far.are.each p m (sym (slice_get-set_other built place p (Some n) other) ∙ at)
-      ];
-    };
-    there = λ p h. elim (cases_eq p place) as (λ _. IsThere (set built place (Some n)) p) [
-      | inl same ↦ (n, subst (λ (k : ℕ). slice_get (set built place (Some n)) k ≡ Some (Some n)) (sym same) (slice_get-set_same built place (Some n) within))
-      | inr other ↦ (let (m, at) = so_far.there p (before p other h) in (m, slice_get-set_other built place p (Some n) other ∙ at))
+  pub built_more : (new : List (Option Network)) → HasFilled loaded place built new → (place ≡ wanted → ⊥) → BuiltSoFar loaded order wanted (i + 1) new
+  built_more new filled apart = record {
+    are = filled.are;
+    there = λ p h. elim (cases p h) as (λ _. IsThere new p) [
+      | inl old ↦ filled.kept p (so_far.there p old)
+      | inr same ↦ subst (IsThere new) same filled.there
     ];
-    unwanted = λ h. elim (Contains-push_cases (take i order) place wanted (subst (λ (ps : List ℕ). Contains ps wanted) (take_more order i 0 inside) h)) as (λ _. ⊥) [
-      | inl old ↦ so_far.unwanted old
-      | inr same ↦ apart same
-    ];
+    unwanted = λ h. elim (cases wanted h) as (λ _. ⊥) [ inl old ↦ so_far.unwanted old | inr same ↦ apart same ];
   }
     where
-      within : place < length built
-      within = omega (arith, place_within, so_far.are.count)
+      cases : (p : ℕ) → Contains (take (i + 1) order) p → Contains (take i order) p ⊎ (place ≡ p)
+      cases p h = Contains-push_cases (take i order) place p (subst (λ (ps : List ℕ). Contains ps p) (take_more order i 0 inside) h)
 
-      before : (p : ℕ) → (p ≡ place → ⊥) → Contains (take (i + 1) order) p → Contains (take i order) p
-      before p other h =
-          elim (Contains-push_cases (take i order) place p (subst (λ (ps : List ℕ). Contains ps p) (take_more order i 0 inside) h)) as (λ _. Contains (take i order) p) [
-            | inl old ↦ old
-            | inr same ↦ absurd (other (sym same))
-          ]
+  -- the network of the next one is its own
+  pub built_here : (new : List (Option Network)) (n : Network) → HasFilled loaded place built new → place ≡ wanted → slice_get new wanted ≡ Some (Some n) → IsBuiltAt loaded wanted n
+  built_here new n filled same at = filled.are.are.each wanted n at
 
 -- the wanted place is met in the order
 pub never_past : (loaded : LoadedView) (order : List ℕ) → IsOrder (references_of loaded.definitions) order → (wanted i : ℕ) (built : List (Option Network)) → wanted < length loaded.definitions → length order ≤ i

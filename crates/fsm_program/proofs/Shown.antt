@@ -1,39 +1,42 @@
 -- The network of a definition shows what the project says of its name.
-use Rattle.std.proofs.Common.{◌≡◌, ◌↔◌, ◌<◌, ◌==◌, ℕ, zero, suc, Bool, true, false, cond, length, arith, List, [], ◌∷◌, map, Option, Some, None, is_some, MatchOption, IsTrue, refl, sym, ap, subst, ◌∙◌, inl, inr, slice_get}
-use Rattle.std.proofs.lemmas.List.Elements.{All-contains}
+use Rattle.std.proofs.Common.{◌≡◌, ◌↔◌, append-nil, ℕ, Bool, false, List, [], ◌∷◌, map, Option, Some, None, is_some, MatchOption, IsTrue, refl, sym, ap, subst, ◌∙◌, inl, inr, slice_get}
+use Rattle.std.proofs.lemmas.List.Elements.{All-contains, Contains-append_left}
 use Rattle.std.proofs.lemmas.Option.{slice_get-get_or, slice_get-map, same_Some}
-use Rattle.std.specs.List.{Contains}
+use Rattle.std.specs.List.{Contains, flat_map}
 use Rattle.std.specs.Option.{option_map}
 use Rattle.word_relations.specs.Relations.{AreSame}
 use Rattle.word_relations.specs.Words.{IsDistinct}
 use Rattle.word_relations.proofs.Members.{Contains-nil_cases, Contains-cons_cases, Contains-head, Contains-tail, Contains-map, Contains-map_cases}
 use Rattle.word_relations.proofs.Places.{Contains-from_slice_get}
-use Rattle.fsm_base.specs.Alphabet.{IsAlphabet, spelled, symbols_of, texts_of}
+use Rattle.fsm_base.specs.Alphabet.{spelled, symbols_of, texts_of}
 use Rattle.fsm_base.specs.Symbols.{number_of}
 use Rattle.fsm_base.specs.declared.letters.Pair.{Pair}
 use Rattle.fsm_base.specs.declared.letters.Sym.{Sym}
 use Rattle.fsa.specs.Automaton.{Automaton}
 use Rattle.fst_relation.specs.Relation.{IsRelated}
 use Rattle.regex_ast.specs.Terms.{Term}
+use Rattle.regex_ast.specs.declared.expr.Atom.{Atom}
 use Rattle.regex_ast.specs.declared.expr.Raw.{Raw}
-use Rattle.expr_meaning.specs.Meaning.{Relates}
+use Rattle.expr_meaning.specs.Meaning.{In, Relates}
 use Rattle.expr_kinds.specs.Atoms.{is_symbol_of}
-use Rattle.expr_kinds.proofs.Ruleless.{with_rules}
-use Rattle.expr_kinds.specs.Built.{IsBuilt}
+use Rattle.expr_kinds.specs.Built.{IsBuilt, IsBuiltBy}
 use Rattle.expr_spelling.specs.Laws.{IsSpelled}
 use Rattle.expr_leaves.specs.Mapped.{mapped}
 use Rattle.expr_spelling.proofs.Leaves.{symbols_spelled}
-use Rattle.expr_spelling.proofs.Spelling.{spelling}
+use Rattle.expr_spelling.proofs.Spelling.{spelling, spelling_empty}
 use Rattle.network_algebra.specs.Networks.{PairsOf}
 use Rattle.network_algebra.specs.declared.network.Network.{Network}
-use Rattle.network_expr.specs.Built.{IsPlainOver}
 use Rattle.network_expr.specs.Parts.{is_leaf_of, named, part_of, stands}
 use Rattle.network_expr.specs.declared.parts.Part.{Part}
+use Rattle.network_centres.specs.Centres.{HasEmptyCentre}
+use Rattle.network_centres.proofs.Mapped.{centres_in-mapped}
+use Rattle.network_centres.proofs.Within.{built_within}
 use Rattle.network_build.proofs.Built.{built_both}
+use Rattle.project_meaning.specs.Centres.{HasOwnEmptyCentre, centres_in}
 use Rattle.project_meaning.specs.Trees.{Body, xfst}
-use Rattle.project_meaning.specs.Leaves.{Leaf, symbol, named as named_leaf, leaf_of, resolved, written as text_of}
+use Rattle.project_meaning.specs.Leaves.{Leaf, symbol, named as named_leaf, expressions_of, leaf_of, resolved, written as text_of}
 use Rattle.project_meaning.specs.Projects.{Defines, Definition as Meant, Written, definition_in, names_of}
-use Rattle.project_meaning.specs.Meaning.{Word, BodyRelates, Meaning, NameRelates, stands_for as means_by}
+use Rattle.project_meaning.specs.Meaning.{InExpression, Word, BodyRelates, Meaning, NameRelates, stands_for as means_by}
 use Rattle.project_meaning.proofs.Depths.{names_unfold}
 use Rattle.lookup.specs.Answering.{IsOverAlphabet}
 use Rattle.project_sources.specs.Sources.{Said, project_in}
@@ -51,7 +54,7 @@ use Rattle.fsm_program.specs.Building.{IsBuiltAt}
 use Rattle.fsm_program.specs.Loaded.{IsLoadedFrom, LoadedView}
 use Rattle.fsm_program.specs.Networks.{ShowsName}
 use Rattle.fsm_program.proofs.Parts.{part_found}
-use Rattle.fsm_program.proofs.Spelled.{entry_held, held_any, numbered_as, whole}
+use Rattle.fsm_program.proofs.Spelled.{entry_held, held_any, numbered_as}
 
 -- what stands in one of two lists that are made alike has its like in the other
 pub made_alike : {X Y Z : Type 0} (f : X → Z) (g : Y → Z) (xs : List X) (ys : List Y) (x : X) → map f xs ≡ map g ys → Contains xs x → (y : Y) × Contains ys y × (f x ≡ g y)
@@ -155,6 +158,50 @@ module _ (said : Said) (loaded : LoadedView) (from : IsLoadedFrom said loaded) w
     abbrev means : List ℕ → Word → Word → Type 0
     means = Meaning (project_in said)
 
+    by_number : body_term d.body ≡ mapped (atom_of names table) of.e
+    by_number = of.term_is ∙ mapped_twice (numbered names table) (leaf_of names) of.e
+
+    -- its centres by numbers and by texts
+    centres_by_number : centres_in (body_term d.body) ≡ map (λ (c : Term Raw). mapped (atom_of names table) c) (centres_in of.e)
+    centres_by_number = ap (λ (t : Term Atom). centres_in t) by_number ∙ centres_in-mapped (atom_of names table) of.e
+
+    centres_by_text : centres_in meant ≡ map (λ (c : Term Raw). mapped (leaf_of names) c) (centres_in of.e)
+    centres_by_text = centres_in-mapped (leaf_of names) of.e
+
+    -- its own empty centres are centres of its expression
+    abbrev OwnCentre : Term Raw → Type 0
+    OwnCentre c = InExpression (project_in said) (mapped (leaf_of names) c) []
+
+    own_from : (name : List ℕ) → slice_get names place ≡ Some name → (c : Term Raw) → Contains (centres_in of.e) c → OwnCentre c → HasOwnEmptyCentre (project_in said) name
+    own_from name at_name c there empty =
+        let centre = mapped (leaf_of names) c in
+        let within : Contains (centres_in meant) centre =
+        subst (λ (cs : List (Term Leaf)). Contains cs centre) (sym centres_by_text) (Contains-map (λ (x : Term Raw). mapped (leaf_of names) x) (centres_in of.e) c there) in (
+          m,
+          m_among,
+          same_Some w.name name (sym name_here ∙ at_name),
+          centre,
+          subst (λ (b : Body Leaf). Contains (flat_map (λ (e : Term Leaf). centres_in e) (expressions_of b)) centre) (sym m_is) (Contains-append_left (centres_in meant) [] centre within),
+          empty,
+        )
+
+    own_among : (name : List ℕ) → slice_get names place ≡ Some name → HasOwnEmptyCentre (project_in said) name → (c : Term Raw) × Contains (centres_in of.e) c × OwnCentre c
+    own_among name at_name (e, e_among, e_named, centre, among, empty) =
+        let is_name : w.name ≡ name = same_Some w.name name (sym name_here ∙ at_name) in
+        let own = subst (λ (x : Meant). Contains (flat_map (λ (t : Term Leaf). centres_in t) (expressions_of x.body)) centre) (only e e_among (e_named ∙ sym is_name)) among in
+        let of_meant = subst (λ (b : Body Leaf). Contains (flat_map (λ (t : Term Leaf). centres_in t) (expressions_of b)) centre) m_is own in
+        let within : Contains (centres_in meant) centre = subst (λ (cs : List (Term Leaf)). Contains cs centre) (append-nil (centres_in meant)) of_meant in
+        let (c, there, is) = Contains-map_cases (λ (x : Term Raw). mapped (leaf_of names) x) (centres_in of.e) centre (subst (λ (cs : List (Term Leaf)). Contains cs centre) centres_by_text within) in
+        (c, there, subst (λ (x : Term Leaf). InExpression (project_in said) x []) (sym is) empty)
+
+    -- without a centre it has no empty one
+    pub no_own_centre : centres_in (body_term d.body) ≡ [] → (name : List ℕ) → slice_get names place ≡ Some name → HasOwnEmptyCentre (project_in said) name → ⊥
+    no_own_centre none name at_name own =
+        let (c, there, empty) = own_among name at_name own in
+        let centre = mapped (atom_of names table) c in
+        Contains-nil_cases centre
+        (subst (λ (cs : List (Term Atom)). Contains cs centre) (sym centres_by_number ∙ none) (Contains-map (λ (x : Term Raw). mapped (atom_of names table) x) (centres_in of.e) c there))
+
     module _ (parts : List Part) (each : (part : Part) → Contains parts part → IsBuiltAt loaded part.name part.network.now) where
       -- a leaf that is a symbol of the alphabet, or a name with a part
       spells_leaf : Leaf → Bool
@@ -200,21 +247,42 @@ module _ (said : Said) (loaded : LoadedView) (from : IsLoadedFrom said loaded) w
       letter_passes (symbol text) h = h
       letter_passes (named_leaf name) h = absurd (never h)
 
-      module _ (n : Network) (built : IsPlainOver parts (symbols_of loaded.alphabet) (body_term d.body))
-          (relation : AreSame (PairsOf n) (Relates (stands parts) (symbols_of loaded.alphabet) (body_term d.body))) where
-        by_number : body_term d.body ≡ mapped (atom_of names table) of.e
-        by_number = of.term_is ∙ mapped_twice (numbered names table) (leaf_of names) of.e
-
+      module _ (built : IsBuiltBy (is_leaf_of parts (symbols_of loaded.alphabet)) (is_symbol_of (symbols_of loaded.alphabet)) (body_term d.body)) where
         spelled_leaves : IsBuilt (λ leaf. spells_leaf (leaf_of names leaf)) of.e
         spelled_leaves =
             let over : IsBodyOver table (xfst meant) = subst (IsBodyOver table) m_is (All-contains (λ (x : Meant). IsBodyOver table x.body) (project_in said).definitions m from.leaves m_among) in
             let by_text = subst (λ (T : Type 0). T) (mapped_built (is_leaf_over table) (is_symbol_over table) (leaf_of names) of.e) over in
             let by_part = subst (λ (T : Type 0). T) (mapped_built (is_leaf_of parts (symbols_of loaded.alphabet)) (is_symbol_of (symbols_of loaded.alphabet)) (atom_of names table) of.e)
-            (subst (IsPlainOver parts (symbols_of loaded.alphabet)) by_number built) in
-            with_rules (λ leaf. spells_leaf (leaf_of names leaf)) (λ leaf. spells_leaf (leaf_of names leaf)) _ _ of.e
-            (built_both (λ leaf. is_leaf_over table (leaf_of names leaf)) (λ leaf. is_symbol_over table (leaf_of names leaf))
+            (subst (IsBuiltBy (is_leaf_of parts (symbols_of loaded.alphabet)) (is_symbol_of (symbols_of loaded.alphabet))) by_number built) in
+            built_both (λ leaf. is_leaf_over table (leaf_of names leaf)) (λ leaf. is_symbol_over table (leaf_of names leaf))
             (λ leaf. is_leaf_of parts (symbols_of loaded.alphabet) (atom_of names table leaf)) (λ leaf. is_symbol_of (symbols_of loaded.alphabet) (atom_of names table leaf)) (λ leaf. spells_leaf (leaf_of names leaf))
-            (λ leaf h g. leaf_passes (leaf_of names leaf) h g) (λ leaf h. letter_passes (leaf_of names leaf) h) of.e by_text by_part)
+            (λ leaf h g. leaf_passes (leaf_of names leaf) h g) (λ leaf h. letter_passes (leaf_of names leaf) h) of.e by_text by_part
+
+        -- a centre has the empty word by numbers where it has it by texts
+        centre_alike : (c : Term Raw) → Contains (centres_in of.e) c → In (stands parts) (symbols_of loaded.alphabet) (mapped (atom_of names table) c) [] ↔ InExpression (project_in said) (mapped (leaf_of names) c) []
+        centre_alike c among =
+            let spells = λ (leaf : Raw). spells_leaf (leaf_of names leaf) in
+            let c_built = All-contains (λ (x : Term Raw). IsBuilt spells x) (centres_in of.e) c (built_within spells spells of.e spelled_leaves) among in
+            subst (λ (t : List (List ℕ)). In (stands parts) (symbols_of loaded.alphabet) (mapped (atom_of names table) c) [] ↔ In (means_by means) t (mapped (leaf_of names) c) []) from.texts
+            (spelling_empty (stands parts) (means_by means) loaded.alphabet (atom_of names table) (leaf_of names) spells from.formed leaf_spelled c c_built)
+
+        -- the definition has an own empty centre by numbers where it has one by texts
+        pub own_centre : (name : List ℕ) → slice_get names place ≡ Some name → HasEmptyCentre parts (symbols_of loaded.alphabet) (body_term d.body) ↔ HasOwnEmptyCentre (project_in said) name
+        own_centre name at_name = (to_text, to_number)
+          where
+            to_text : HasEmptyCentre parts (symbols_of loaded.alphabet) (body_term d.body) → HasOwnEmptyCentre (project_in said) name
+            to_text (centre, among, empty) =
+                let (c, there, is) = Contains-map_cases (λ (x : Term Raw). mapped (atom_of names table) x) (centres_in of.e) centre (subst (λ (cs : List (Term Atom)). Contains cs centre) centres_by_number among) in
+                own_from name at_name c there ((centre_alike c there).0 (subst (λ (x : Term Atom). In (stands parts) (symbols_of loaded.alphabet) x []) (sym is) empty))
+
+            to_number : HasOwnEmptyCentre (project_in said) name → HasEmptyCentre parts (symbols_of loaded.alphabet) (body_term d.body)
+            to_number own =
+                let (c, there, empty) = own_among name at_name own in
+                let centre = mapped (atom_of names table) c in (
+                  centre,
+                  subst (λ (cs : List (Term Atom)). Contains cs centre) (sym centres_by_number) (Contains-map (λ (x : Term Raw). mapped (atom_of names table) x) (centres_in of.e) c there),
+                  (centre_alike c there).1 empty,
+                )
 
         -- the expression relates the same by numbers and by texts
         here : IsSpelled loaded.alphabet (Relates (stands parts) (symbols_of loaded.alphabet) (body_term d.body)) (Relates (means_by means) table meant)
@@ -223,29 +291,30 @@ module _ (said : Said) (loaded : LoadedView) (from : IsLoadedFrom said loaded) w
             (subst (λ t. IsSpelled loaded.alphabet (Relates (stands parts) (symbols_of loaded.alphabet) t) (Relates (means_by means) (texts_of loaded.alphabet) meant)) (sym by_number)
             (spelling (stands parts) (means_by means) loaded.alphabet (atom_of names table) (leaf_of names) (λ leaf. spells_leaf (leaf_of names leaf)) from.formed leaf_spelled of.e spelled_leaves))
 
-        abbrev Related : Word → Word → Type 0
-        Related u v = (upper : List Sym) × (lower : List Sym) × PairsOf n upper lower × (u ≡ spelled loaded.alphabet upper) × (v ≡ spelled loaded.alphabet lower)
+        module _ (n : Network) (relation : AreSame (PairsOf n) (Relates (stands parts) (symbols_of loaded.alphabet) (body_term d.body))) where
+          abbrev Related : Word → Word → Type 0
+          Related u v = (upper : List Sym) × (lower : List Sym) × PairsOf n upper lower × (u ≡ spelled loaded.alphabet upper) × (v ≡ spelled loaded.alphabet lower)
 
-        there : (u v : Word) → NameRelates means (project_in said) w.name u v → Related u v
-        there u v (e, e_among, e_named, r) =
-            let own : BodyRelates means table m.body u v = subst (λ (x : Meant). BodyRelates means table x.body u v) (only e e_among e_named) r in
-            let i = (here.same u v).0 (subst (λ (b : Body Leaf). BodyRelates means table b u v) m_is own) in
-            (i.0, i.1, (relation i.0 i.1).1 i.2, i.3, i.4)
+          there : (u v : Word) → NameRelates means (project_in said) w.name u v → Related u v
+          there u v (e, e_among, e_named, r) =
+              let own : BodyRelates means table m.body u v = subst (λ (x : Meant). BodyRelates means table x.body u v) (only e e_among e_named) r in
+              let i = (here.same u v).0 (subst (λ (b : Body Leaf). BodyRelates means table b u v) m_is own) in
+              (i.0, i.1, (relation i.0 i.1).1 i.2, i.3, i.4)
 
-        back : (u v : Word) → Related u v → NameRelates means (project_in said) w.name u v
-        back u v (upper, lower, related, e, e') =
-            (m, m_among, refl, subst (λ (b : Body Leaf). BodyRelates means table b u v) (sym m_is) ((here.same u v).1 (upper, lower, (relation upper lower).0 related, e, e')))
+          back : (u v : Word) → Related u v → NameRelates means (project_in said) w.name u v
+          back u v (upper, lower, related, e, e') =
+              (m, m_among, refl, subst (λ (b : Body Leaf). BodyRelates means table b u v) (sym m_is) ((here.same u v).1 (upper, lower, (relation upper lower).0 related, e, e')))
 
-        -- the name relates what its network does
-        pub name_spelled_here : (name : List ℕ) → slice_get names place ≡ Some name → IsSpelled loaded.alphabet (PairsOf n) (means name)
-        name_spelled_here name at_name =
-            subst (λ (x : List ℕ). IsSpelled loaded.alphabet (PairsOf n) (means x)) (same_Some w.name name (sym name_here ∙ at_name)) (record {
-              over = λ upper lower h. here.over upper lower ((relation upper lower).0 h);
-              same = λ u v. (
-                λ r. there u v ((names_unfold (project_in said) from.sound.acyclic from.sound.closed w.name u v).0 r),
-                λ r. (names_unfold (project_in said) from.sound.acyclic from.sound.closed w.name u v).1 (back u v r),
-              );
-            })
+          -- the name relates what its network does
+          pub name_spelled_here : (name : List ℕ) → slice_get names place ≡ Some name → IsSpelled loaded.alphabet (PairsOf n) (means name)
+          name_spelled_here name at_name =
+              subst (λ (x : List ℕ). IsSpelled loaded.alphabet (PairsOf n) (means x)) (same_Some w.name name (sym name_here ∙ at_name)) (record {
+                over = λ upper lower h. here.over upper lower ((relation upper lower).0 h);
+                same = λ u v. (
+                  λ r. there u v ((names_unfold (project_in said) from.sound.acyclic from.sound.closed w.name u v).0 r),
+                  λ r. (names_unfold (project_in said) from.sound.acyclic from.sound.closed w.name u v).1 (back u v r),
+                );
+              })
 
     -- a network that is built here shows the name
     pub shows_name : (name : List ℕ) → d.name ≡ name → (n : Network) (net : Automaton Pair) → IsBuiltAt loaded place n → AreSame (IsRelated net) (PairsOf n) → IsOverAlphabet loaded.alphabet net

@@ -8,3 +8,4 @@ pub mod Gathered
 pub mod Outside
 pub mod Ends
 pub mod Building
+pub mod Centres

@@ -1,10 +1,11 @@
-ghost use Rattle.std.specs.Prelude.{◌≡◌, ◌<◌, ◌++◌, ◌∷◌, [], ℕ, List, None, Option, Some, Contains, IfOk, OnOk, length, slice_get};
+ghost use Rattle.std.specs.Prelude.{◌≡◌, ◌<◌, ◌++◌, ◌∷◌, [], ℕ, List, None, Option, Some, Contains, IfErr, IfOk, OnOk, length, slice_get};
+ghost use Rattle.std.specs.Bool.{OnFalse, OnTrue};
 ghost use Rattle.regex_ast.specs.declared.expr.Atom.{Atom as Leaf};
 ghost use Rattle.regex_ast.specs.Terms.{term};
 ghost use Rattle.expr_leaves.specs.Leaves.{leaves_in, seen};
-ghost use Rattle.network_algebra.specs.declared.network.Network.{Network as NetworkOf};
 ghost use Rattle.project_model.specs.Plans.{body_term};
-ghost use Rattle.fsm_program.specs.Building.{AreBuilt, AreNamesAmong, ArePartsOf, HasParts, HasPut, IsBuiltAt};
+ghost use Rattle.fsm_program.specs.Centres.{CentresAreBuilt, HasFilled, HasNoCentre, HasNoOwn, IsWhyUnbuilt, OfPlace};
+ghost use Rattle.fsm_program.specs.Building.{AreBuilt, AreNamesAmong, ArePartsOf, HasParts, HasPut, IsBuiltAt, IsThere};
 
 use crate::project::Project;
 use expr_leaves::leaves;
@@ -99,8 +100,30 @@ fn parts_of<'a>(
     parts_in(alloc, expr, built)
 }
 
-/// The network of the definition at a place, of the networks that are built.
-fn built_of(
+/// The network of the definition at a place, of the networks that are built; there is none where one of its own centres has
+/// the empty word.
+pub fn built_of(
+    alloc: Global,
+    project: &Project,
+    place: usize,
+    built: &[Option<Network>],
+) -> Result<Network, BuildError>
+    requires place { place < length project.now.definitions }
+    requires built { AreBuilt project.now built.now }
+    requires parts { HasParts project.now built.now place }
+    ensures network { IfOk result (IsBuiltAt project.now place) }
+    ensures filled { OnOk result (OfPlace project.now place HasNoOwn) }
+    ensures error { IfErr result (IsWhyUnbuilt project.now place) }
+{
+    let plan = project.plan();
+    let all = plan.definitions();
+    let definition = &all[place];
+    let parts = parts_of(alloc, &definition.body, built)?;
+    build(alloc, definition, project.alphabet(), &parts)
+}
+
+/// The network of the definition at a place, which has no centre, of the networks that are built.
+fn plainly_built(
     alloc: Global,
     project: &Project,
     place: usize,
@@ -109,22 +132,20 @@ fn built_of(
     requires place { place < length project.now.definitions }
     requires built { AreBuilt project.now built.now }
     requires parts { HasParts project.now built.now place }
+    requires plain { HasNoCentre project.now place }
     ensures { IfOk result (IsBuiltAt project.now place) }
 {
-    let plan = project.plan();
-    let all = plan.definitions();
-    let definition = &all[place];
-    let parts = parts_of(alloc, &definition.body, built)?;
-    match build(alloc, definition, project.alphabet(), &parts) {
+    match built_of(alloc, project, place, built) {
         Ok(network) => Ok(network),
         Err(BuildError::Memory(error)) => Err(error),
+        Err(BuildError::EmptyCentre { .. }) => unreachable!(),
     }
 }
 
 /// No networks, for so many definitions.
-fn none_built(alloc: Global, count: usize) -> Result<Vec<Option<Network>>, AllocError>
+pub fn none_built(alloc: Global, count: usize) -> Result<Vec<Option<Network>>, AllocError>
     ensures count { IfOk result (λ built. length built.items ≡ count) }
-    ensures none { IfOk result (λ built. (place : ℕ) (n : NetworkOf) → slice_get built.items place ≡ Some (Some n) → ⊥) }
+    ensures none { IfOk result (λ built. (place : ℕ) → place < count → slice_get built.items place ≡ Some None) }
 {
     let mut built = Vec::new(alloc);
     'places: for _ in 0..count {
@@ -133,21 +154,68 @@ fn none_built(alloc: Global, count: usize) -> Result<Vec<Option<Network>>, Alloc
     Ok(built)
 }
 
+/// Whether the definition at a place has its network.
+fn has_network(built: &[Option<Network>], place: usize) -> bool
+    requires { place < length built.now }
+    ensures yes { OnTrue result (IsThere built.now place) }
+    ensures no { OnFalse result (slice_get built.now place ≡ Some None) }
+{
+    match &built[place] {
+        Some(_) => true,
+        None => false,
+    }
+}
+
+/// Builds the network of the definition at a place, where it isn't built already.
+fn fill(
+    alloc: Global,
+    project: &Project,
+    place: usize,
+    built: &mut Vec<Option<Network>>,
+) -> Result<(), AllocError>
+    requires place { place < length project.now.definitions }
+    requires built { CentresAreBuilt project.now built.old.items }
+    requires parts { HasParts project.now built.old.items place }
+    ensures { OnOk result (HasFilled project.now place built.old.items built.new.items) }
+{
+    if has_network(built, place) {
+        return Ok(());
+    }
+    let network = plainly_built(alloc, project, place, built)?;
+    built[place] = Some(network);
+    Ok(())
+}
+
+/// Takes the network at a place.
+fn taken(built: &mut [Option<Network>], place: usize) -> Network
+    requires { IsThere built.old place }
+    ensures { slice_get built.old place ≡ Some (Some result) }
+{
+    let Some(network) = built[place].take() else {
+        unreachable!()
+    };
+    network
+}
+
 /// The network of the definition at a place. The definitions that the project puts before it are built first, each once, since
-/// it may be made of their networks.
-pub fn network_at(alloc: Global, project: &Project, place: usize) -> Result<Network, AllocError>
-    requires { place < length project.now.definitions }
+/// it may be made of their networks; those with centres are built already.
+pub fn network_at(
+    alloc: Global,
+    project: &Project,
+    mut built: Vec<Option<Network>>,
+    place: usize,
+) -> Result<Network, AllocError>
+    requires place { place < length project.now.definitions }
+    requires centres { CentresAreBuilt project.now built.items }
     ensures { IfOk result (IsBuiltAt project.now place) }
 {
     let plan = project.plan();
     let order = plan.order();
-    let mut built = none_built(alloc, plan.definitions().len())?;
     'order: for next in order {
-        let network = built_of(alloc, project, *next, &built)?;
+        fill(alloc, project, *next, &mut built)?;
         if *next == place {
-            return Ok(network);
+            return Ok(taken(&mut built, place));
         }
-        built[*next] = Some(network);
     }
     unreachable!()
 }

@@ -4,15 +4,17 @@ ghost use Rattle.lookup.specs.Answering.{IsOverAlphabet};
 ghost use Rattle.project_meaning.specs.Projects.{Project as Meant};
 ghost use Rattle.reply_meaning.specs.Replies.{RepliesToWord};
 ghost use Rattle.project_sources.specs.Sources.{Said, project_in};
+ghost use Rattle.fsm_program.specs.Centres.{CentresAreBuilt};
 ghost use Rattle.fsm_program.specs.Loaded.{IsLoadedFrom};
 ghost use Rattle.fsm_program.specs.Networks.{Shows, ShowsNet};
 
 use crate::answers::reply_in;
 use crate::building::network_at;
 use crate::project::Project;
+use crate::ready::Ready;
 use fsm_base::Text;
 use lookup_answers::Direction;
-use network_build::Compiled;
+use network_build::{Compiled, Network as NetworkOf};
 use reply_text::no_net;
 use std::alloc::{AllocError, Global};
 use std::marker::Model;
@@ -42,13 +44,19 @@ impl Model for Network {
 }
 
 /// The network of a name, ready for look-ups, if the project defines the name.
-fn find_net(alloc: Global, project: &Project, name: &str) -> Result<Option<Compiled>, AllocError>
+fn find_net(
+    alloc: Global,
+    project: &Project,
+    built: Vec<Option<NetworkOf>>,
+    name: &str,
+) -> Result<Option<Compiled>, AllocError>
+    requires { CentresAreBuilt project.now built.items }
     ensures shows { (said : Said) → IsLoadedFrom said project.now → IfOk result (λ compiled. ShowsNet project.now.alphabet name.now (option_map (λ c. c.net) compiled) (project_in said)) }
     ensures over { IfOk result (λ compiled. IfSome compiled (λ c. IsOverAlphabet project.now.alphabet c.net)) }
 {
     match project.find(name) {
         Some(place) => {
-            let network = network_at(alloc, project, place)?;
+            let network = network_at(alloc, project, built, place)?;
             Ok(Some(Compiled::of(alloc, network)?))
         }
         None => Ok(None),
@@ -57,11 +65,12 @@ fn find_net(alloc: Global, project: &Project, name: &str) -> Result<Option<Compi
 
 impl Network {
     /// The network of this name in a project.
-    pub fn of(alloc: Global, project: Project, name: Text) -> Result<Network, AllocError>
-        ensures shows { (said : Said) → IsLoadedFrom said project → IfOk result (λ network. Shows network (project_in said)) }
+    pub fn of(alloc: Global, ready: Ready, name: Text) -> Result<Network, AllocError>
+        ensures shows { (said : Said) → IsLoadedFrom said ready → IfOk result (λ network. Shows network (project_in said)) }
         ensures name { IfOk result (λ network. network.name ≡ name) }
     {
-        let compiled = find_net(alloc, &project, name.as_str())?;
+        let (project, built) = ready.into_parts();
+        let compiled = find_net(alloc, &project, built, name.as_str())?;
         Ok(Network {
             project,
             name,

@@ -133,7 +133,7 @@ fn check<F: Folder, O: Sink>(alloc: Global, version: u64, folder: &mut F, output
     ensures asked { AskedForFiles (F.files folder.old) (F.asked folder.old) (F.asked folder.new) }
 {
     match load(alloc, folder, MOST_READ) {
-        Ok(project) => say_names(alloc, version, &project, output),
+        Ok(ready) => say_names(alloc, version, ready.project(), output),
         Err(error) => not_loaded(alloc, error, output),
     }
 }
@@ -180,11 +180,11 @@ fn look_up<F: Folder, I: Source, O: Sink>(
     let Ok(outbox) = Outbox::open(alloc, OUTBOX_ROOM) else {
         return 5;
     };
-    let project = match load(alloc, folder, MOST_READ) {
-        Ok(project) => project,
+    let ready = match load(alloc, folder, MOST_READ) {
+        Ok(ready) => ready,
         Err(error) => return not_loaded(alloc, error, output),
     };
-    match Network::of(alloc, project, net) {
+    match Network::of(alloc, ready, net) {
         Ok(network) => {
             let look_up = LookUp {
                 network,

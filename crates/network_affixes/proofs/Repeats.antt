@@ -7,7 +7,7 @@ use Rattle.word_relations.specs.Words.{joined}
 use Rattle.word_relations.specs.Relations.{AreSame, IsRepetitionOfPairs, IsUpper, IsLower}
 use Rattle.word_relations.proofs.Pairs.{repetition_one, repetition_append, repetition_single, same_trans, same_back}
 use Rattle.regex_ast.specs.declared.expr.Suffix.{Suffix}
-use Rattle.regex_ast.specs.declared.expr.Suffix.TheVariants.{Star, Plus, Power, Upper, Lower, Inverse, Reverse}
+use Rattle.regex_ast.specs.declared.expr.Suffix.TheVariants.{Star, Plus, Power, Upper, Lower}
 use Rattle.expr_kinds.specs.Kinds.{kind_behind, with_suffixes}
 use Rattle.expr_kinds.specs.declared.form.Kind.{Kind}
 use Rattle.expr_kinds.specs.declared.form.Kind.TheVariants.{Language}

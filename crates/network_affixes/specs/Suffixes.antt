@@ -1,7 +1,7 @@
 -- What suffixes make of networks, and which of them make nothing new behind another.
-use Rattle.std.specs.Prelude.{◌≡◌, Option, None, Some}
+use Rattle.std.specs.Prelude.{◌≡◌, Option, Some}
 use Rattle.regex_ast.specs.declared.expr.Suffix.{Suffix}
-use Rattle.regex_ast.specs.declared.expr.Suffix.TheVariants.{Star, Plus, Power, Upper, Lower, Inverse, Reverse}
+use Rattle.regex_ast.specs.declared.expr.Suffix.TheVariants.{Star, Plus, Power, Upper, Lower}
 use Rattle.expr_kinds.specs.Kinds.{kind_behind}
 use Rattle.expr_meaning.specs.Operators.{IsSuffixed, RelatesSuffixed}
 use Rattle.network_algebra.specs.Networks.{IsFor, WordsOf, PairsOf, kind_of_network}

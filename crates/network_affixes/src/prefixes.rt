@@ -4,6 +4,7 @@ ghost use Rattle.fsm_base.specs.declared.letters.Sym.{Sym};
 ghost use Rattle.word_relations.specs.Words.{IsDistinct};
 ghost use Rattle.fsa.specs.Language.{Accepts};
 ghost use Rattle.expr_meaning.specs.Operators.{ArePrefixed, IsNotOne};
+ghost use Rattle.network_affixes.specs.Few.{IsFewOf};
 ghost use Rattle.network_algebra.specs.Networks.{UsesOnly, all_letters};
 
 use fsa::Fsa;
@@ -44,6 +45,13 @@ pub fn apply_prefixes(
     Ok(words)
 }
 
+/// One backslash or two that make the same as more of them: the third one turns back what the second one did.
+fn few_of(count: u32) -> u32
+    ensures { IsFewOf result count }
+{
+    if count > 2 { 2 - count % 2 } else { count }
+}
+
 /// A language with so many backslashes.
 pub fn not_one_times(
     alloc: Global,
@@ -56,7 +64,7 @@ pub fn not_one_times(
     ensures letters { IfOk result (UsesOnly (all_letters alphabet.now)) }
     ensures words { IfOk result (λ m. (w : List (Bound Sym)) → Accepts m w ↔ IsNotOne alphabet.now count (Accepts words) w) }
 {
-    'times: for _ in 0..count {
+    'times: for _ in 0..few_of(count) {
         words = not_one(alloc, alphabet, &words)?;
     }
     Ok(words)

@@ -1,3 +1,4 @@
 pub mod Built
+mod Free
 mod Sounds
 mod Uses

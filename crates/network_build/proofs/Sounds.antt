@@ -1,7 +1,7 @@
 -- An expression is built over its alphabet and over its own symbols, and which symbols its network has.
-use Rattle.std.proofs.Common.{◌≡◌, ◌↔◌, ◌⊎◌, ◌==◌, ◌||◌, ℕ, Bool, true, false, List, [], ◌∷◌, Contains, IsTrue, Result, Ok, Err, IfOk, refl, sym, subst, ap, ◌∙◌, inl, inr, eq-eqb}
+use Rattle.std.proofs.Common.{◌≡◌, ◌↔◌, ◌⊎◌, ◌==◌, ◌||◌, ℕ, Bool, true, false, List, [], ◌∷◌, All, Contains, IsTrue, Result, Ok, Err, IfOk, refl, sym, subst, ap, ◌∙◌, inl, inr, eq-eqb}
 use Rattle.std.proofs.lemmas.Bool.{eqb-true}
-use Rattle.std.proofs.lemmas.List.Elements.{All-contains, All-contains_itself, All-weaker}
+use Rattle.std.proofs.lemmas.List.Elements.{All-nil, All-contains, All-contains_itself, All-weaker}
 use Rattle.std.proofs.lemmas.Map.Views.{Contains-from_any}
 use Rattle.std.specs.Borrow.{Bor}
 use Rattle.std.specs.List.{list_any}
@@ -20,19 +20,23 @@ use Rattle.lookup.specs.Answering.{IsOverAlphabet}
 use Rattle.regex_ast.specs.declared.expr.Atom.{Atom}
 use Rattle.regex_ast.specs.declared.expr.Atom.TheVariants.{Sym, Name}
 use Rattle.regex_ast.specs.Terms.{Term}
-use Rattle.expr_kinds.proofs.Ruleless.{with_rules}
 use Rattle.expr_kinds.specs.Atoms.{is_symbol_of}
+use Rattle.expr_kinds.specs.Built.{IsBuiltBy}
 use Rattle.expr_meaning.specs.Meaning.{Relates}
 use Rattle.expr_meaning.specs.Operators.{inner}
+use Rattle.expr_leaves.specs.Alphabet.{uses_alphabet}
 use Rattle.expr_leaves.specs.Leaves.{leaves_in, seen}
 use Rattle.network_algebra.specs.Networks.{IsNetwork, UsesSymbols, all_letters}
 use Rattle.network_algebra.specs.declared.network.Network.{Network}
 use Rattle.network_algebra.specs.declared.network.Network.TheVariants.{Words, Pairs}
-use Rattle.network_expr.specs.Built.{IsBuiltOver, IsMeant, IsPlainOver}
+use Rattle.network_rules.specs.Rules.{IsFilled}
+use Rattle.network_expr.specs.Built.{IsBuiltOver, IsMeant}
 use Rattle.network_expr.specs.Parts.{IsGround, is_leaf_of, stands}
 use Rattle.network_expr.specs.declared.parts.Part.{Part}
+use Rattle.network_centres.proofs.Filled.{filled_built}
 use Rattle.network_build.specs.Networks.{IsNetworkOf, MayUse, PartsUse, UsesSymbol}
 use Rattle.network_build.proofs.Built.{built_alone, built_by, leaves_pass}
+use Rattle.network_build.proofs.Free.{no_centres}
 
 same_number : (a b : Symbol) → (b.0 == a.0) ≡ true → a ≡ b
 same_number a b e = ap (λ (n : ℕ). record { 0 = n }) (sym (eqb-true b.0 a.0 e))
@@ -60,12 +64,8 @@ letter_is_leaf : (parts : List Part) (alphabet : List Symbol) (a : Atom) → IsT
 letter_is_leaf parts alphabet (Sym s) h = h
 letter_is_leaf parts alphabet (Name name) h = absurd (never h)
 
--- what has no replacement is built whatever is asked of centres
-pub plain_is_built : (parts : List Part) (alphabet : List Symbol) (e : Term Atom) → IsPlainOver parts alphabet e → IsBuiltOver parts alphabet e
-plain_is_built parts alphabet e h = with_rules (is_leaf_of parts alphabet) (is_symbol_of alphabet) _ _ e h
-
 -- a symbol that stands in an expression that is built is of the alphabet
-stands_within : (parts : List Part) (alphabet : List Symbol) (e : Term Atom) → IsPlainOver parts alphabet e → (s : Symbol) → Contains (leaves_in e) (Sym s) → Contains alphabet s
+stands_within : (parts : List Part) (alphabet : List Symbol) (e : Term Atom) → IsBuiltBy (is_leaf_of parts alphabet) (is_symbol_of alphabet) e → (s : Symbol) → Contains (leaves_in e) (Sym s) → Contains alphabet s
 stands_within parts alphabet e built s at =
     let alone = built_alone (is_leaf_of parts alphabet) (is_symbol_of alphabet) (letter_is_leaf parts alphabet) e built in
     symbol_held alphabet s (All-contains (λ (x : Atom). IsTrue (is_leaf_of parts alphabet x)) (leaves_in e) (Sym s) (leaves_pass (is_leaf_of parts alphabet) e alone) at)
@@ -112,9 +112,13 @@ module _ (parts : List Part) (alphabet own : List Symbol) (e : Term Atom) (mine 
         (λ part among. network_within own part.network.now (λ s used. (mine s).1 (inr (part, among, used)))) parts (All-contains_itself parts);
   }
 
-  pub built_over_own : IsPlainOver parts alphabet e → IsPlainOver parts own e
-  built_over_own built =
-      built_by (is_leaf_of parts alphabet) (is_symbol_of alphabet) (is_leaf_of parts own) (is_symbol_of own) e built (leaf, letter)
+  -- an expression that doesn't use the alphabet has no centre
+  pub built_over_own : uses_alphabet e ≡ false → IsBuiltBy (is_leaf_of parts alphabet) (is_symbol_of alphabet) e → IsBuiltOver parts own e
+  built_over_own free built =
+      let Filled = IsFilled (stands parts) own in
+      filled_built (is_leaf_of parts own) (is_symbol_of own) Filled e
+      (built_by (is_leaf_of parts alphabet) (is_symbol_of alphabet) (is_leaf_of parts own) (is_symbol_of own) e built (leaf, letter))
+      (subst (All Filled) (sym (no_centres e free)) (All-nil Filled))
     where
       leaf : (a : Atom) → Contains (leaves_in e) a → IsTrue (is_leaf_of parts alphabet a) → IsTrue (is_leaf_of parts own a)
       leaf (Sym s) at h = symbol_passes own s ((mine s).1 (inl at))
@@ -125,7 +129,7 @@ module _ (parts : List Part) (alphabet own : List Symbol) (e : Term Atom) (mine 
       letter (Name name) at h = absurd (never h)
 
   -- the own symbols are of the alphabet
-  pub own_within : IsGround alphabet parts → IsPlainOver parts alphabet e → (s : Symbol) → Contains own s → Contains alphabet s
+  pub own_within : IsGround alphabet parts → IsBuiltBy (is_leaf_of parts alphabet) (is_symbol_of alphabet) e → (s : Symbol) → Contains own s → Contains alphabet s
   own_within ground built s at = elim ((mine s).0 at) as (λ _. Contains alphabet s) [
     | inl stood ↦ stands_within parts alphabet e built s stood
     | inr (part, among, used) ↦ network_has alphabet part.network.now (All-contains (λ (p : Part). IsNetwork alphabet p.network.now) parts part ground.over among) s used

@@ -15,8 +15,13 @@ use Rattle.expr_leaves.specs.Leaves.{leaves_in}
 use Rattle.network_algebra.specs.Networks.{IsNetwork, PairsOf, kind_of_network}
 use Rattle.network_algebra.specs.declared.network.Network.{Network}
 use Rattle.network_algebra.specs.declared.network.Network.TheVariants.{Words, Pairs}
+use Rattle.network_centres.specs.Centres.{HasEmptyCentre}
 use Rattle.network_expr.specs.Parts.{kinds, stands}
 use Rattle.network_expr.specs.declared.parts.Part.{Part}
+use Rattle.project_model.specs.Plans.{body_term}
+use Rattle.project_model.specs.declared.definition.Definition.{Definition}
+use Rattle.network_build.specs.declared.compiled.BuildError.{BuildError}
+use Rattle.network_build.specs.declared.compiled.BuildError.TheVariants.{Memory, EmptyCentre}
 
 -- a network that is ready for look-ups as contracts see it: its automaton
 pub record CompiledView : Type 0 where
@@ -46,3 +51,8 @@ pub record IsNetworkOf (parts : List Part) (alphabet : List Symbol) (e : Term At
   pub relation : AreSame (PairsOf n) (Relates (stands parts) alphabet e)
   pub symbols : (s : Symbol) → UsesSymbol n s → MayUse parts alphabet e s
   pub over : IsNetwork alphabet n
+
+-- one of the definition's own centres has the empty word, or there is no memory
+abbrev pub IsWhyNotBuilt : List Part → List Symbol → Definition → BuildError → Type 0
+IsWhyNotBuilt parts alphabet d (Memory refused) = Unit {0}
+IsWhyNotBuilt parts alphabet d (EmptyCentre line) = (line ≡ d.line) × HasEmptyCentre parts alphabet (body_term d.body)

@@ -19,6 +19,12 @@ pub enum BuildError {
     /// There was no memory.
     #[error(transparent)]
     Memory(AllocError),
+    /// One of the definition's own centres of replacement has the empty word.
+    #[error("a centre in the definition on line {line} has the empty word")]
+    EmptyCentre {
+        /// The line of the definition's statement.
+        line: u32,
+    },
 }
 
 impl From<AllocError> for BuildError {

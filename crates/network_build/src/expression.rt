@@ -1,9 +1,11 @@
 ghost use Rattle.std.specs.Prelude.{◌≡◌, IfOk, false, true};
 ghost use Rattle.regex_ast.specs.Terms.{term};
+ghost use Rattle.expr_kinds.specs.Atoms.{is_symbol_of};
+ghost use Rattle.expr_kinds.specs.Built.{IsBuiltBy};
 ghost use Rattle.expr_kinds.specs.Kinds.{Fits};
 ghost use Rattle.expr_leaves.specs.Alphabet.{uses_alphabet};
-ghost use Rattle.network_expr.specs.Built.{IsPlainOver};
-ghost use Rattle.network_expr.specs.Parts.{IsGround, kinds};
+ghost use Rattle.network_centres.specs.Centres.{HasEmptyCentre};
+ghost use Rattle.network_expr.specs.Parts.{IsGround, is_leaf_of, kinds};
 ghost use Rattle.network_build.specs.Networks.{IsNetworkOf};
 
 use crate::symbols::symbols_among;
@@ -23,7 +25,8 @@ pub fn network_over(
     expr: &Expr<Atom>,
 ) -> Result<Network, AllocError>
     requires ground { IsGround alphabet.now parts.now }
-    requires built { IsPlainOver parts.now alphabet.now (term expr.now) }
+    requires built { IsBuiltBy (is_leaf_of parts.now alphabet.now) (is_symbol_of alphabet.now) (term expr.now) }
+    requires filled { ¬ HasEmptyCentre parts.now alphabet.now (term expr.now) }
     requires fits { Fits (kinds parts.now) (term expr.now) }
     ensures { IfOk result (IsNetworkOf parts.now alphabet.now (term expr.now)) }
 {
@@ -42,7 +45,8 @@ fn over_alphabet(
     expr: &Expr<Atom>,
 ) -> Result<Network, AllocError>
     requires ground { IsGround alphabet.now parts.now }
-    requires built { IsPlainOver parts.now alphabet.now (term expr.now) }
+    requires built { IsBuiltBy (is_leaf_of parts.now alphabet.now) (is_symbol_of alphabet.now) (term expr.now) }
+    requires filled { ¬ HasEmptyCentre parts.now alphabet.now (term expr.now) }
     requires fits { Fits (kinds parts.now) (term expr.now) }
     requires uses { uses_alphabet (term expr.now) ≡ true }
     ensures { IfOk result (IsNetworkOf parts.now alphabet.now (term expr.now)) }
@@ -58,7 +62,7 @@ fn over_own_symbols(
     expr: &Expr<Atom>,
 ) -> Result<Network, AllocError>
     requires ground { IsGround alphabet.now parts.now }
-    requires built { IsPlainOver parts.now alphabet.now (term expr.now) }
+    requires built { IsBuiltBy (is_leaf_of parts.now alphabet.now) (is_symbol_of alphabet.now) (term expr.now) }
     requires fits { Fits (kinds parts.now) (term expr.now) }
     requires free { uses_alphabet (term expr.now) ≡ false }
     ensures { IfOk result (IsNetworkOf parts.now alphabet.now (term expr.now)) }

@@ -2,7 +2,7 @@
 use Rattle.std.proofs.Common.{List, ◌∷◌, ◌++◌, Bool, All}
 use Rattle.std.proofs.lemmas.List.Elements.{All-head, All-tail}
 use Rattle.regex_ast.specs.Terms.{Term, Terms, Links, Contexts, Steps, Mappings, Groups, empty, any, edge, atom, letters, group, maybe, not_one, cross, suffixed, prefixed, ignore, concat, chain, only, rules, steps, no_term, then_term, no_link, or, and, less, no_context, between, no_step, cross_with, then, no_mapping, plain, markup, insert, no_group, then_group}
-use Rattle.expr_kinds.specs.Built.{AnyCentre, IsBuiltWith, AreBuiltWith, LinksAreBuiltWith, ContextsAreBuiltWith, StepsAreBuiltWith, MappingsAreBuiltWith, GroupsAreBuiltWith, WithRules}
+use Rattle.expr_kinds.specs.Built.{AnyCentre, IsBuiltWith, AreBuiltWith, LinksAreBuiltWith, ContextsAreBuiltWith, StepsAreBuiltWith, MappingsAreBuiltWith, GroupsAreBuiltWith}
 use Rattle.network_sets.proofs.Inside.{over_left, over_right}
 use Rattle.project_meaning.specs.Centres.{centres_in, centres_in_contexts, centres_in_each, centres_in_groups, centres_in_links, centres_in_mappings, centres_in_steps}
 
@@ -14,7 +14,7 @@ module _ {A : Type 0} (leaf letter : A → Bool) (Centre : Term A → Type 0) wh
   back xs ys h = over_right Centre xs ys h
 
   mutual
-    pub filled_built : (e : Term A) → IsBuiltWith leaf letter WithRules AnyCentre e → All Centre (centres_in e) → IsBuiltWith leaf letter WithRules Centre e
+    pub filled_built : (e : Term A) → IsBuiltWith leaf letter AnyCentre e → All Centre (centres_in e) → IsBuiltWith leaf letter Centre e
     filled_built empty b h = tt
     filled_built any b h = tt
     filled_built edge b h = tt
@@ -33,17 +33,17 @@ module _ {A : Type 0} (leaf letter : A → Bool) (Centre : Term A → Type 0) wh
     filled_built (rules optional groups) b h = groups_filled groups b h
     filled_built (steps e more) b h = (filled_built e b.0 (front (centres_in e) (centres_in_steps more) h), steps_filled more b.1 (back (centres_in e) (centres_in_steps more) h))
 
-    each_filled : (es : Terms A) → AreBuiltWith leaf letter WithRules AnyCentre es → All Centre (centres_in_each es) → AreBuiltWith leaf letter WithRules Centre es
+    each_filled : (es : Terms A) → AreBuiltWith leaf letter AnyCentre es → All Centre (centres_in_each es) → AreBuiltWith leaf letter Centre es
     each_filled no_term b h = tt
     each_filled (then_term e es) b h = (filled_built e b.0 (front (centres_in e) (centres_in_each es) h), each_filled es b.1 (back (centres_in e) (centres_in_each es) h))
 
-    links_filled : (links : Links A) → LinksAreBuiltWith leaf letter WithRules AnyCentre links → All Centre (centres_in_links links) → LinksAreBuiltWith leaf letter WithRules Centre links
+    links_filled : (links : Links A) → LinksAreBuiltWith leaf letter AnyCentre links → All Centre (centres_in_links links) → LinksAreBuiltWith leaf letter Centre links
     links_filled no_link b h = tt
     links_filled (or e links) b h = (filled_built e b.0 (front (centres_in e) (centres_in_links links) h), links_filled links b.1 (back (centres_in e) (centres_in_links links) h))
     links_filled (and e links) b h = (filled_built e b.0 (front (centres_in e) (centres_in_links links) h), links_filled links b.1 (back (centres_in e) (centres_in_links links) h))
     links_filled (less e links) b h = (filled_built e b.0 (front (centres_in e) (centres_in_links links) h), links_filled links b.1 (back (centres_in e) (centres_in_links links) h))
 
-    contexts_filled : (contexts : Contexts A) → ContextsAreBuiltWith leaf letter WithRules AnyCentre contexts → All Centre (centres_in_contexts contexts) → ContextsAreBuiltWith leaf letter WithRules Centre contexts
+    contexts_filled : (contexts : Contexts A) → ContextsAreBuiltWith leaf letter AnyCentre contexts → All Centre (centres_in_contexts contexts) → ContextsAreBuiltWith leaf letter Centre contexts
     contexts_filled no_context b h = tt
     contexts_filled (between l r contexts) b h =
         let sides = front (centres_in l ++ centres_in r) (centres_in_contexts contexts) h in (
@@ -52,12 +52,12 @@ module _ {A : Type 0} (leaf letter : A → Bool) (Centre : Term A → Type 0) wh
           contexts_filled contexts b.2 (back (centres_in l ++ centres_in r) (centres_in_contexts contexts) h),
         )
 
-    steps_filled : (more : Steps A) → StepsAreBuiltWith leaf letter WithRules AnyCentre more → All Centre (centres_in_steps more) → StepsAreBuiltWith leaf letter WithRules Centre more
+    steps_filled : (more : Steps A) → StepsAreBuiltWith leaf letter AnyCentre more → All Centre (centres_in_steps more) → StepsAreBuiltWith leaf letter Centre more
     steps_filled no_step b h = tt
     steps_filled (cross_with e more) b h = (filled_built e b.0 (front (centres_in e) (centres_in_steps more) h), steps_filled more b.1 (back (centres_in e) (centres_in_steps more) h))
     steps_filled (then e more) b h = (filled_built e b.0 (front (centres_in e) (centres_in_steps more) h), steps_filled more b.1 (back (centres_in e) (centres_in_steps more) h))
 
-    mappings_filled : (maps : Mappings A) → MappingsAreBuiltWith leaf letter WithRules AnyCentre maps → All Centre (centres_in_mappings maps) → MappingsAreBuiltWith leaf letter WithRules Centre maps
+    mappings_filled : (maps : Mappings A) → MappingsAreBuiltWith leaf letter AnyCentre maps → All Centre (centres_in_mappings maps) → MappingsAreBuiltWith leaf letter Centre maps
     mappings_filled no_mapping b h = tt
     mappings_filled (plain c r maps) b h =
         let parts = front (c ∷ centres_in c ++ centres_in r) (centres_in_mappings maps) h in
@@ -79,7 +79,7 @@ module _ {A : Type 0} (leaf letter : A → Bool) (Centre : Term A → Type 0) wh
         )
     mappings_filled (insert r maps) b h = absurd b
 
-    groups_filled : (groups : Groups A) → GroupsAreBuiltWith leaf letter WithRules AnyCentre groups → All Centre (centres_in_groups groups) → GroupsAreBuiltWith leaf letter WithRules Centre groups
+    groups_filled : (groups : Groups A) → GroupsAreBuiltWith leaf letter AnyCentre groups → All Centre (centres_in_groups groups) → GroupsAreBuiltWith leaf letter Centre groups
     groups_filled no_group b h = tt
     groups_filled (then_group maps side contexts groups) b h =
         let parts = front (centres_in_mappings maps ++ centres_in_contexts contexts) (centres_in_groups groups) h in (

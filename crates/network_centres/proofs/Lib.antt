@@ -3,3 +3,4 @@ mod Ready
 pub mod Filled
 pub mod Mapped
 pub mod Seen
+pub mod Within

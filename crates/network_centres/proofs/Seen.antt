@@ -10,7 +10,7 @@ use Rattle.regex_ast.specs.declared.expr.Atom.{Atom}
 use Rattle.regex_ast.specs.declared.expr.Expr.{Expr}
 use Rattle.regex_ast.specs.Terms.{Term, term}
 use Rattle.expr_kinds.specs.Atoms.{is_symbol_of}
-use Rattle.expr_kinds.specs.Built.{IsBuiltWith, WithRules, AnyCentre}
+use Rattle.expr_kinds.specs.Built.{IsBuiltWith, AnyCentre}
 use Rattle.expr_kinds.specs.Kinds.{Fits, IsLanguage}
 use Rattle.expr_meaning.specs.Meaning.{In}
 use Rattle.project_meaning.specs.Centres.{centres_in}
@@ -50,7 +50,7 @@ module _ (parts : List Part) (alphabet : List Sym) (e : Term Atom) where
   has_empty unseen c so_far empty = (c, is_centre unseen c so_far, empty)
 
   -- the language of the last unseen one can be built
-  pub next_ready : (unseen : List (Term Atom)) (c : Term Atom) → AreSeen (unseen ++ c ∷ []) → IsBuiltWith (is_leaf_of parts alphabet) (is_symbol_of alphabet) WithRules AnyCentre e → Fits (kinds parts) e
+  pub next_ready : (unseen : List (Term Atom)) (c : Term Atom) → AreSeen (unseen ++ c ∷ []) → IsBuiltWith (is_leaf_of parts alphabet) (is_symbol_of alphabet) AnyCentre e → Fits (kinds parts) e
       → IsBuiltOver parts alphabet c × Fits (kinds parts) c × IsLanguage (kinds parts) c
   next_ready unseen c so_far built fits =
       let Filled = IsFilled (stands parts) alphabet in
@@ -61,7 +61,7 @@ module _ (parts : List Part) (alphabet : List Sym) (e : Term Atom) where
       (filled_built (is_leaf_of parts alphabet) (is_symbol_of alphabet) Filled c ready.built inside, ready.fits, ready.language)
 
   -- where no centre has the empty word, the network can be built
-  pub filled_over : IsBuiltWith (is_leaf_of parts alphabet) (is_symbol_of alphabet) WithRules AnyCentre e → (HasEmptyCentre parts alphabet e → ⊥) → IsBuiltOver parts alphabet e
+  pub filled_over : IsBuiltWith (is_leaf_of parts alphabet) (is_symbol_of alphabet) AnyCentre e → (HasEmptyCentre parts alphabet e → ⊥) → IsBuiltOver parts alphabet e
   filled_over built none =
       let Filled = IsFilled (stands parts) alphabet in
       filled_built (is_leaf_of parts alphabet) (is_symbol_of alphabet) Filled e built
@@ -73,5 +73,5 @@ module _ (parts : List Part) (alphabet : List Sym) (e : Term Atom) where
   pub none_empty : AreSeen [] → HasEmptyCentre parts alphabet e → ⊥
   none_empty all has = All-contains (IsFilled (stands parts) alphabet) (centres_in e) has.0 (all_filled all) has.1 has.2
 
-  pub whole_built : AreSeen [] → IsBuiltWith (is_leaf_of parts alphabet) (is_symbol_of alphabet) WithRules AnyCentre e → IsBuiltOver parts alphabet e
+  pub whole_built : AreSeen [] → IsBuiltWith (is_leaf_of parts alphabet) (is_symbol_of alphabet) AnyCentre e → IsBuiltOver parts alphabet e
   whole_built all built = filled_over built (none_empty all)

@@ -2,7 +2,7 @@ ghost use Rattle.std.specs.Prelude.{◌↔◌, [], IfOk, IsTrue};
 ghost use Rattle.std.specs.Bool.{OnFalse};
 ghost use Rattle.regex_ast.specs.Terms.{term};
 ghost use Rattle.expr_kinds.specs.Atoms.{is_symbol_of};
-ghost use Rattle.expr_kinds.specs.Built.{IsBuiltWith, WithRules, AnyCentre};
+ghost use Rattle.expr_kinds.specs.Built.{IsBuiltWith, AnyCentre};
 ghost use Rattle.expr_kinds.specs.Kinds.{Fits, IsLanguage};
 ghost use Rattle.expr_meaning.specs.Meaning.{In};
 ghost use Rattle.network_expr.specs.Built.{IsBuiltOver};
@@ -40,7 +40,7 @@ pub fn has_empty_centre(
     expr: &Expr<Atom>,
 ) -> Result<bool, AllocError>
     requires ground { IsGround alphabet.now parts.now }
-    requires built { IsBuiltWith (is_leaf_of parts.now alphabet.now) (is_symbol_of alphabet.now) WithRules AnyCentre (term expr.now) }
+    requires built { IsBuiltWith (is_leaf_of parts.now alphabet.now) (is_symbol_of alphabet.now) AnyCentre (term expr.now) }
     requires fits { Fits (kinds parts.now) (term expr.now) }
     ensures empty { IfOk result (λ empty. IsTrue empty ↔ HasEmptyCentre parts.now alphabet.now (term expr.now)) }
     ensures filled { IfOk result (λ empty. OnFalse empty (IsBuiltOver parts.now alphabet.now (term expr.now))) }

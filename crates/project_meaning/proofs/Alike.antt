@@ -13,7 +13,7 @@ use Rattle.expr_meaning.specs.Operators.{inner, IsEmpty, IsItself, WithEdge, Are
 use Rattle.expr_meaning.specs.Replacement.{IsAround, IsAllowed, IsRewritten}
 use Rattle.expr_meaning.specs.Meaning.{InLeaves, In, InEach, InIgnoring, InChain, InContext, InSteps, IsCentre, IsMapped, Replaces, Applies, Relates, RelatesEach, RelatesChain, RelatesSteps}
 use Rattle.project_meaning.specs.Trees.{Piece, letter, Form, sides, pairs, Entry, Lexicon, Body, xfst, lexc, twolc}
-use Rattle.project_meaning.specs.Lexicons.{letters_of, flags_pass, IsEntryOf, FormAdds, IsPath, LexiconsRelate}
+use Rattle.project_meaning.specs.Lexicons.{text_in, letters_of, flags_pass, IsEntryOf, FormAdds, IsPath, LexiconsRelate}
 use Rattle.project_meaning.specs.Leaves.{Leaf, symbol, named, name_in, names_in, expressions_in, forms_in}
 use Rattle.project_meaning.specs.Meaning.{Word, stands_for, BodyRelates}
 use Rattle.project_meaning.proofs.Places.{in_front, in_back, in_flat}
@@ -255,19 +255,19 @@ module _ (means other : List ℕ → Word → Word → Type 0) (alphabet : List 
 
   module _ (lexicons : List (Lexicon Leaf)) (same : Same (flat_map (λ (e : Term Leaf). listed name_in e) (flat_map expressions_in (forms_in lexicons)))) where
     same_form : (form : Form Leaf) → ((e : Term Leaf) → Contains (expressions_in form) e → Same (listed name_in e))
-        → FormAdds (stands_for means) alphabet lexicons form ≡ FormAdds (stands_for other) alphabet lexicons form
+        → FormAdds text_in (stands_for means) alphabet lexicons form ≡ FormAdds text_in (stands_for other) alphabet lexicons form
     same_form (sides upper lower) each = refl
     same_form (pairs e) each =
         let relation = same_relation e (each e (Contains-head e [])) in
         λ i x y. (u : Word) × (w : Word) × relation i u w × (x ≡ map letter u) × (y ≡ map letter w)
 
-    same_entry : (name : List ℕ) (entry : Entry Leaf) → IsEntryOf lexicons name entry → FormAdds (stands_for means) alphabet lexicons entry.form ≡ FormAdds (stands_for other) alphabet lexicons entry.form
+    same_entry : (name : List ℕ) (entry : Entry Leaf) → IsEntryOf lexicons name entry → FormAdds text_in (stands_for means) alphabet lexicons entry.form ≡ FormAdds text_in (stands_for other) alphabet lexicons entry.form
     same_entry name entry (lexicon, h, is, g) = same_form entry.form (λ e k name r. same name
         (in_flat (λ (e : Term Leaf). listed name_in e) (flat_map expressions_in (forms_in lexicons)) e name
         (in_flat expressions_in (forms_in lexicons) entry.form e
         (in_flat (λ (l : Lexicon Leaf). map (λ (x : Entry Leaf). x.form) l.entries) lexicons lexicon entry.form h (Contains-map (λ (x : Entry Leaf). x.form) lexicon.entries entry g)) k) r))
 
-    same_path : (from : Option (List ℕ)) (entries : List (Entry Leaf)) → IsPath (stands_for means) alphabet lexicons from entries ≡ IsPath (stands_for other) alphabet lexicons from entries
+    same_path : (from : Option (List ℕ)) (entries : List (Entry Leaf)) → IsPath text_in (stands_for means) alphabet lexicons from entries ≡ IsPath text_in (stands_for other) alphabet lexicons from entries
     same_path None [] = refl
     same_path None (entry ∷ entries) = refl
     same_path (Some name) [] = refl
@@ -276,7 +276,7 @@ module _ (means other : List ℕ → Word → Word → Type 0) (alphabet : List 
         λ i x y. (x1 : List (Piece (List ℕ))) × (x2 : List (Piece (List ℕ))) × (y1 : List (Piece (List ℕ))) × (y2 : List (Piece (List ℕ)))
         × (member : IsEntryOf lexicons name entry) × same_entry name entry member i x1 y1 × rest i x2 y2 × (x ≡ x1 ++ x2) × (y ≡ y1 ++ y2)
 
-    same_lexicons : LexiconsRelate (stands_for means) alphabet lexicons ≡ LexiconsRelate (stands_for other) alphabet lexicons
+    same_lexicons : LexiconsRelate text_in (stands_for means) alphabet lexicons ≡ LexiconsRelate text_in (stands_for other) alphabet lexicons
     same_lexicons = λ i u w. (path : List (Entry Leaf)) × (x : List (Piece (List ℕ))) × (y : List (Piece (List ℕ))) × same_path (Some (codes "Root")) path i x y
         × IsTrue (flags_pass x) × IsTrue (flags_pass y) × (u ≡ flat_map letters_of x) × (w ≡ flat_map letters_of y)
 

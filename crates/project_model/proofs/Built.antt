@@ -2,10 +2,10 @@
 use Rattle.std.proofs.Common.{Bool, true, false, ◌&&◌, IsTrue, List, [], ◌∷◌, ◌++◌, map, All, refl}
 use Rattle.std.proofs.lemmas.List.Elements.{All-nil, All-cons, All-head, All-tail}
 use Rattle.std.specs.List.{flat_map, list_all}
-use Rattle.regex_ast.specs.Terms.{Term, Terms, Links, Contexts, Steps, empty, any, edge, atom, letters, group, maybe, not_one, cross, suffixed, prefixed, ignore, concat, chain, only, rules, steps, no_term, then_term, no_link, or, and, less, no_context, between, no_step, cross_with, then}
-use Rattle.expr_kinds.specs.Built.{IsBuiltBy, AreBuiltBy, LinksAreBuiltBy, ContextsAreBuiltBy, StepsAreBuiltBy}
-use Rattle.expr_leaves.specs.Leaves.{listed, listed_each, listed_links, listed_contexts, listed_steps}
-use Rattle.expr_leaves.specs.Mapped.{mapped, mapped_each, mapped_links, mapped_contexts, mapped_steps}
+use Rattle.regex_ast.specs.Terms.{Term, Terms, Links, Contexts, Steps, Mappings, Groups, empty, any, edge, atom, letters, group, maybe, not_one, cross, suffixed, prefixed, ignore, concat, chain, only, rules, steps, no_term, then_term, no_link, or, and, less, no_context, between, no_step, cross_with, then, no_mapping, plain, markup, insert, no_group, then_group}
+use Rattle.expr_kinds.specs.Built.{IsBuiltBy, AreBuiltBy, LinksAreBuiltBy, ContextsAreBuiltBy, StepsAreBuiltBy, MappingsAreBuiltBy, GroupsAreBuiltBy}
+use Rattle.expr_leaves.specs.Leaves.{listed, listed_each, listed_links, listed_contexts, listed_steps, listed_mappings, listed_groups}
+use Rattle.expr_leaves.specs.Mapped.{mapped, mapped_each, mapped_links, mapped_contexts, mapped_steps, mapped_mappings, mapped_groups}
 
 pub All-front : {X : Type 0} (P : X → Type 0) (xs ys : List X) → All P (xs ++ ys) → All P xs
 All-front P [] ys h = All-nil P
@@ -56,7 +56,7 @@ module _ {A B : Type 0} (f : A → B) (here letter_here : A → Bool) (there let
     built_there (concat es) h = each_there es h
     built_there (chain e links) h = (built_there e h.0, links_there links h.1)
     built_there (only e contexts) h = (built_there e h.0, contexts_there contexts h.1)
-    built_there (rules optional groups) h = absurd h
+    built_there (rules optional groups) h = groups_there groups h
     built_there (steps e more) h = (built_there e h.0, steps_there more h.1)
 
     each_there : (es : Terms A) → AreBuiltBy here letter_here es → AreBuiltBy there letter_there (mapped_each f es)
@@ -77,6 +77,16 @@ module _ {A B : Type 0} (f : A → B) (here letter_here : A → Bool) (there let
     steps_there no_step h = tt
     steps_there (cross_with e more) h = (built_there e h.0, steps_there more h.1)
     steps_there (then e more) h = (built_there e h.0, steps_there more h.1)
+
+    mappings_there : (maps : Mappings A) → MappingsAreBuiltBy here letter_here maps → MappingsAreBuiltBy there letter_there (mapped_mappings f maps)
+    mappings_there no_mapping h = tt
+    mappings_there (plain c r maps) h = (tt, built_there c h.1, built_there r h.2, mappings_there maps h.3)
+    mappings_there (markup c b a maps) h = (tt, built_there c h.1, built_there b h.2, built_there a h.3, mappings_there maps h.4)
+    mappings_there (insert r maps) h = h
+
+    groups_there : (groups : Groups A) → GroupsAreBuiltBy here letter_here groups → GroupsAreBuiltBy there letter_there (mapped_groups f groups)
+    groups_there no_group h = tt
+    groups_there (then_group maps side contexts groups) h = (mappings_there maps h.0, contexts_there contexts h.1, groups_there groups h.2)
 
 -- Where each leaf passes one test, if what is listed of it has a property and what it is replaced by passes another
 -- test, the whole is built before if it is built then.
@@ -108,7 +118,7 @@ module _ {A B C : Type 0} (f : A → B) (here letter_here : A → Bool) (there l
         (built_here e (All-front P (listed of e) (listed_links of links) held) h.0, links_here links (All-back P (listed of e) (listed_links of links) held) h.1)
     built_here (only e contexts) held h =
         (built_here e (All-front P (listed of e) (listed_contexts of contexts) held) h.0, contexts_here contexts (All-back P (listed of e) (listed_contexts of contexts) held) h.1)
-    built_here (rules optional groups) held h = absurd h
+    built_here (rules optional groups) held h = groups_here groups held h
     built_here (steps e more) held h =
         (built_here e (All-front P (listed of e) (listed_steps of more) held) h.0, steps_here more (All-back P (listed of e) (listed_steps of more) held) h.1)
 
@@ -142,3 +152,33 @@ module _ {A B C : Type 0} (f : A → B) (here letter_here : A → Bool) (there l
         (built_here e (All-front P (listed of e) (listed_steps of more) held) h.0, steps_here more (All-back P (listed of e) (listed_steps of more) held) h.1)
     steps_here (then e more) held h =
         (built_here e (All-front P (listed of e) (listed_steps of more) held) h.0, steps_here more (All-back P (listed of e) (listed_steps of more) held) h.1)
+
+    mappings_here : (maps : Mappings A) → All P (listed_mappings of maps) → MappingsAreBuiltBy there letter_there (mapped_mappings f maps)
+        → MappingsAreBuiltBy here letter_here maps
+    mappings_here no_mapping held h = tt
+    mappings_here (plain c r maps) held h =
+        let parts = All-front P (listed of c ++ listed of r) (listed_mappings of maps) held in (
+          tt,
+          built_here c (All-front P (listed of c) (listed of r) parts) h.1,
+          built_here r (All-back P (listed of c) (listed of r) parts) h.2,
+          mappings_here maps (All-back P (listed of c ++ listed of r) (listed_mappings of maps) held) h.3,
+        )
+    mappings_here (markup c b a maps) held h =
+        let parts = All-front P (listed of c ++ listed of b ++ listed of a) (listed_mappings of maps) held in
+        let first = All-front P (listed of c ++ listed of b) (listed of a) parts in (
+          tt,
+          built_here c (All-front P (listed of c) (listed of b) first) h.1,
+          built_here b (All-back P (listed of c) (listed of b) first) h.2,
+          built_here a (All-back P (listed of c ++ listed of b) (listed of a) parts) h.3,
+          mappings_here maps (All-back P (listed of c ++ listed of b ++ listed of a) (listed_mappings of maps) held) h.4,
+        )
+    mappings_here (insert r maps) held h = h
+
+    groups_here : (groups : Groups A) → All P (listed_groups of groups) → GroupsAreBuiltBy there letter_there (mapped_groups f groups) → GroupsAreBuiltBy here letter_here groups
+    groups_here no_group held h = tt
+    groups_here (then_group maps side contexts groups) held h =
+        let parts = All-front P (listed_mappings of maps ++ listed_contexts of contexts) (listed_groups of groups) held in (
+          mappings_here maps (All-front P (listed_mappings of maps) (listed_contexts of contexts) parts) h.0,
+          contexts_here contexts (All-back P (listed_mappings of maps) (listed_contexts of contexts) parts) h.1,
+          groups_here groups (All-back P (listed_mappings of maps ++ listed_contexts of contexts) (listed_groups of groups) held) h.2,
+        )

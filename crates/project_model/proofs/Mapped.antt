@@ -5,7 +5,7 @@ use Rattle.std.proofs.lemmas.List.{length-map}
 use Rattle.std.proofs.lemmas.Simd.{map-map}
 use Rattle.std.specs.List.{flat_map, list_all}
 use Rattle.regex_ast.specs.Terms.{Term, Terms, Links, Contexts, Steps, Mappings, Groups, empty, any, edge, atom, letters, group, maybe, not_one, cross, suffixed, prefixed, ignore, concat, chain, only, rules, steps, no_term, then_term, no_link, or, and, less, no_context, between, no_step, cross_with, then, no_mapping, plain, markup, insert, no_group, then_group}
-use Rattle.expr_kinds.specs.Built.{IsBuiltBy, AreBuiltBy, LinksAreBuiltBy, ContextsAreBuiltBy, StepsAreBuiltBy}
+use Rattle.expr_kinds.specs.Built.{IsBuiltBy, AreBuiltBy, LinksAreBuiltBy, ContextsAreBuiltBy, StepsAreBuiltBy, MappingsAreBuiltBy, GroupsAreBuiltBy}
 use Rattle.expr_kinds.specs.Kinds.{Leaves, both, half, are_alike, with_suffixes, kind_of, kind_of_each, kind_of_chain, kind_of_steps, kind_of_contexts, Fits, EachFits, EachFitsAsLanguage, ChainFits, StepsFit, ContextsFit, MappingsFit, GroupsFit}
 use Rattle.expr_kinds.specs.Weights.{weight_of, weight_of_each, weight_of_links, weight_of_steps, weight_of_contexts, weight_of_mappings, weight_of_groups, suffixed_weight, count_of}
 use Rattle.expr_kinds.specs.declared.half.Half.{Half}
@@ -206,7 +206,7 @@ module _ {A B : Type 0} (leaf letter : B → Bool) (f : A → B) where
     mapped_built (concat es) = each_built es
     mapped_built (chain e links) = let a = mapped_built e in let b = links_built links in λ i. a i × b i
     mapped_built (only e contexts) = let a = mapped_built e in let b = contexts_built contexts in λ i. a i × b i
-    mapped_built (rules optional groups) = refl
+    mapped_built (rules optional groups) = groups_built groups
     mapped_built (steps e more) = let a = mapped_built e in let b = steps_built more in λ i. a i × b i
 
     each_built : (es : Terms A) → AreBuiltBy leaf letter (mapped_each f es) ≡ AreBuiltBy (λ a. leaf (f a)) (λ a. letter (f a)) es
@@ -227,6 +227,16 @@ module _ {A B : Type 0} (leaf letter : B → Bool) (f : A → B) where
     steps_built no_step = refl
     steps_built (cross_with e more) = let a = mapped_built e in let b = steps_built more in λ i. a i × b i
     steps_built (then e more) = let a = mapped_built e in let b = steps_built more in λ i. a i × b i
+
+    mappings_built : (maps : Mappings A) → MappingsAreBuiltBy leaf letter (mapped_mappings f maps) ≡ MappingsAreBuiltBy (λ a. leaf (f a)) (λ a. letter (f a)) maps
+    mappings_built no_mapping = refl
+    mappings_built (plain c r maps) = let a = mapped_built c in let b = mapped_built r in let d = mappings_built maps in λ i. Unit {0} × a i × b i × d i
+    mappings_built (markup c b a maps) = let x = mapped_built c in let y = mapped_built b in let z = mapped_built a in let d = mappings_built maps in λ i. Unit {0} × x i × y i × z i × d i
+    mappings_built (insert r maps) = refl
+
+    groups_built : (groups : Groups A) → GroupsAreBuiltBy leaf letter (mapped_groups f groups) ≡ GroupsAreBuiltBy (λ a. leaf (f a)) (λ a. letter (f a)) groups
+    groups_built no_group = refl
+    groups_built (then_group maps side contexts groups) = let a = mappings_built maps in let b = contexts_built contexts in let c = groups_built groups in λ i. a i × b i × c i
 
 -- the kind, and whether each operand that must be a language is one, where leaves of which what is listed has a property have the
 -- kind of what they are replaced by, and are the same if that is

@@ -18,7 +18,7 @@ use Rattle.project_sources.specs.Limits.{most_bytes}
 use Rattle.project_sources.specs.Manifests.{Placed, manifest_of, symbols_of, xfst_line}
 use Rattle.project_sources.specs.Rows.{First}
 use Rattle.project_sources.specs.Sources.{FilesSay, HasText, HaveText, Said, project_in}
-use Rattle.project_sources.specs.Faults.{fault, TextFault, too_long, FileRow, missing, no_text, unread, file_rows, FileFault, NamedFault, Row, no_project, other_manifest, in_files, in_said, HasFault, FirstFault, SaidFault, rows_so_far, HasNoText, said_so_far}
+use Rattle.project_sources.specs.Faults.{fault, TextFault, too_long, FileRow, missing, no_text, unread, file_rows, FileFault, NamedFault, Row, no_project, other_manifest, in_files, in_said, HasFault, FirstFault, SaidFault, read_so_far, HasNoText, said_so_far}
 use Rattle.project_sources.specs.Laws.{unbuilt as no_readers}
 use Rattle.project_sources.proofs.Firsts.{first_alike, none_more}
 use Rattle.project_sources.proofs.Once.{files_say_one, text_one, unbuilt_exact}
@@ -179,7 +179,7 @@ module _ (files : Files) (text : List ℕ) (manifest : ManifestView) (have : Hav
   abbrev OfFile : FileRow → Fault → Type 0
   OfFile row found = FileFault no_readers files (record { line = manifest.line; said = xfst_line one.file }) one.file row found
 
-  in_file : (found : Fault) → First OfFile file_rows found → FirstFault no_readers files rows_so_far found
+  in_file : (found : Fault) → First OfFile file_rows found → FirstFault no_readers files read_so_far found
   in_file found h = inr (no_project_fault, inr (no_manifest_fault, inl (text, have, (file_fault files text manifest one found).0 h)))
 
   pub missing_file : (old new : List (List ℕ)) (error : PlanError) → file_of file files ≡ None → IsRefusal (fault project_name manifest.line why.NoFile) error → IsProjectRead files old new (Err error)

@@ -74,7 +74,7 @@ flat_mapped f h [] = refl
 flat_mapped {C = C} f h (x ∷ xs) = ap (λ (z : List C). map f (h x) ++ z) (flat_mapped f h xs) ∙ sym (map-append f (h x) (flat_map h xs))
 
 -- the item at a place has it, and none before
-first_here : {A F : Type 0} (Has : A → F → Type 0) (xs : List A) (k : ℕ) (x : A) (found : F) → slice_get xs k ≡ Some x → Has x found
+pub first_here : {A F : Type 0} (Has : A → F → Type 0) (xs : List A) (k : ℕ) (x : A) (found : F) → slice_get xs k ≡ Some x → Has x found
     → ((j : ℕ) (y : A) → j < k → slice_get xs j ≡ Some y → (other : F) → Has y other → ⊥) → First Has xs found
 first_here Has [] k x found at h before = let never : None ≡ Some x = at in absurd (cc)
 first_here Has (y ∷ xs) zero x found at h before = inl (subst (λ z. Has z found) (sym (same_Some y x at)) h)
@@ -197,7 +197,7 @@ module _ (said : Said) (table : List (List ℕ)) (definitions : List Definition)
       let among : Contains (names_in (resolved names w.body)) other = subst (λ (x : Meant). Contains (names_in x.body) other) (sym is) h in
       (listed_by w, subst (λ (p : ℕ). slice_get graph p ≡ Some (listed_by w)) (sym at_place) (listed_at k w at), Contains-map place (names_in (resolved names w.body)) other among)
 
-  from_graph : (p q : ℕ) (name : List ℕ) → slice_get names p ≡ Some name → Leads graph p q → (other : List ℕ) × (slice_get names q ≡ Some other) × Refers project name other
+  pub from_graph : (p q : ℕ) (name : List ℕ) → slice_get names p ≡ Some name → Leads graph p q → (other : List ℕ) × (slice_get names q ≡ Some other) × Refers project name other
   from_graph p q name at (xs, is, h) =
       let (w, there, name_is) = at_map (λ (w : Written). w.name) said.written p name at in
       let same : xs ≡ listed_by w = same_at graph p xs (listed_by w) is (listed_at p w there) in

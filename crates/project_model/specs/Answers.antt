@@ -17,7 +17,7 @@ use Rattle.project_meaning.specs.Projects.{Written}
 use Rattle.project_sources.specs.Rows.{First, HaveNone, Where}
 use Rattle.project_sources.specs.Manifests.{Placed}
 use Rattle.project_sources.specs.Sources.{HasText, Said, FilesSay, stated}
-use Rattle.project_sources.specs.Faults.{fault, HasNoText, SaidRow, SaidFault, rows_so_far, FirstFault}
+use Rattle.project_sources.specs.Faults.{fault, HasNoText, SaidRow, SaidFault, read_so_far, FirstFault}
 use Rattle.project_sources.specs.Laws.{unbuilt}
 use Rattle.project_model.specs.Plans.{PlanView, body_term}
 use Rattle.project_model.specs.Stands.{Stands}
@@ -29,7 +29,7 @@ use Rattle.project_model.specs.declared.plan_error.PlanError.TheVariants.{Refuse
 
 -- the files have no fault by the rows that are told so far, and the plan stands for what they say
 pub record IsPlanOf (files : Files) (old new : List (List ℕ)) (plan : PlanView) : Type 0 where
-  pub faultless : (found : Fault) → FirstFault unbuilt files rows_so_far found → ⊥
+  pub faultless : (found : Fault) → FirstFault unbuilt files read_so_far found → ⊥
   pub said : Said
   pub says : FilesSay unbuilt files said
   pub stands : Stands said old new plan
@@ -37,7 +37,7 @@ pub record IsPlanOf (files : Files) (old new : List (List ℕ)) (plan : PlanView
 -- the plan of files, their first fault, or want of memory
 abbrev pub IsProjectRead : Files → List (List ℕ) → List (List ℕ) → Result PlanView PlanError → Type 0
 IsProjectRead files old new (Ok plan) = IsPlanOf files old new plan
-IsProjectRead files old new (Err (Refused found)) = FirstFault unbuilt files rows_so_far found
+IsProjectRead files old new (Err (Refused found)) = FirstFault unbuilt files read_so_far found
 IsProjectRead files old new (Err (Memory refused)) = ⊤
 
 -- refused for such a fault, or for want of memory

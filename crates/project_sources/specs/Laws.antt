@@ -1,5 +1,5 @@
 -- Laws of these definitions.
-use Rattle.std.specs.Prelude.{◌≡◌, ◌≤◌, ◌⊎◌, ◌↔◌, ℕ, List, [], Contains, Result, Ok, Err}
+use Rattle.std.specs.Prelude.{◌≡◌, ◌≤◌, ◌⊎◌, ◌↔◌, ◌++◌, ◌∷◌, ℕ, List, [], Contains, Result, Ok, Err}
 use Rattle.fsm_io.specs.Folders.{Files}
 use Rattle.regex_ast.specs.declared.fault.Fault.{Fault}
 use Rattle.regex_ast.specs.declared.fault.Why.TheVariants as why
@@ -10,7 +10,7 @@ use Rattle.project_meaning.specs.Forms.{body_weight, weight_in}
 use Rattle.project_meaning.specs.Projects.{Definition, Project, HasNoCycle, IsClosed}
 use Rattle.project_sources.specs.Sources.{Readers}
 use Rattle.project_sources.specs.Edits.{Edit, Holding, Apply}
-use Rattle.project_sources.specs.Faults.{Row, read_rows, rows, empty_centre, in_said, fault, HasFault, FirstFault, SourcesSay}
+use Rattle.project_sources.specs.Faults.{Row, empty_centre, in_said, fault, HasFault, FirstFault, SourcesSay}
 
 -- sources have at most one first fault, whichever rows are told
 abbrev pub OneFault : Readers → Type 0
@@ -42,10 +42,10 @@ abbrev pub NoFilesNoProject : List Row → Type 0
 NoFilesNoProject by = FirstFault unbuilt [] by (fault project_name 0 why.NoProject)
 
 -- an empty centre is the fault where none is read before
-abbrev pub CentresComeLast : Readers → Type 0
-CentresComeLast readers =
-    (files : Files) (found : Fault) → FirstFault readers files rows found
-    ↔ (FirstFault readers files read_rows found ⊎ (((other : Fault) → FirstFault readers files read_rows other → ⊥) × HasFault readers files (in_said empty_centre) found))
+abbrev pub CentresComeLast : Readers → List Row → Type 0
+CentresComeLast readers read =
+    (files : Files) (found : Fault) → FirstFault readers files (read ++ in_said empty_centre ∷ []) found
+    ↔ (FirstFault readers files read found ⊎ (((other : Fault) → FirstFault readers files read other → ⊥) × HasFault readers files (in_said empty_centre) found))
 
 -- edits make one thing of what is held, or have one fault
 abbrev pub OneOutcome : Type 0

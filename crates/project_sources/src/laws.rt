@@ -1,4 +1,4 @@
-ghost use Rattle.project_sources.specs.Faults.{rows, rows_so_far};
+ghost use Rattle.project_sources.specs.Faults.{read_rows, read_so_far, rows, rows_so_far};
 ghost use Rattle.project_sources.specs.Laws.{CentresComeLast, NoFilesNoProject, OneAnswer, OneFault, OneOutcome, ProjectsAreSound, unbuilt};
 
 /// Sources have at most one first fault.
@@ -15,6 +15,7 @@ pub fn one_answer()
 pub fn projects_are_sound()
     ensures whole { ProjectsAreSound unbuilt rows }
     ensures so_far { ProjectsAreSound unbuilt rows_so_far }
+    ensures read { ProjectsAreSound unbuilt read_so_far }
 {}
 
 /// Without files the manifest is missing.
@@ -25,7 +26,8 @@ pub fn no_files_no_project()
 
 /// An empty centre is the fault where none is read before.
 pub fn centres_come_last()
-    ensures { CentresComeLast unbuilt }
+    ensures whole { CentresComeLast unbuilt read_rows }
+    ensures so_far { CentresComeLast unbuilt read_so_far }
 {}
 
 /// Edits make one thing of what is held, or have one fault.

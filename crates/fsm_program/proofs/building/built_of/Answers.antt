@@ -1,7 +1,7 @@
-use Rattle.std.proofs.Common.{◌≡◌, ◌<◌, ◌∙◌, List, Some, length, refl, rules, slice_get, subst, sym}
+use Rattle.std.proofs.Common.{◌<◌, ◌∙◌, List, length, rules, subst, sym}
 use Rattle.project_model.specs.declared.definition.Definition.{Definition}
 use Rattle.fsm_program.proofs.Named.{stands_at}
-use Rattle.fsm_program.proofs.Networks.{built_at, built_over, fits, ground}
+use Rattle.fsm_program.proofs.Networks.{built_as, built_over, filled_as, fits, ground, why_as}
 use Rattle.fsm_program.proofs.building.built_of.Goals as goal
 
 pub bounds-all-place : goal.bounds-all-place
@@ -43,12 +43,32 @@ build-requires-clause-fits c =
     let (names, size, among, parts_are) = c.in_ok-parts.ensures in
     rw c.deref.ensures.value (fits loaded c.plan-plan.ensures.formed c.args.built.now c.requires.built c.args.place d at names size among c.in_ok-parts.parts.items parts_are c.requires.parts)
 
-pub returns-in-Ok : goal.returns-in-Ok
-returns-in-Ok c =
+pub returns-clause-network : goal.returns-clause-network
+returns-clause-network c =
     let loaded = c.args.project.now in
     let d = c.index-all-place.result in
     let same = c.definitions-all.ensures.definitions ∙ c.plan-plan.ensures.definitions in
     let below = subst (λ (ds : List Definition). c.args.place < length ds) (sym same) c.requires.place in
     let at = stands_at c.definitions-all.result.now loaded.definitions c.args.place d same below c.index-all-place.is in
     let (names, size, among, parts_are) = c.in_ok-parts.ensures in
-    built_at loaded c.plan-plan.ensures.formed c.args.built.now c.requires.built c.args.place d at names size among c.in_ok-parts.parts.items parts_are c.requires.parts c.in-Ok.network (rw (c.alphabet.ensures, c.deref.ensures.value) at c.in-Ok.ensures)
+    built_as loaded c.plan-plan.ensures.formed c.args.built.now c.requires.built c.args.place d at names size among c.in_ok-parts.parts.items parts_are c.requires.parts c.build.result (rw (c.alphabet.ensures, c.deref.ensures.value) at c.build.ensures.network)
+
+pub returns-clause-filled : goal.returns-clause-filled
+returns-clause-filled c =
+    let loaded = c.args.project.now in
+    let d = c.index-all-place.result in
+    let same = c.definitions-all.ensures.definitions ∙ c.plan-plan.ensures.definitions in
+    let below = subst (λ (ds : List Definition). c.args.place < length ds) (sym same) c.requires.place in
+    let at = stands_at c.definitions-all.result.now loaded.definitions c.args.place d same below c.index-all-place.is in
+    let (names, size, among, parts_are) = c.in_ok-parts.ensures in
+    filled_as loaded c.plan-plan.ensures.formed c.args.built.now c.requires.built c.args.place d at names size among c.in_ok-parts.parts.items parts_are c.requires.parts c.build.result (rw (c.alphabet.ensures, c.deref.ensures.value) at c.build.ensures.filled)
+
+pub returns-clause-error : goal.returns-clause-error
+returns-clause-error c =
+    let loaded = c.args.project.now in
+    let d = c.index-all-place.result in
+    let same = c.definitions-all.ensures.definitions ∙ c.plan-plan.ensures.definitions in
+    let below = subst (λ (ds : List Definition). c.args.place < length ds) (sym same) c.requires.place in
+    let at = stands_at c.definitions-all.result.now loaded.definitions c.args.place d same below c.index-all-place.is in
+    let (names, size, among, parts_are) = c.in_ok-parts.ensures in
+    why_as loaded c.plan-plan.ensures.formed c.args.built.now c.requires.built c.args.place d at names size among c.in_ok-parts.parts.items parts_are c.requires.parts c.build.result (rw (c.alphabet.ensures, c.deref.ensures.value) at c.build.ensures.error)

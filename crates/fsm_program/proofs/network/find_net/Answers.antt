@@ -1,11 +1,12 @@
-use Rattle.std.proofs.Common.{subst, sym}
 use Rattle.std.proofs.lemmas.Option.{slice_get_within}
-use Rattle.lookup.specs.Answering.{IsOverAlphabet}
 use Rattle.fsm_program.proofs.Shown.{shows_name, shows_none}
 use Rattle.fsm_program.proofs.network.find_net.Goals as goal
 
 pub network_at-requires : goal.network_at-requires
-network_at-requires c = let (d, at, named) = c.in-Some.ensures in slice_get_within c.args.project.now.definitions c.in-Some.place d at
+network_at-requires c = record {
+  place = let (d, at, named) = c.in-Some.ensures in slice_get_within c.args.project.now.definitions c.in-Some.place d at;
+  centres = c.requires;
+}
 
 pub returns-in_ok-of-in-Some-clause-over : goal.returns-in_ok-of-in-Some-clause-over
 returns-in_ok-of-in-Some-clause-over c = c.in_ok-of-in-Some.ensures.alphabet c.args.project.now.alphabet c.in_ok-network-in-Some.ensures.over

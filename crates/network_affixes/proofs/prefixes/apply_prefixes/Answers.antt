@@ -1,4 +1,4 @@
-use Rattle.std.proofs.Common.{◌≡◌, [], None, Some}
+use Rattle.std.proofs.Common.{◌≡◌, None, Some}
 use Rattle.fsa.specs.Language.{Accepts}
 use Rattle.expr_meaning.specs.Operators.{IsPrefixed}
 use Rattle.regex_ast.specs.declared.expr.Prefix.TheVariants.{Contains as Part}

@@ -1,0 +1,128 @@
+-- What a network of tapes relates, by the sides of its tapes.
+use Rattle.std.proofs.Common.{◌≡◌, ◌↔◌, ℕ, Bool, ◌&&◌, List, [], ◌∷◌, ◌++◌, Option, None, Some, codes, map, refl, sym, ap, ◌∙◌}
+use Rattle.std.specs.List.{flat_map, slice_get}
+use Rattle.std.specs.Option.{option_to_list}
+use Rattle.word_relations.specs.Relations.{AreSame}
+use Rattle.word_relations.specs.Words.{IsDistinct}
+use Rattle.fsm_base.specs.declared.letters.Sym.{Sym}
+use Rattle.fsm_base.specs.declared.letters.Pair.{Pair}
+use Rattle.fsa.specs.Automaton.{Automaton, UsesLetter}
+use Rattle.fsa.specs.Language.{Accepts}
+use Rattle.fst_relation.specs.Relation.{IsRelated, uppers, lowers}
+use Rattle.regex_ast.specs.declared.expr.Atom.{Atom}
+use Rattle.regex_ast.specs.declared.lexc.FlagOp.{FlagOp}
+use Rattle.project_meaning.specs.Trees.{Piece, letter, flag, Lexicon}
+use Rattle.project_meaning.specs.Lexicons.{run_passes, passes, features_behind, letters_of, LexiconsRelate}
+use Rattle.flag_diacritics.specs.Tapes.{flag_of, upper_flag, lower_flag, pairs_of, TapesRelate, UsesPair}
+use Rattle.flag_diacritics.specs.declared.tape.Tape.{Tape}
+use Rattle.flag_diacritics.specs.declared.tape.Tape.TheVariants.{Pair as OfPair, UpFlag, LowFlag}
+use Rattle.lexc_compile.specs.declared.entry.LexEntry.{LexEntry}
+use Rattle.lexc_compile.specs.Paths.{HasPath, SomeEntryUses}
+use Rattle.expr_kinds.specs.declared.form.Kind.TheVariants.{Relation}
+use Rattle.network_algebra.specs.Networks.{IsFor, IsNetwork, UsesSymbols, PairsOf, WordsOf, kind_of_network}
+use Rattle.network_algebra.specs.declared.network.Network.{Network}
+use Rattle.network_algebra.specs.declared.network.Network.TheVariants.{Pairs}
+use Rattle.network_expr.specs.Parts.{stands}
+use Rattle.network_expr.specs.declared.parts.Part.{Part}
+use Rattle.network_lexicons.specs.Plain.{symbol_in, names_of}
+use Rattle.network_lexicons.specs.Sides.{upper_pieces, lower_pieces, upper_side, lower_side}
+use Rattle.network_lexicons.specs.Entries.{AreLexiconsFor}
+use Rattle.network_lexicons.proofs.Walked.{walks, pairs_over}
+
+-- symbols don't count for flags
+symbols_pass : (now : List ℕ → Option (List ℕ)) (o : Option Sym) (rest : List (Piece Sym)) → run_passes now (map letter (option_to_list o) ++ rest) ≡ run_passes now rest
+symbols_pass now None rest = refl
+symbols_pass now (Some x) rest = refl
+
+flags_alike : (now : List ℕ → Option (List ℕ)) (o : Option FlagOp) (xs : List (Piece Sym)) (ys : List (Piece (List ℕ))) → ((then : List ℕ → Option (List ℕ)) → run_passes then xs ≡ run_passes then ys)
+    → run_passes now (map (λ f. flag (flag_of f)) (option_to_list o) ++ xs) ≡ run_passes now (map (λ f. flag (flag_of f)) (option_to_list o) ++ ys)
+flags_alike now None xs ys same = same now
+flags_alike now (Some f) xs ys same = ap (λ (b : Bool). passes (now f.feature) f.kind f.value && b) (same (features_behind now (flag_of f)))
+
+module _ (flags : List FlagOp) where
+  upper_runs : (tape : List Tape) (now : List ℕ → Option (List ℕ)) → run_passes now (flat_map (upper_pieces flags) tape) ≡ run_passes now (flat_map (upper_flag flags) tape)
+  upper_runs [] now = refl
+  upper_runs (OfPair pair ∷ tape) now = symbols_pass now pair.up (flat_map (upper_pieces flags) tape) ∙ upper_runs tape now
+  upper_runs (UpFlag n ∷ tape) now = flags_alike now (slice_get flags n) (flat_map (upper_pieces flags) tape) (flat_map (upper_flag flags) tape) (upper_runs tape)
+  upper_runs (LowFlag n ∷ tape) now = upper_runs tape now
+
+  lower_runs : (tape : List Tape) (now : List ℕ → Option (List ℕ)) → run_passes now (flat_map (lower_pieces flags) tape) ≡ run_passes now (flat_map (lower_flag flags) tape)
+  lower_runs [] now = refl
+  lower_runs (OfPair pair ∷ tape) now = symbols_pass now pair.low (flat_map (lower_pieces flags) tape) ∙ lower_runs tape now
+  lower_runs (UpFlag n ∷ tape) now = lower_runs tape now
+  lower_runs (LowFlag n ∷ tape) now = flags_alike now (slice_get flags n) (flat_map (lower_pieces flags) tape) (flat_map (lower_flag flags) tape) (lower_runs tape)
+
+-- nor flags for symbols
+symbols_left : (o : Option Sym) (rest : List (Piece Sym)) → flat_map letters_of (map letter (option_to_list o) ++ rest) ≡ option_to_list o ++ flat_map letters_of rest
+symbols_left None rest = refl
+symbols_left (Some x) rest = refl
+
+flags_left : (o : Option FlagOp) (rest : List (Piece Sym)) → flat_map letters_of (map (λ f. flag (flag_of f)) (option_to_list o) ++ rest) ≡ flat_map letters_of rest
+flags_left None rest = refl
+flags_left (Some f) rest = refl
+
+module _ (flags : List FlagOp) where
+  upper_left : (tape : List Tape) → flat_map letters_of (flat_map (upper_pieces flags) tape) ≡ uppers (pairs_of tape)
+  upper_left [] = refl
+  upper_left (OfPair pair ∷ tape) = symbols_left pair.up (flat_map (upper_pieces flags) tape) ∙ ap (λ s. option_to_list pair.up ++ s) (upper_left tape)
+  upper_left (UpFlag n ∷ tape) = flags_left (slice_get flags n) (flat_map (upper_pieces flags) tape) ∙ upper_left tape
+  upper_left (LowFlag n ∷ tape) = upper_left tape
+
+  lower_left : (tape : List Tape) → flat_map letters_of (flat_map (lower_pieces flags) tape) ≡ lowers (pairs_of tape)
+  lower_left [] = refl
+  lower_left (OfPair pair ∷ tape) = symbols_left pair.low (flat_map (lower_pieces flags) tape) ∙ ap (λ s. option_to_list pair.low ++ s) (lower_left tape)
+  lower_left (UpFlag n ∷ tape) = lower_left tape
+  lower_left (LowFlag n ∷ tape) = flags_left (slice_get flags n) (flat_map (lower_pieces flags) tape) ∙ lower_left tape
+
+module _ (parts : List Part) (alphabet : List Sym) (lexicons : List (Lexicon Atom)) (distinct : IsDistinct (names_of lexicons)) (flags : List FlagOp) (built : List (List LexEntry)) (are : AreLexiconsFor parts alphabet (names_of lexicons) flags lexicons built)
+    (root : ℕ) (at : slice_get (names_of lexicons) root ≡ Some (codes "Root")) (net : Automaton Tape) where
+  pub related : ((tape : List Tape) → Accepts net tape ↔ HasPath built (Some root) tape) → AreSame (TapesRelate net flags) (LexiconsRelate symbol_in (stands parts) alphabet lexicons)
+  related language u w = (
+    λ (tape, accepts, (up, low), u_is, w_is).
+        let found = (walks parts alphabet lexicons distinct flags built are (codes "Root") root at (upper_side flags tape) (lower_side flags tape)).0 (tape, (language tape).0 accepts, refl, refl) in (
+          found.0,
+          upper_side flags tape,
+          lower_side flags tape,
+          found.1,
+          upper_runs flags tape (λ feature. None) ∙ up,
+          lower_runs flags tape (λ feature. None) ∙ low,
+          sym u_is ∙ sym (upper_left flags tape),
+          sym w_is ∙ sym (lower_left flags tape),
+        ),
+    λ (path, x, y, is, up, low, u_is, w_is).
+        let found = (walks parts alphabet lexicons distinct flags built are (codes "Root") root at x y).1 (path, is) in
+        let tape = found.0 in (
+          tape,
+          (language tape).1 found.1,
+          (
+            sym (upper_runs flags tape (λ feature. None)) ∙ ap (λ (s : List (Piece Sym)). run_passes (λ feature. None) s) (sym found.2) ∙ up,
+            sym (lower_runs flags tape (λ feature. None)) ∙ ap (λ (s : List (Piece Sym)). run_passes (λ feature. None) s) (sym found.3) ∙ low,
+          ),
+          sym (upper_left flags tape) ∙ ap (flat_map letters_of) (sym found.2) ∙ sym u_is,
+          sym (lower_left flags tape) ∙ ap (flat_map letters_of) (sym found.3) ∙ sym w_is,
+        ),
+  )
+
+  -- the symbols on both sides of what is made of it
+  pub related_symbols : ((x : Tape) → UsesLetter net x → SomeEntryUses built x) → (m : Automaton Pair) → ((pair : Pair) → UsesLetter m pair → UsesPair net pair) → UsesSymbols alphabet m
+  related_symbols letters m used =
+      let over = λ (pair : Pair) (uses : UsesLetter m pair). pairs_over parts alphabet lexicons distinct flags built are pair (letters (OfPair pair) (used pair uses)) in
+      record {
+        upper = λ x (pair, uses, is). (over pair uses).up x is;
+        lower = λ x (pair, uses, is). (over pair uses).low x is;
+      }
+
+  -- what is made of the network, reduced
+  pub related_network : ((tape : List Tape) → Accepts net tape ↔ HasPath built (Some root) tape) → (m : Automaton Pair) → AreSame (IsRelated m) (TapesRelate net flags) → (n : Network)
+      → IsFor (kind_of_network (Pairs m)) (WordsOf (Pairs m)) (PairsOf (Pairs m)) n → AreSame (PairsOf n) (LexiconsRelate symbol_in (stands parts) alphabet lexicons)
+  related_network language m resolved n is u w =
+      let made = is.pairs u w in
+      let tapes = resolved u w in
+      let paths = related language u w in
+      (λ h. paths.0 (tapes.0 (made.0 h)), λ h. made.1 (tapes.1 (paths.1 h)))
+
+pub relation_made : (m : Automaton Pair) (n : Network) → IsFor (kind_of_network (Pairs m)) (WordsOf (Pairs m)) (PairsOf (Pairs m)) n → kind_of_network n ≡ Relation
+relation_made m n is = is.kind_is
+
+pub over_made : (alphabet : List Sym) (a n : Network) → IsNetwork alphabet a → ((symbols : List Sym) → IsNetwork symbols a → IsNetwork symbols n) → IsNetwork alphabet n
+over_made alphabet a n over same = same alphabet over

@@ -1,0 +1,61 @@
+use Rattle.std.proofs.Common.{◌≡◌, ℕ, List, Some, codes, length, map, sym, subst, arith}
+use Rattle.std.specs.List.{Contains, slice_get}
+use Rattle.std.proofs.lemmas.List.{length-map}
+use Rattle.std.proofs.lemmas.Option.{slice_get_within}
+use Rattle.std.proofs.lemmas.Result.{IfOk-weaker}
+use Rattle.lexc_compile.specs.declared.entry.LexEntry.{LexEntry}
+use Rattle.network_algebra.specs.declared.network.Network.TheVariants.{Pairs}
+use Rattle.network_lexicons.specs.Plain.{lexicon_of, names_of}
+use Rattle.network_lexicons.specs.Entries.{AreLexiconsFor}
+use Rattle.network_lexicons.proofs.Placed.{names_counted}
+use Rattle.network_lexicons.proofs.Related.{over_made, related_network, related_symbols, relation_made}
+use Rattle.network_lexicons.proofs.build.network_of_lexicons.Goals as goal
+
+pub unreachable-requires : goal.unreachable-requires
+unreachable-requires c = c.in_default.ensures (subst (λ (names : List (List ℕ)). Contains names (codes "Root")) (sym c.in_ok-names.ensures) c.requires.root)
+
+pub lexicon-requires : goal.lexicon-requires
+lexicon-requires c =
+    let all = c.args.lexicons.now in
+    let names = names_of (map lexicon_of all) in
+    let at : slice_get names c.in-Some.root ≡ Some (codes "Root") = subst (λ (ns : List (List ℕ)). slice_get ns c.in-Some.root ≡ Some (codes "Root")) c.in_ok-names.ensures c.in-Some.ensures in
+    let within = slice_get_within names c.in-Some.root (codes "Root") at in
+    let counted = names_counted all in
+    let built : List (List LexEntry) = map (λ entries. entries.items) c.in_ok-entries.entries.items in
+    let count : length built ≡ length (map lexicon_of all) = c.in_ok-entries.ensures.lexicons.count in
+    let mapped : length built ≡ length c.in_ok-entries.entries.items = length-map c.in_ok-entries.entries.items (λ entries. entries.items) in
+    let plain = length-map all lexicon_of in
+    rw c.deref.ensures.value (omega arith)
+
+root_at : (c : goal.After-drop-names-inside-5) → slice_get (names_of (map lexicon_of c.args.lexicons.now)) c.in-Some.root ≡ Some (codes "Root")
+root_at c = subst (λ (ns : List (List ℕ)). slice_get ns c.in-Some.root ≡ Some (codes "Root")) c.in_ok-names.ensures c.in-Some.ensures
+
+lexicons_are : (c : goal.After-drop-names-inside-5)
+    → AreLexiconsFor c.args.parts.now c.args.alphabet.now (names_of (map lexicon_of c.args.lexicons.now)) c.lexicons_of.new.flags.items (map lexicon_of c.args.lexicons.now) (map (λ entries. entries.items) c.in_ok-entries.entries.items)
+lexicons_are c =
+    subst (λ (ns : List (List ℕ)). AreLexiconsFor c.args.parts.now c.args.alphabet.now ns c.lexicons_of.new.flags.items (map lexicon_of c.args.lexicons.now) (map (λ entries. entries.items) c.in_ok-entries.entries.items))
+    c.in_ok-names.ensures c.in_ok-entries.ensures.lexicons
+
+pub returns-clause-letters : goal.returns-clause-letters
+returns-clause-letters c =
+    let alphabet = c.args.alphabet.now in
+    let lexicons = map lexicon_of c.args.lexicons.now in
+    let flags = c.lexicons_of.new.flags.items in
+    let built : List (List LexEntry) = map (λ entries. entries.items) c.in_ok-entries.entries.items in
+    let letters = rw c.deref.ensures.value at c.in_ok-tapes.ensures.letters in
+    let over = related_symbols c.args.parts.now alphabet lexicons c.requires.distinct flags built (lexicons_are c) c.in-Some.root (root_at c) c.in_ok-tapes.tapes letters c.in_ok-pairs.pairs c.in_ok-pairs.ensures.pairs in
+    IfOk-weaker _ _ _ (λ n. over_made alphabet (Pairs c.in_ok-pairs.pairs) n over) c.reduced.ensures.letters
+
+pub returns-clause-kind : goal.returns-clause-kind
+returns-clause-kind c = IfOk-weaker _ _ _ (λ n. relation_made c.in_ok-pairs.pairs n) c.reduced.ensures.meaning
+
+pub returns-clause-meaning : goal.returns-clause-meaning
+returns-clause-meaning c =
+    let lexicons = map lexicon_of c.args.lexicons.now in
+    let flags = c.lexicons_of.new.flags.items in
+    let built : List (List LexEntry) = map (λ entries. entries.items) c.in_ok-entries.entries.items in
+    let language = rw c.deref.ensures.value at c.in_ok-tapes.ensures.language in
+    let resolved = rw c.deref-2.ensures.value at c.in_ok-pairs.ensures.relation in
+    IfOk-weaker _ _ _
+    (λ n. related_network c.args.parts.now c.args.alphabet.now lexicons c.requires.distinct flags built (lexicons_are c) c.in-Some.root (root_at c) c.in_ok-tapes.tapes language c.in_ok-pairs.pairs resolved n)
+    c.reduced.ensures.meaning

@@ -1,0 +1,4 @@
+pub mod Plain
+pub mod Built
+pub mod Sides
+pub mod Entries

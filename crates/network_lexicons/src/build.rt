@@ -1,0 +1,47 @@
+ghost use Rattle.std.specs.Prelude.{◌≡◌, Contains, IfOk, codes, map};
+ghost use Rattle.word_relations.specs.Relations.{AreSame};
+ghost use Rattle.word_relations.specs.Words.{IsDistinct};
+ghost use Rattle.expr_kinds.specs.declared.form.Kind.{Kind};
+ghost use Rattle.project_meaning.specs.Lexicons.{LexiconsRelate};
+ghost use Rattle.network_algebra.specs.Networks.{IsNetwork, PairsOf, kind_of_network};
+ghost use Rattle.network_expr.specs.Parts.{IsGround, stands};
+ghost use Rattle.network_lexicons.specs.Built.{AreBuilt};
+ghost use Rattle.network_lexicons.specs.Plain.{lexicon_of, names_of, symbol_in};
+
+use crate::entries::lexicons_of;
+use crate::names::Names;
+use flag_diacritics::resolve;
+use fsm_base::Sym;
+use lexc_compile::lexicon;
+use network_algebra::{Network, reduced};
+use network_expr::Part;
+use regex_ast::{Atom, Lexicon};
+use std::alloc::{AllocError, Global};
+
+/// The network of lexicons: the two sides of each path from the lexicon `Root` on which the flags of each side pass by
+/// themselves, without these flags. It is made of one automaton of all entries, each of which is built once, and it is
+/// reduced once.
+pub fn network_of_lexicons(
+    alloc: Global,
+    alphabet: &[Sym],
+    parts: &[Part],
+    lexicons: &[Lexicon<Atom>],
+) -> Result<Network, AllocError>
+    requires ground { IsGround alphabet.now parts.now }
+    requires built { AreBuilt parts.now alphabet.now (map lexicon_of lexicons.now) }
+    requires distinct { IsDistinct (names_of (map lexicon_of lexicons.now)) }
+    requires root { Contains (names_of (map lexicon_of lexicons.now)) (codes "Root") }
+    ensures letters { IfOk result (IsNetwork alphabet.now) }
+    ensures kind { IfOk result (λ n. kind_of_network n ≡ Kind.Relation) }
+    ensures meaning { IfOk result (λ n. AreSame (PairsOf n) (LexiconsRelate symbol_in (stands parts.now) alphabet.now (map lexicon_of lexicons.now))) }
+{
+    let names = Names::of(alloc, lexicons)?;
+    let Some(root) = names.place_of("Root") else {
+        unreachable!()
+    };
+    let mut flags = Vec::new(alloc);
+    let entries = lexicons_of(alloc, alphabet, parts, &names, lexicons, &mut flags)?;
+    let tapes = lexicon(alloc, &entries, root)?;
+    let pairs = resolve(alloc, &tapes, &flags)?;
+    reduced(alloc, &Network::Pairs(pairs))
+}

@@ -1,0 +1,4 @@
+mod GapWords
+mod BlockWords
+mod FilledWords
+mod Insertions

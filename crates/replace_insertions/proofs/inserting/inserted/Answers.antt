@@ -1,0 +1,43 @@
+use Rattle.std.proofs.Common.{◌≡◌, ◌↔◌, ◌∙◌, List, length, subst, sym}
+use Rattle.std.specs.List.{Contains, filter_map}
+use Rattle.std.proofs.lemmas.Result.{IfOk-weaker}
+use Rattle.fsm_base.specs.declared.letters.Bound.{Bound}
+use Rattle.fsm_base.specs.declared.letters.Sym.{Sym}
+use Rattle.fsa.specs.Complete.{Accepts}
+use Rattle.fst_relation.specs.Relation.{IsRelated}
+use Rattle.word_relations.specs.Relations.{AreSame}
+use Rattle.network_algebra.specs.Networks.{UsesSymbols}
+use Rattle.replace_words.specs.declared.marks.Mark.{Mark}
+use Rattle.replace_words.specs.Marked.{upper_of, lower_of, symbol_of}
+use Rattle.replace_words.specs.Places.{IsRewrittenAt}
+use Rattle.replace_langs.specs.Letters.{AreMarksOf, IsMarkOf}
+use Rattle.replace_insertions.specs.Marked.{inserting}
+use Rattle.replace_insertions.proofs.Insertions.{inserted_relation}
+use Rattle.replace_insertions.proofs.inserting.inserted.Goals as goal
+
+pub filled_words-requires : goal.filled_words-requires
+filled_words-requires c = rw c.deref.ensures.value (c.in_ok-marks.ensures.once c.requires.distinct)
+
+pub returns-clause-symbols : goal.returns-clause-symbols
+returns-clause-symbols c =
+    let syms = c.args.syms.now in
+    let words = c.in_ok-words.words in
+    let over = c.in_ok-words.ensures.over ∙ c.deref.ensures.value in
+    IfOk-weaker c.network_of.result (λ m. (symbols : List Sym) → AreMarksOf symbols words.letters → UsesSymbols symbols m) (UsesSymbols syms)
+    (λ m are. are syms (length c.args.contexts.now, λ x among. (c.in_ok-marks.ensures.all x).0 (subst (λ ls. Contains ls x) over among))) c.network_of.ensures.symbols
+
+pub returns-clause-relation : goal.returns-clause-relation
+returns-clause-relation c =
+    let syms = c.args.syms.now in
+    let put = c.args.put.now in
+    let contexts = c.args.contexts.now in
+    let words = c.in_ok-words.words in
+    let marks = c.deref.result.now in
+    let marks_are : (x : Bound Mark) → Contains marks x ↔ IsMarkOf syms (length contexts) x =
+    λ x. subst (λ ms. Contains ms x ↔ IsMarkOf syms (length contexts) x) (sym c.deref.ensures.value) (c.in_ok-marks.ensures.all x) in
+    IfOk-weaker c.network_of.result
+    (λ m. (u w : List Sym) → IsRelated m u w ↔ ((z : List (Bound Mark)) × Accepts words z × (filter_map (symbol_of upper_of) z ≡ u) × (filter_map (symbol_of lower_of) z ≡ w)))
+    (λ m. AreSame (IsRelated m) (IsRewrittenAt (inserting put c.args.side) contexts syms c.args.optional))
+    (λ m is u w.
+    let r = inserted_relation syms put c.args.side contexts c.requires.over marks c.args.optional c.in_ok-well.well words marks_are c.in_ok-well.ensures c.in_ok-words.ensures u w in
+    (λ h. r.0 ((is u w).0 h), λ h. (is u w).1 (r.1 h))) c.network_of.ensures.relation

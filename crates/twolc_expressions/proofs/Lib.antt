@@ -1,0 +1,5 @@
+pub mod Made
+pub mod Nodes
+pub mod Numbers
+pub mod Tokens
+pub mod Whole

@@ -1,0 +1,4 @@
+pub mod Each
+pub mod Fronts
+pub mod Parts
+pub mod Rows
