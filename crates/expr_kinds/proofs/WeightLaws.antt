@@ -122,7 +122,7 @@ module _ {A : Type 0} (leaves : Leaves A) (here leaf : A → ℕ) (built letter 
         (two_is _ _ _ _ is (two_is _ _ _ _ (weight_as c) (two_is _ _ _ _ (weight_as m) (weight_as r))))
         ∙ regrouped b (weight_of leaf c + (weight_of leaf m + weight_of leaf r)) (weight_of_mappings leaf maps) _ (omega arith)
     mappings_weight before b (insert r maps) is =
-        mappings_weight (built_if (beside before (form_in leaves here built letter r)) false) (b + weight_of leaf r) maps (two_is _ _ _ _ is (weight_as r))
+        mappings_weight (beside before (form_in leaves here built letter r)) (b + weight_of leaf r) maps (two_is _ _ _ _ is (weight_as r))
         ∙ regrouped b (weight_of leaf r) (weight_of_mappings leaf maps) _ refl
 
     groups_weight : (before : Form) (b : ℕ) (groups : Groups A) → before.weight ≡ capped b → (form_in_groups leaves here built letter before groups).weight ≡ capped (b + weight_of_groups leaf groups)
