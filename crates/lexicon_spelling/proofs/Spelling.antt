@@ -1,5 +1,5 @@
 -- Lexicons relate the same words in symbols and in texts, where their leaves and letters do.
-use Rattle.std.proofs.Common.{◌≡◌, ◌↔◌, ℕ, Bool, IsTrue, List, [], ◌∷◌, ◌++◌, map, Option, None, Some, All, refl, sym, ap, subst, ◌∙◌}
+use Rattle.std.proofs.Common.{◌≡◌, ℕ, Bool, IsTrue, List, [], ◌∷◌, ◌++◌, map, None, Some, All, refl, sym, ap, subst, ◌∙◌}
 use Rattle.std.specs.Prelude.{codes}
 use Rattle.std.specs.List.{Contains, flat_map}
 use Rattle.std.proofs.lemmas.Grind.{flat_map-append}
@@ -16,7 +16,7 @@ use Rattle.project_meaning.specs.Lexicons.{LexiconsRelate, flags_pass, letters_o
 use Rattle.lexicon_spelling.specs.Laws.{AreBuilt, FormIsBuilt, LexiconsAreSpelled, PieceIsBuilt}
 use Rattle.lexicon_spelling.specs.Mapped.{mapped_lexicon}
 use Rattle.lexicon_spelling.proofs.Sides.{letters_alike, letters_alone, letters_by, run_alike}
-use Rattle.lexicon_spelling.proofs.Paths.{Adds, AreAlike, FormGoes, Reading, path_goes}
+use Rattle.lexicon_spelling.proofs.Paths.{AreAlike, FormGoes, Reading, path_goes}
 
 -- a side over the alphabet's symbols, and the same over their texts
 record IsSide (alphabet : List (Sym × List ℕ)) (x : List (Piece Sym)) (v : List (Piece (List ℕ))) : Type 0 where
