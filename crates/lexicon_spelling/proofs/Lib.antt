@@ -2,3 +2,4 @@ mod Sides
 mod Paths
 pub mod Spelling
 mod Resolved
+pub mod Alphabets

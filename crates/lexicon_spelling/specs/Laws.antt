@@ -1,12 +1,14 @@
--- What lexicons relate doesn't depend on how symbols are written.
-use Rattle.std.specs.Prelude.{◌≡◌, ℕ, Bool, IsTrue, List, Contains, All, map}
+-- What lexicons relate doesn't depend on how symbols are written, nor on symbols that they don't use.
+use Rattle.std.specs.Prelude.{◌≡◌, ℕ, Bool, false, IsTrue, List, Contains, All, map}
 use Rattle.fsm_base.specs.Alphabet.{IsAlphabet, symbols_of, texts_of}
 use Rattle.fsm_base.specs.declared.letters.Sym.{Sym}
+use Rattle.word_relations.specs.Relations.{AreSame}
 use Rattle.regex_ast.specs.declared.expr.Raw.{Raw}
 use Rattle.expr_kinds.specs.Built.{IsBuilt}
+use Rattle.expr_leaves.specs.Alphabet.{uses_alphabet}
 use Rattle.expr_spelling.specs.Laws.{IsSpelled}
-use Rattle.project_meaning.specs.Trees.{Piece, letter, flag, Form, sides, pairs, Entry, Lexicon}
-use Rattle.project_meaning.specs.Leaves.{leaf_of, resolved_lexicon, symbol_of}
+use Rattle.project_meaning.specs.Trees.{Piece, letter, flag, Form, sides, pairs, Entry, Lexicon, lexc}
+use Rattle.project_meaning.specs.Leaves.{expressions_of, leaf_of, resolved_lexicon, symbol_of}
 use Rattle.project_meaning.specs.Lexicons.{LexiconsRelate}
 use Rattle.lexicon_spelling.specs.Mapped.{mapped_lexicon}
 
@@ -41,3 +43,9 @@ LexiconsAreSpelled {A} {B} C number_in text_in numbered texts =
 -- on a side is a symbol
 abbrev pub ResolvedAreMapped : Type 0
 ResolvedAreMapped = (names : List (List ℕ)) (lexicons : List (Lexicon Raw)) → map (resolved_lexicon names) lexicons ≡ map (mapped_lexicon (leaf_of names) symbol_of) lexicons
+
+-- lexicons in which no expression uses the alphabet relate the same over every one
+abbrev pub LexiconsNeedNoAlphabet : {A L : Type 0} → (A → L) → (A → List L → List L → Type 0) → Type 0
+LexiconsNeedNoAlphabet {A} {L} letter_in leaf =
+    (alphabet other : List L) (lexicons : List (Lexicon A)) → All (λ e. uses_alphabet e ≡ false) (expressions_of (lexc lexicons))
+    → AreSame (LexiconsRelate letter_in leaf alphabet lexicons) (LexiconsRelate letter_in leaf other lexicons)

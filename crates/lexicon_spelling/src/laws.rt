@@ -5,7 +5,7 @@ ghost use Rattle.expr_meaning.specs.Leaves.{stands_for};
 ghost use Rattle.project_meaning.specs.Lexicons.{text_in};
 ghost use Rattle.project_meaning.specs.Meaning.{Meaning, stands_for as text_stands_for};
 ghost use Rattle.project_meaning.specs.Projects.{Project};
-ghost use Rattle.lexicon_spelling.specs.Laws.{LexiconsAreSpelled, ResolvedAreMapped};
+ghost use Rattle.lexicon_spelling.specs.Laws.{LexiconsAreSpelled, LexiconsNeedNoAlphabet, ResolvedAreMapped};
 
 /// Lexicons relate the same words in symbols and in texts, where their leaves and letters do, whatever symbol an atom is.
 pub fn lexicons_are_spelled()
@@ -15,4 +15,10 @@ pub fn lexicons_are_spelled()
 /// Lexicons where names are defined are those that are written, with other leaves.
 pub fn resolved_are_mapped()
     ensures { ResolvedAreMapped }
+{}
+
+/// Lexicons in which no expression uses the alphabet relate the same over every one.
+pub fn lexicons_need_no_alphabet()
+    ensures symbols { (symbol_in : Atom → Sym) → LexiconsNeedNoAlphabet symbol_in stands_for }
+    ensures texts { (project : Project) → LexiconsNeedNoAlphabet text_in (text_stands_for (Meaning project)) }
 {}
