@@ -138,6 +138,20 @@ pub later_errors : {T : Type 0} (r : Result T LoadError) (first before now : ℕ
 later_errors (Ok x) first before now later h = tt
 later_errors (Err error) first before now later h = later_error error first before now later h
 
+-- the manifest of the sources, by their content
+pub manifest_from : {E : Type 0} (sources : Files) (content : List ℕ) (r : Result (Option (List Placed)) E) → file_of project_name sources ≡ Some content
+    → IfOk r (λ manifest. MatchOption manifest ((lines : List Placed) → IsManifestFile content lines → ⊥) (IsManifestFile content))
+    → IfOk r (λ manifest. MatchOption manifest ((lines : List Placed) → SourcesDeclare sources lines → ⊥) (SourcesDeclare sources))
+manifest_from sources content (Err error) at is = tt
+manifest_from sources content (Ok (Some lines)) at is = (content, at, is)
+manifest_from sources content (Ok None) at none = λ lines (whole, whole_at, is).
+    let same : Some whole ≡ Some content = sym whole_at ∙ at in
+    let contents : whole ≡ content = cc in
+    none lines (subst (λ (z : List ℕ). IsManifestFile z lines) contents is)
+
+pub manifest_gone : (sources : Files) → file_of project_name sources ≡ None → (lines : List Placed) → SourcesDeclare sources lines → ⊥
+manifest_gone sources gone lines (content, at, is) = let clash : Some content ≡ None = sym at ∙ gone in cc
+
 -- The manifest was read.
 module _ (most : ℕ) (is_most : most ≡ most_read) (files : Option Files) (between : Files) (told : Told files (HasAdded project_name most [] between)) where
   -- sources declare these lines alone
