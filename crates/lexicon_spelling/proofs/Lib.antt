@@ -1,0 +1,4 @@
+mod Sides
+mod Paths
+pub mod Spelling
+mod Resolved
