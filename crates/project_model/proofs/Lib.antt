@@ -16,5 +16,5 @@ mod Forming
 mod Sound
 mod Requiring
 mod Projecting
-mod Reading
+pub mod Reading
 mod FileSteps

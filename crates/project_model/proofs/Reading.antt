@@ -97,6 +97,12 @@ pub no_manifest_of : (bytes text : List ℕ) (error : PlanError) → HasText byt
 no_manifest_of bytes text (Refused found) has h = inr (text, has, h)
 no_manifest_of bytes text (Memory refused) has h = tt
 
+-- so there are no lines of a manifest
+pub no_manifest_file : (bytes : List ℕ) (lines : List Placed) (found : Fault) → IsNoManifest bytes found → IsManifestFile bytes lines → ⊥
+no_manifest_file bytes lines found (inl none) is = textless project_name bytes is.text found none is.has_text
+no_manifest_file bytes lines found (inr (text, has, (at, faulty, e))) is =
+    is.faultless at (subst (λ (z : List ℕ). ManifestFault line_rows_so_far z at) (same_text bytes text is.text has is.has_text) faulty)
+
 -- there is no manifest's file
 pub without_project : (files : Files) (old new : List (List ℕ)) (error : PlanError) → file_of project_name files ≡ None → IsRefusal (fault project_name 0 why.NoProject) error
     → IsProjectRead files old new (Err error)
