@@ -10,14 +10,14 @@
 //! - [`Release`]: what can be published.
 #![tactic(auto)]
 
+mod board;
 mod editor;
-mod open;
 mod page;
 mod rule;
 mod seat;
 mod steps;
 
+pub use board::open;
 pub use editor::{Closed, ClosedOf, Editor, EditorOf, Note};
-pub use open::open;
 pub use publish_history::Release;
 pub use seat::Seat;

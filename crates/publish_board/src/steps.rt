@@ -1,5 +1,5 @@
 //! The steps of a board's writer and readers.
-ghost use Rattle.std.specs.Prelude.{◌≡◌, ◌∷◌, ◌++◌, ◌^◌, ◌<◌, [], Some, IfOk, IfSome, drop};
+ghost use Rattle.std.specs.Prelude.{◌≡◌, ◌∷◌, ◌++◌, ◌^◌, ◌<◌, [], None, Some, IfOk, IfSome, drop};
 ghost use Rattle.left_right.specs.Sides.{view};
 ghost use Rattle.publish_board.specs.Rule.{Knows};
 
@@ -70,18 +70,27 @@ pub fn show<V: Release, R: Wait>(rt: &R, writer: PageWriter<V>, page: Page<V>) -
     unreachable!()
 }
 
-/// A reader that knows what the writer knows. It waits as long as no place is handed out.
-pub fn reader_of<V: Release, R: Wait>(rt: &R, writer: &mut PageWriter<V>) -> PageReader<V>
-    ensures reader { view result.place ≡ view writer.old.desk.place }
-    ensures writer { (view writer.new.desk.place ≡ view writer.old.desk.place) × (writer.new.desk.shown ≡ writer.old.desk.shown) }
+/// A reader of what the writer shows. It waits as long as no place is handed out.
+fn new_reader<V: Release, R: Wait>(rt: &R, writer: &PageWriter<V>) -> PageReader<V>
+    ensures view { view result.place ≡ None }
+    ensures table { result.place.table_id ≡ writer.now.desk.place.table_id }
 {
     for _ in rt.forever() {
-        if let Ok(mut reader) = writer.factory().reader() {
-            reader.learn::<Learns>(writer.tell::<Tells>());
+        if let Ok(reader) = writer.factory().reader() {
             return reader;
         }
     }
     unreachable!()
+}
+
+/// A reader that knows what the writer knows. It waits as `new_reader` does.
+pub fn reader_of<V: Release, R: Wait>(rt: &R, writer: &mut PageWriter<V>) -> PageReader<V>
+    ensures reader { view result.place ≡ view writer.old.desk.place }
+    ensures writer { (view writer.new.desk.place ≡ view writer.old.desk.place) × (writer.new.desk.shown ≡ writer.old.desk.shown) }
+{
+    let mut reader = new_reader(rt, writer);
+    reader.learn::<Learns>(writer.tell::<Tells>());
+    reader
 }
 
 /// The page that is shown. None where the reader is not let in, or where no more can share the value.

@@ -15,5 +15,4 @@ mod law;
 mod release;
 
 pub use history::{Beginning, History, Whole};
-pub use law::{Entry, Law};
 pub use release::Release;

@@ -1,8 +1,5 @@
-use Rattle.publish_board.proofs.Knowing.{keeps_new, keeps_tell, keeps_learn}
+use Rattle.publish_board.proofs.Knowing.{keeps_tell, keeps_learn}
 use Rattle.publish_board.proofs.steps.reader_of.Goals as goal
-
-pub reader-requires : goal.reader-requires
-reader-requires g c page views h = keeps_new page.board views h
 
 pub tell-requires : goal.tell-requires
 tell-requires g c page views h at = keeps_tell _ _ page.board views h at

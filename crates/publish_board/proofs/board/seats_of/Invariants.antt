@@ -1,7 +1,7 @@
 use Rattle.std.proofs.Common.{◌≡◌, length, All}
 use Rattle.left_right.specs.Sides.{view}
 use Rattle.publish_board.specs.Boards.{seated}
-use Rattle.publish_board.proofs.open.seats_of.Given as goal
+use Rattle.publish_board.proofs.board.seats_of.Given as goal
 
 abbrev pub invariant-seats : goal.invariant-seats
 invariant-seats g l =

@@ -1,7 +1,7 @@
 use Rattle.std.proofs.Common.{◌≡◌, ◌∙◌, ◌+◌, ap, sym, subst, List, ◌++◌, ◌∷◌, [], length, length-append, All, arith}
 use Rattle.std.proofs.lemmas.List.Elements.{All-push}
 use Rattle.publish_board.specs.Boards.{Seated, seated}
-use Rattle.publish_board.proofs.open.seats_of.Goals as goal
+use Rattle.publish_board.proofs.board.seats_of.Goals as goal
 
 pub seats-preserved : goal.seats-preserved
 seats-preserved g c =
