@@ -1,11 +1,11 @@
 -- The files that lines of a manifest name, one after another.
-use Rattle.std.proofs.Common.{◌≡◌, ◌+◌, ◌<◌, ℕ, List, [], ◌∷◌, ◌++◌, length, map, take, drop, get_or, Some, None, Ok, Err, refl, sym, ap, subst, ◌∙◌, inl, inr, append_assoc, append-nil}
+use Rattle.std.proofs.Common.{◌≡◌, ◌+◌, ◌<◌, ℕ, List, [], ◌∷◌, ◌++◌, length, map, take, drop, get_or, Some, None, Result, Ok, Err, OnOk, refl, sym, ap, subst, ◌∙◌, inl, inr, append_assoc, append-nil}
 use Rattle.std.proofs.lemmas.List.{map-append, take-append-drop, take_more}
 use Rattle.word_relations.proofs.Behind.{left_behind}
 use Rattle.fsm_io.specs.Folders.{Files, file_of}
 use Rattle.regex_ast.specs.declared.fault.Fault.{Fault}
 use Rattle.regex_ast.specs.declared.fault.Why.TheVariants as why
-use Rattle.regex_reader.specs.Files.{FaultAt, ReadsAs, Statement}
+use Rattle.regex_reader.specs.Files.{ReadsAs, Statement}
 use Rattle.project_manifest.specs.Lines.{Placed, file_in}
 use Rattle.project_manifest.specs.Manifests.{project_name}
 use Rattle.project_manifest.specs.Rows.{First, HaveNone}
@@ -23,7 +23,6 @@ use Rattle.project_model.specs.Answers.{IsRefusal, IsRefusedBy}
 use Rattle.project_model.specs.Files.{HasDefined, HasPut, IsUnread}
 use Rattle.project_model.specs.declared.plan_error.PlanError.{PlanError}
 use Rattle.project_model.specs.declared.plan_error.PlanError.TheVariants.{Refused, Memory}
-use Rattle.project_model.proofs.NameSteps.{refused_by}
 use Rattle.project_model.proofs.Reading.{same_content, textless}
 
 -- A line that names this file.
@@ -87,10 +86,26 @@ fileless files l written none = record {
   faultless = λ found h. subst (λ (z : List (List ℕ)). First (λ f. First (FileFault no_readers files l f) file_rows) z found) none h;
 }
 
+-- the same of what a call answered
+pub defined_files : {T E : Type 0} (files : Files) (l : Placed) (file content text : List ℕ) (r : Result T E) (old new : List Written) → file_in l.said ≡ file ∷ [] → file_of file files ≡ Some content → HasText content text
+    → OnOk r (HasPut l text old new) → OnOk r (HasDefined files l old new)
+defined_files files l file content text (Ok x) old new names held has put = defined_file files l file names content held text has old new put
+defined_files files l file content text (Err error) old new names held has put = tt
+
 -- A text of a file that a line names: a line of definitions, and another one.
 pub put_statements : (line : ℕ) (named file text : List ℕ) (statements : List Statement) (old new : List Written) → file ≡ named → ReadsAs text (Ok statements) → new ≡ old ++ map (stated file) statements
     → HasPut (placed_of (record { number = line; declares = Definitions named })) text old new
 put_statements line named file text statements old new same reads is = (map (stated named) statements, (statements, reads, refl), is ∙ ap (λ (f : List ℕ). old ++ map (stated f) statements) same)
+
+pub unread_line : (line : ℕ) (d : Declaration) (file text : List ℕ) (error : PlanError) → file_in (line_of d) ≡ file ∷ [] → ((named : List ℕ) → d ≡ Definitions named → ⊥) → IsRefusal (fault file 0 why.NotBuilt) error
+    → IsRefusedBy (IsUnread (placed_of (record { number = line; declares = d })) file text) error
+unread_line line d file text (Memory refused) names other is = tt
+unread_line line (Lexicon name it) file text (Refused found) names other is = (record { line = 0; why = why.NotBuilt }, refl, is)
+unread_line line (Grammar name it) file text (Refused found) names other is = (record { line = 0; why = why.NotBuilt }, refl, is)
+unread_line line (Glosses it) file text (Refused found) names other is = (record { line = 0; why = why.NotBuilt }, refl, is)
+unread_line line (Definitions it) file text (Refused found) names other is = absurd (other it refl)
+unread_line line (Symbols symbols) file text (Refused found) names other is = let clash : [] ≡ file ∷ [] = names in cc
+unread_line line (Required required) file text (Refused found) names other is = let clash : [] ≡ file ∷ [] = names in cc
 
 -- with one line more
 files_more : (files : Files) (lines : List Placed) (written more : List Written) (l : Placed) → FilesDefine no_readers files lines written → FileDefines no_readers files l (file_in l.said) more

@@ -285,7 +285,7 @@ module _ (written : List Written) (lines : List Placed) (names alphabet : List (
     planned_whole few known answer by_definitions = by answer (by_definitions lines (said_whole ∙ sym (whole_is few)))
       where
         by : (answer : Result PlanView PlanError) → IsPlanBy definitions_so_far said old new answer → IsPlanBy said_so_far said old new answer
-        by (Ok plan) (free, stands) = (
+        by (Ok made) (free, stands) = (
           none_more (SaidFault said) in_names (many_symbols ∷ unknown ∷ definitions_so_far) none
               (none_more (SaidFault said) many_symbols (unknown ∷ definitions_so_far) (none_large few) (none_more (SaidFault said) unknown definitions_so_far (none_unknown known) free)),
           stands,

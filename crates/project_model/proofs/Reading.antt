@@ -23,7 +23,6 @@ use Rattle.project_model.specs.Plans.{PlanView}
 use Rattle.project_model.specs.declared.plan_error.PlanError.{PlanError}
 use Rattle.project_model.specs.declared.plan_error.PlanError.TheVariants.{Refused, Memory}
 use Rattle.project_model.proofs.Alphabets.{numbers_held, put}
-use Rattle.project_model.proofs.NameSteps.{refused_by}
 
 -- why a content has no text
 pub text_large : (file bytes : List ℕ) → most_bytes < length bytes → HasNoText file bytes (fault file 0 why.LimitFile)

@@ -1,6 +1,6 @@
 -- Names that lines of a manifest require.
 use Rattle.std.proofs.lemmas.List.Elements.{All-tail}
-use Rattle.std.proofs.Common.{All, ◌≡◌, ◌↔◌, ◌+◌, ◌<◌, ℕ, List, [], ◌∷◌, ◌++◌, length, map, take, drop, get_or, refl, sym, ap, subst, ◌∙◌, inl, inr}
+use Rattle.std.proofs.Common.{All, ◌≡◌, ◌↔◌, ◌+◌, ◌<◌, ℕ, List, [], ◌∷◌, ◌++◌, length, map, take, drop, get_or, refl, sym, ap, subst, ◌∙◌, inl}
 use Rattle.std.proofs.lemmas.List.{map-append, take-append-drop, take_more}
 use Rattle.std.specs.List.{Contains}
 use Rattle.word_relations.proofs.Behind.{left_behind}
@@ -9,7 +9,7 @@ use Rattle.regex_ast.specs.declared.fault.Fault.{Fault}
 use Rattle.regex_ast.specs.declared.fault.Why.TheVariants as why
 use Rattle.project_manifest.specs.Lines.{Placed, symbols_of, symbols_said}
 use Rattle.project_manifest.specs.Manifests.{project_name}
-use Rattle.project_manifest.specs.Rows.{First, HaveNone, Where}
+use Rattle.project_manifest.specs.Rows.{HaveNone, Where}
 use Rattle.project_manifest.specs.Sayings.{line_of, placed_of}
 use Rattle.project_manifest.specs.declared.manifest.ManifestLine.{ManifestLine}
 use Rattle.project_manifest.proofs.Firsts.{first_alike, first_past, none_append, none_more}

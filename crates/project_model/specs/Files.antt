@@ -1,5 +1,5 @@
 -- What is read of the files that a manifest names.
-use Rattle.std.specs.Prelude.{◌≡◌, ◌++◌, ℕ, List, [], ◌∷◌, Ok, Err}
+use Rattle.std.specs.Prelude.{◌≡◌, ◌++◌, ℕ, List, Ok, Err}
 use Rattle.fsm_io.specs.Folders.{Files}
 use Rattle.regex_ast.specs.declared.fault.Fault.{Fault}
 use Rattle.regex_reader.specs.Files.{FaultAt}

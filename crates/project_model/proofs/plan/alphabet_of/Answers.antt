@@ -1,9 +1,8 @@
-use Rattle.std.proofs.Common.{List, [], ◌∷◌, ◌++◌, ◌+◌, All, map, drop, sym, ap, subst, ◌∙◌, arith}
+use Rattle.std.proofs.Common.{List, [], ◌+◌, All, map, drop, sym, ap, subst, ◌∙◌, arith}
 use Rattle.std.proofs.lemmas.List.{drop_all}
 use Rattle.fsm_base.specs.Symbols.{IsSymbol}
-use Rattle.word_relations.proofs.Behind.{left_behind}
-use Rattle.project_manifest.specs.Lines.{symbols_of}
-use Rattle.project_manifest.specs.Sayings.{placed_of}
+use Rattle.project_manifest.specs.Lines.{symbols_of, symbols_said}
+use Rattle.project_manifest.specs.Sayings.{line_of, placed_of}
 use Rattle.project_manifest.specs.declared.manifest.ManifestLine.{ManifestLine}
 use Rattle.project_model.specs.Answers.{written_of}
 use Rattle.project_model.specs.Gathered.{gathered, symbols_of_all}
@@ -28,8 +27,8 @@ lines-preserved c =
     let left = line_symbols c.args.lines.now c.lines.line-index line (omega arith) c.line-item.is in
     let now = rw c.symbols.ensures at c.in_ok-add_texts.ensures in
     record {
-      same = gather_more c.lines.alphabet c.add_texts.new.table _ rest _ _ now left c.lines.invariant.same;
-      short = still_short c.add_texts.new.table c.lines.alphabet _ now;
+      same = gather_more c.lines.alphabet c.add_texts.new.table (symbols_said (line_of line.declares)) rest _ _ now left c.lines.invariant.same;
+      short = still_short c.add_texts.new.table c.lines.alphabet (symbols_said (line_of line.declares)) now;
       symbols = All-behind IsSymbol _ rest (subst (All IsSymbol) left c.lines.invariant.symbols);
     }
 

@@ -1,9 +1,5 @@
-use Rattle.std.proofs.Common.{length, ap, refl, arith}
-use Rattle.project_manifest.specs.Manifests.{project_name}
-use Rattle.project_model.specs.Answers.{IsTextFault}
-use Rattle.project_sources.specs.Faults.{fault}
-use Rattle.project_model.proofs.NameSteps.{refused_by}
-use Rattle.project_model.proofs.Reading.{no_manifest_of, no_text_no_manifest, text_short}
+use Rattle.std.proofs.Common.{length, ap, arith}
+use Rattle.project_model.proofs.Reading.{no_text_no_manifest, text_short}
 use Rattle.project_model.proofs.read.manifest_of.Goals as goal
 
 pub returns-in-Err-clause-error : goal.returns-in-Err-clause-error

@@ -1,0 +1,10 @@
+use Rattle.std.proofs.Common.{map}
+use Rattle.project_model.specs.Answers.{written_of}
+use Rattle.project_model.proofs.Reading.{planned_files}
+use Rattle.project_model.proofs.read.plan_by.Goals as goal
+
+pub returns-clause-plan : goal.returns-clause-plan
+returns-clause-plan c content held is =
+    let lines = c.lines-lines.ensures.lines in
+    planned_files c.args.sources.now content held c.args.manifest.now is (map written_of c.in-Ok.written.items) (rw lines at c.in-Ok.ensures.written) (rw lines at c.in-Ok.ensures.faultless) c.args.table.now c.plan_of.new.table c.plan_of.result
+    (rw (lines, c.deref.ensures.value) at c.plan_of.ensures.plan)
