@@ -1,0 +1,14 @@
+//! From a lexc text to its lexicons, or its first fault (Beesley and Karttunen, Finite State Morphology, 2003, chapter 4).
+//!
+//! - [`read_lexc`]: what a text says.
+//!
+//! `Files.antt` of `lexc_grammar` has the definition.
+#![tactic(auto)]
+
+mod closing;
+mod lexc;
+mod state;
+mod statements;
+mod text_set;
+
+pub use lexc::read_lexc;
