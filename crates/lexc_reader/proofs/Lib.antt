@@ -3,3 +3,4 @@ pub mod Steps
 pub mod Features
 pub mod Closings
 pub mod Reading
+pub mod Sound

@@ -60,5 +60,5 @@ module _ (items rest : List ℕ) (len lines : ℕ) (rest_is : rest ≡ drop len 
   pub goes_on_more : GoesOn items stage known (drop len items) → GoesOn items step.stage new (drop (len + step.len) items)
   goes_on_more before answer says =
       let here : Says lines step.stage new (drop step.len rest) answer =
-          subst (λ (n : ℕ). Says n step.stage new (drop step.len rest) answer) (sym whole) (subst (λ (z : List ℕ). Says (newlines items + 1) step.stage new z answer) (sym behind_is) says)
+      subst (λ (n : ℕ). Says n step.stage new (drop step.len rest) answer) (sym whole) (subst (λ (z : List ℕ). Says (newlines items + 1) step.stage new z answer) (sym behind_is) says)
       in before answer (subst (λ (z : List ℕ). Says (newlines items + 1) stage known z answer) rest_is (subst (λ (n : ℕ). Says n stage known rest answer) whole (is.goes_on answer here)))

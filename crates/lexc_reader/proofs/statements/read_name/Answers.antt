@@ -24,7 +24,7 @@ returns-in_default c =
     let next = rw c.in-Found.is at c.in_ok-scan.ensures in
     rw c.no_statement-in_default.ensures
     (name_is_none c.args.text.now c.args.found.now c.args.stage (known_of c.args.state.now) c.requires.found c.requires.word c.split_at.result.1.now c.split_at.ensures.back c.in-Found.name next
-        (λ letters same. absurd (c.in_default.not-Word letters same)))
+    (λ letters same. absurd (c.in_default.not-Word letters same)))
 
 pub returns-then-not-is_name : goal.returns-then-not-is_name
 returns-then-not-is_name c =
@@ -32,7 +32,7 @@ returns-then-not-is_name c =
     let is : c.in-Word.word ≡ hash = is_hash c.in-Word.word (subst (λ (l : List Letter). (l ≢ hash) → ⊥) c.letters.ensures (λ other. true≢false (sym (c.is_name.ensures.1 other) ∙ c.if-not-is_name.true))) in
     rw c.no_statement-then-not-is_name.ensures
     (name_is_none c.args.text.now c.args.found.now c.args.stage (known_of c.args.state.now) c.requires.found c.requires.word c.split_at.result.1.now c.split_at.ensures.back c.in-Found.name next
-        (λ letters same. subst (λ (l : List Letter). l ≡ hash) (one_word c.in-Word.word letters (sym c.in-Word.is ∙ same)) is))
+    (λ letters same. subst (λ (l : List Letter). l ≡ hash) (one_word c.in-Word.word letters (sym c.in-Word.is ∙ same)) is))
 
 pub returns-then-contains : goal.returns-then-contains
 returns-then-contains c =
