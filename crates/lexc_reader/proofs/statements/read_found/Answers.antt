@@ -4,7 +4,7 @@ use Rattle.lexc_reader.proofs.Steps.{ends, stray}
 use Rattle.lexc_reader.proofs.statements.read_found.Goals as goal
 
 pub returns-in-Some-End : goal.returns-in-Some-End
-returns-in-Some-End c = (refl, ends c.args.text.now c.args.found c.args.stage (known_of c.args.state.now) c.requires.found (rw c.in-Some-End.is at c.keyword_of.ensures))
+returns-in-Some-End c = (refl, ends c.args.text.now c.args.found c.args.stage (known_of c.args.state.now) c.requires.found (rw (c.in-Some-End.is, c.in-Some-End.field-0-is) at c.keyword_of.ensures))
 
 pub returns-in-Some-Symbols : goal.returns-in-Some-Symbols
 returns-in-Some-Symbols c = c.begin_symbols.ensures (known_of c.args.state.now)
