@@ -4,13 +4,10 @@ with one look-up, and their ratio. What takes more than SECONDS is ended and sho
 
 usage: bench/rules.py [PROGRAM]
 """
-import os
-import subprocess
 import sys
 import tempfile
-import time
 
-from measure import has_foma, peak_of, program, write_project
+from measure import has_foma, program, spent, write_project
 
 SECONDS = 120
 
@@ -51,38 +48,17 @@ def cases():
     yield 'thirty rules behind 2,000 words', forty, definitions(forty, [in_context(forty, k) for k in range(30)], words(forty, 2000))
 
 
-def spent(command, given):
-    """The processor seconds and the peak memory, in bytes, of a command with this input; infinitely many seconds where it is ended."""
-    with tempfile.TemporaryFile() as source:
-        source.write(given)
-        source.seek(0)
-        child = subprocess.Popen(command, stdin=source, stdout=subprocess.DEVNULL, stderr=subprocess.DEVNULL)
-    start, memory = time.monotonic(), 0
-    while True:
-        memory = max(memory, peak_of(child.pid))
-        done, status, usage = os.wait4(child.pid, os.WNOHANG)
-        if done:
-            child.returncode = status
-            return usage.ru_utime + usage.ru_stime, memory
-        if time.monotonic() - start > SECONDS:
-            child.kill()
-            os.wait4(child.pid, 0)
-            child.returncode = -9
-            return float('inf'), memory
-        time.sleep(0.002)
-
-
 def main():
     ours = program(sys.argv[1:])
     beside = has_foma()
     for name, over, source in cases():
         with tempfile.TemporaryDirectory() as folder:
             write_project(folder, source)
-            seconds, memory = spent([ours, 'up', folder, 'N'], (over[1] + '\n').encode())
+            seconds, memory = spent([ours, 'up', folder, 'N'], (over[1] + '\n').encode(), SECONDS)
             line = '%-40s %7.2f s %7.1f MiB' % (name, seconds, memory / 2 ** 20)
             if beside:
                 script = source + 'regex N ;\nup %s\n' % over[1]
-                theirs, memory = spent(['foma', '-p'], script.encode())
+                theirs, memory = spent(['foma', '-p'], script.encode(), SECONDS)
                 line += '   foma %7.2f s %7.1f MiB   %.2f' % (theirs, memory / 2 ** 20, seconds / max(theirs, 0.005))
             print(line, flush=True)
 

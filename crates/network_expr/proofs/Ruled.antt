@@ -1,5 +1,5 @@
 -- Rules one by one: each is built, fits, and weighs no more than all.
-use Rattle.std.proofs.Common.{◌≡◌, ◌<◌, ◌≤◌, ◌+◌, ℕ, zero, suc, Bool, true, false, ◌||◌, IsTrue, List, [], ◌∷◌, length, take, get_or, arith, refl, sym, ap, subst}
+use Rattle.std.proofs.Common.{◌≡◌, ◌<◌, ◌≤◌, ℕ, zero, suc, Bool, true, false, ◌||◌, IsTrue, List, [], ◌∷◌, length, take, get_or, arith, refl, sym, ap, subst}
 use Rattle.fsm_base.specs.declared.letters.Sym.{Sym}
 use Rattle.fsm_base.specs.declared.letters.Pair.{Pair}
 use Rattle.word_relations.specs.Relations.{AreSame}
@@ -16,7 +16,6 @@ use Rattle.expr_kinds.specs.Built.{is_insertion}
 use Rattle.expr_kinds.specs.Kinds.{MappingsFit, ContextsFit, GroupsFit}
 use Rattle.expr_meaning.specs.Meaning.{In, Relates}
 use Rattle.expr_meaning.specs.Replacement.{IsRewritten}
-use Rattle.network_algebra.specs.Networks.{IsFor}
 use Rattle.network_algebra.specs.declared.network.Network.TheVariants.{Pairs}
 use Rattle.network_algebra.proofs.Meanings.{pairs_for}
 use Rattle.replace_rules.specs.declared.rules.LangGroup.{LangGroup}

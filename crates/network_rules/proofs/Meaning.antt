@@ -1,5 +1,5 @@
 -- What rules of languages relate, the expression relates whose rules they are.
-use Rattle.std.proofs.Common.{◌≡◌, ◌↔◌, ◌⊎◌, Bool, true, false, not, IsTrue, List, [], ◌∷◌, ◌++◌, Option, None, Some, refl, sym, subst, ◌∙◌, inl, inr}
+use Rattle.std.proofs.Common.{◌≡◌, ◌↔◌, ◌⊎◌, Bool, true, false, not, IsTrue, List, [], ◌∷◌, Option, None, Some, refl, sym, subst, ◌∙◌, inl, inr}
 use Rattle.std.specs.List.{Contains}
 use Rattle.std.proofs.lemmas.Bool.{and_parts}
 use Rattle.std.proofs.lemmas.List.Elements.{All-contains_itself}
@@ -24,7 +24,7 @@ use Rattle.replace_rules.specs.declared.rules.LangGroup.{LangGroup}
 use Rattle.lang_algebra.specs.Languages.{IsLang}
 use Rattle.replace_insertions.specs.Insertions.{AllowsAt, InsertsBy, AsksBy}
 use Rattle.replace_rules.specs.Rules.{IsPut, HasCentre, HasMapping, HasContext, Allows, ReplacesBy, AppliesBy, IsMapOver, AreMapsOver}
-use Rattle.network_rules.specs.Rules.{IsPart, IsSide, IsFilled, IsPlain, IsMarkup, AreMaps, AreContexts, AreGroups}
+use Rattle.network_rules.specs.Rules.{IsPart, IsPlain, IsMarkup, AreMaps, AreContexts, AreGroups}
 
 then_same : (P Q R : Type 0) → P ↔ Q → Q ↔ R → P ↔ R
 then_same P Q R f g = (λ p. g.0 (f.0 p), λ r. f.1 (g.1 r))
@@ -279,11 +279,11 @@ module _ {A : Type 0} (leaf : A → List Sym → List Sym → Type 0) (alphabet 
   maps_over no_mapping [] none are m among = absurd (Contains-nil_cases m among)
   maps_over (plain c r maps) (l ∷ langs) none are m among = elim (Contains-cons_cases l langs m among) as (λ _. IsMapOver alphabet m) [
     | inl same ↦ subst (IsMapOver alphabet) same (plain_over c r l are.0)
-    | inr later ↦ maps_over maps langs are.1 m later
+    | inr later ↦ maps_over maps langs none are.1 m later
   ]
   maps_over (markup c b a maps) (l ∷ langs) none are m among = elim (Contains-cons_cases l langs m among) as (λ _. IsMapOver alphabet m) [
     | inl same ↦ subst (IsMapOver alphabet) same (markup_over c b a l are.0)
-    | inr later ↦ maps_over maps langs are.1 m later
+    | inr later ↦ maps_over maps langs none are.1 m later
   ]
   maps_over (insert r maps) (l ∷ langs) none are m among = let clash : false ≡ true = none in absurd (cc)
   maps_over _ _ none are m among = absurd are

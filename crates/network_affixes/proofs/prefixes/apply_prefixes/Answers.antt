@@ -28,13 +28,13 @@ prefixes-preserved-then-makes_nothing_new c =
       turned = c.prefixes.invariant.turned;
     }
 
-pub prefixes-preserved-in-Some-2 : goal.prefixes-preserved-in-Some-2
-prefixes-preserved-in-Some-2 c =
+pub prefixes-preserved-in-Some-before_two_nots : goal.prefixes-preserved-in-Some-before_two_nots
+prefixes-preserved-in-Some-before_two_nots c =
     let A = c.args.alphabet.now in
-    let two = c.before_two_nots.ensures in
+    let two = c.in-Some-before_two_nots.ensures in
     record {
       only = c.prefixes.invariant.only;
-      done = two_more_behind A c.args.prefixes.now c.prefixes.rest.now c.in-Some.front.now c.in-Some-2.before.now c.in-Some.front.now (Accepts c.args.words) (Accepts c.prefixes.words) c.in-Some.ensures.cases.0 two.2 two.1 c.prefixes.invariant.done (c.prefixes.invariant.turned two.0);
+      done = two_more_behind A c.args.prefixes.now c.prefixes.rest.now c.in-Some.front.now c.in-Some-before_two_nots.before.now c.in-Some.prefix.now (Accepts c.args.words) (Accepts c.prefixes.words) c.in-Some.ensures.cases.0 two.2 two.1 c.prefixes.invariant.done (c.prefixes.invariant.turned two.0);
       settled = c.prefixes.invariant.settled;
       turned = c.prefixes.invariant.turned;
     }

@@ -11,7 +11,7 @@ use Rattle.regex_ast.specs.declared.expr.Context.{Context}
 use Rattle.regex_ast.specs.declared.expr.Expr.TheViews.{out-Group}
 use Rattle.regex_ast.specs.declared.expr.Group.{Group}
 use Rattle.regex_ast.specs.declared.expr.Mapping.{Mapping}
-use Rattle.regex_ast.specs.Terms.{term, terms_of, links_of, contexts_of, steps_by, mappings_of, groups_of, concat, ignore, maybe, no_term, no_link, or}
+use Rattle.regex_ast.specs.Terms.{term, terms_of, links_of, contexts_of, steps_by, mappings_of, groups_of, concat, ignore, maybe, no_term}
 use Rattle.regex_ast.proofs.Rows.{term-Concat, term-Ignore, term-Chain, term-Only, term-Steps}
 use Rattle.expr_kinds.specs.Built.{has_no_insertion, is_insertion}
 use Rattle.expr_kinds.specs.Kinds.{ChainFits, ContextsFit, EachFits, EachFitsAsLanguage, Fits, MappingsFit, StepsFit, kind_of, kind_of_chain}
@@ -27,7 +27,7 @@ use Rattle.network_expr.specs.Parts.{kinds, stands}
 use Rattle.network_expr.specs.Built.{AreBuiltOver, ContextsAreBuiltOver, IsBuiltOver, IsChoice, IsMeant, IsNarrowing, LinksAreBuiltOver, MappingsAreBuiltOver, StepsAreBuiltOver}
 use Rattle.network_expr.proofs.Weights.{weight, weight_contexts, weight_mappings, weight_groups, each_halves, links_halves, contexts_halves, steps_halves as steps_lighter}
 use Rattle.network_expr.proofs.Rows.{each_built, each_fits, each_language, chain_built, chain_fits, choice_fits, contexts_built, contexts_fit, steps_built, steps_fit, no_item, one_item, halves_joined, terms_joined, some_terms}
-use Rattle.network_expr.proofs.Meant.{IsChosen, IsChained, IsStepped, AreIn, reduced_for, alone_chosen, chain_for, chain_halves, chain_choice, choice_halves, none_chosen, none_accepted, steps_for, steps_halves, then_stepped, context_one, context_halves, no_contexts, only_meant, words_meant, meant_words, letters_meant, colon_language, maybe_meant, same_meant, turn_alone, turns_meant, prefixed_meant, not_one_meant, ignore_row, ignore_one, ignore_halves, each_kind_language, language_meant, empty_only, given_one, given_two}
+use Rattle.network_expr.proofs.Meant.{IsChosen, IsStepped, AreIn, reduced_for, alone_chosen, chain_for, chain_halves, chain_choice, choice_halves, none_chosen, none_accepted, steps_for, steps_halves, then_stepped, context_one, context_halves, no_contexts, only_meant, words_meant, meant_words, letters_meant, colon_language, maybe_meant, same_meant, turn_alone, turns_meant, prefixed_meant, not_one_meant, ignore_row, ignore_one, ignore_halves, each_kind_language, language_meant, empty_only, given_one, given_two}
 use Rattle.network_affixes.proofs.Suffixed.{suffixed_for}
 use Rattle.network_expr.proofs.Narrowed.{fails, two_links, before_narrowing, halves_fit, narrowed_halves, narrowed_meant, narrowed_only}
 use Rattle.expr_kinds.proofs.Sets.{term_rules, maps_of_is, contexts_in_is}
@@ -790,8 +790,8 @@ replaced-insertion-requires-clause-one t c =
     let A = c.args.alphabet.now in
     let whole = c.args.groups.now in
     let so_far = subst (λ (z : List (Group Atom)). AreGroups (stands P) A (groups_of z) c.groups.langs.items) (take_whole whole c.groups.group-index c.groups-test.false) c.groups.invariant in
-    let are = subst (λ (z : List LangGroup). AreGroups (stands P) A (groups_of whole) z) (sym c.deref-in-then.ensures.value) so_far in
-    insertion_rows (stands P) A (groups_of whole) c.deref-in-then.result.now (sym c.is_insertion.ensures ∙ c.if-is_insertion.true) are
+    let are = subst (λ (z : List LangGroup). AreGroups (stands P) A (groups_of whole) z) (sym c.deref-then-is_insertion.ensures.value) so_far in
+    insertion_rows (stands P) A (groups_of whole) c.deref-then-is_insertion.result.now (sym c.is_insertion.ensures ∙ c.if-is_insertion.true) are
 
 pub replaced-returns-then-is_insertion-clause-meaning : goal.replaced-returns-then-is_insertion-clause-meaning
 replaced-returns-then-is_insertion-clause-meaning t c =
@@ -799,5 +799,5 @@ replaced-returns-then-is_insertion-clause-meaning t c =
     let A = c.args.alphabet.now in
     let whole = c.args.groups.now in
     let so_far = subst (λ (z : List (Group Atom)). AreGroups (stands P) A (groups_of z) c.groups.langs.items) (take_whole whole c.groups.group-index c.groups-test.false) c.groups.invariant in
-    let are = subst (λ (z : List LangGroup). AreGroups (stands P) A (groups_of whole) z) (sym c.deref-in-then.ensures.value) so_far in
-    insertion_meant P A c.args.optional whole c.deref-in-then.result.now c.in_ok-insertion.field-0 (sym c.is_insertion.ensures ∙ c.if-is_insertion.true) are c.in_ok-insertion.ensures.relation
+    let are = subst (λ (z : List LangGroup). AreGroups (stands P) A (groups_of whole) z) (sym c.deref-then-is_insertion.ensures.value) so_far in
+    insertion_meant P A c.args.optional whole c.deref-then-is_insertion.result.now c.in_ok-insertion.field-0 (sym c.is_insertion.ensures ∙ c.if-is_insertion.true) are c.in_ok-insertion.ensures.relation
