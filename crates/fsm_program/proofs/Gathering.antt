@@ -124,6 +124,11 @@ module _ (names : List (List ℕ)) (i : ℕ) (name : List ℕ) (below : i < leng
   asked_front old between new most r is_most so_far (inl asked) = (take (i + 1) names, drop (i + 1) names, sym (take-append-drop (i + 1) names), asked_more old between new most is_most so_far asked)
   asked_front old between new most r is_most so_far (inr none) = (take i names, drop i names, sym (take-append-drop i names), subst (λ (o : Option (List Asked)). AsksFor old o (as_read (take i names))) (sym none.1) so_far)
 
+-- none is seen yet
+pub none_seen : (sources : Files) (files : Option Files) → Told files (λ (fs : Files). All (IsSeen sources fs) [])
+none_seen sources None = tt
+none_seen sources (Some fs) = All-nil (IsSeen sources fs)
+
 -- all were asked for
 pub asked_all : (names : List (List ℕ)) (i : ℕ) (old new : Option (List Asked)) → length names ≤ i → AsksFor old new (as_read (take i names)) → AsksForFront old new names
 asked_all names i old new end asked = (take i names, [], sym (take_all i names end) ∙ sym (append-nil (take i names)), asked)
