@@ -1,5 +1,5 @@
 -- The newlines of a text are those of its characters.
-use Rattle.std.proofs.Common.{◌≡◌, ◌≢◌, ◌+◌, ◌<◌, ◌≤◌, ◌/◌, ◌%◌, ◌==◌, nat_lt, ℕ, Bool, cond, true, false, List, [], ◌∷◌, ◌++◌, length, take, drop, chars, refl, sym, ap, subst, ◌∙◌, arith}
+use Rattle.std.proofs.Common.{◌≡◌, ◌≢◌, ◌+◌, ◌<◌, ◌≤◌, ◌/◌, ◌%◌, ◌==◌, nat_lt, ℕ, Bool, cond, true, false, List, [], ◌∷◌, ◌++◌, take, drop, chars, refl, sym, ap, ◌∙◌, arith}
 use Rattle.std.specs.Str.{encode_utf8_all, IsUtf8}
 use lib.Utf8.{encode}
 use Rattle.std.proofs.lemmas.Bool.{ltb-false}

@@ -1,21 +1,15 @@
 -- From the statements of a text to what it says.
-use Rattle.std.proofs.Common.{◌≡◌, ◌+◌, ◌-◌, ◌^◌, ◌<◌, ◌≤◌, ℕ, List, [], length, drop, chars, Result, Ok, Err, Vec, refl, sym, ap, subst, ◌∙◌, arith, length-drop}
-use Rattle.std.specs.Global.{Global}
+use Rattle.std.proofs.Common.{◌≡◌, ◌+◌, ◌-◌, ◌^◌, ◌<◌, ◌≤◌, ℕ, List, length, drop, chars, Result, Ok, Err, sym, ap, subst, ◌∙◌, arith, length-drop}
 use Rattle.std.proofs.lemmas.List.{drop-drop}
 use Rattle.std.specs.Result.{IsErrAnd}
 use Rattle.std.specs.Str.{IsUtf8}
-use Rattle.regex_ast.specs.declared.expr.Raw.{Raw}
-use Rattle.regex_ast.specs.declared.fault.ReadError.{ReadError}
-use Rattle.regex_ast.specs.declared.fault.ReadError.TheVariants.{Fault, Memory}
-use Rattle.regex_ast.specs.declared.lexc.Lexicon.{Lexicon as LexiconOf}
 use Rattle.regex_reader.specs.Files.{FaultAt}
 use Rattle.regex_tokens.specs.Cuts.{newlines}
-use Rattle.lexc_grammar.specs.Entries.{fault_at}
-use Rattle.lexc_grammar.specs.Files.{Says, ReadsAs, closed}
+use Rattle.lexc_grammar.specs.Files.{Says}
 use Rattle.lexc_grammar.specs.Lexicons.{Known, LexiconAt, nothing_known}
 use Rattle.lexc_grammar.specs.declared.statements.Stage.{Stage}
 use Rattle.lexc_grammar.specs.declared.statements.Stage.TheVariants.{Beginning}
-use Rattle.lexc_reader.specs.Answers.{IsClosed, IsRead, IsStatementRead, IsStep}
+use Rattle.lexc_reader.specs.Answers.{IsStep}
 use Rattle.lexc_reader.specs.declared.statements.Step.{Step}
 use Rattle.lexc_reader.proofs.Newlines.{newlines_chars}
 
@@ -32,19 +26,6 @@ GoesOn items stage known rest =
 module _ (text items : List ℕ) (items_are : items ≡ chars text) where
   pub room : IsUtf8 text → newlines text + 1 < 2 ^ 32 - 1 → (line : ℕ) (rest : List ℕ) → line + newlines rest ≡ newlines items + 1 → line + newlines rest < 2 ^ 32 - 1
   room is few line rest whole = omega (arith, few, whole, ap newlines items_are ∙ newlines_chars text is)
-
-  reads : (answer : Result (List LexiconAt) FaultAt) → Says (newlines items + 1) Beginning nothing_known items answer → ReadsAs text answer
-  reads answer says = subst (λ (cs : List ℕ). Says (newlines cs + 1) Beginning nothing_known cs answer) items_are says
-
-  module _ (stage : Stage) (known : Known) (rest : List ℕ) (goes_on : GoesOn items stage known rest) where
-    pub stopped : (lines : ℕ) (new : Known) (e : ReadError) → lines ≡ newlines items + 1 → IsStatementRead lines stage known rest new (Err e) → IsRead text (Err e)
-    stopped lines new (Fault at reason) whole says = reads (fault_at at reason) (goes_on (fault_at at reason) (subst (λ (n : ℕ). Says n stage known rest (fault_at at reason)) whole says))
-    stopped lines new (Memory refused) whole says = tt
-
-    pub ended : (lines : ℕ) (r : Result (Vec (LexiconOf Raw) Global) ReadError) → lines ≡ newlines items + 1 → Says lines stage known rest (closed known) → IsClosed known r → IsRead text r
-    ended lines (Ok lexicons) whole says is = subst (ReadsAs text) (sym is) (reads (closed known) (goes_on (closed known) (subst (λ (n : ℕ). Says n stage known rest (closed known)) whole says)))
-    ended lines (Err (Fault at reason)) whole says is = subst (ReadsAs text) (sym is) (reads (closed known) (goes_on (closed known) (subst (λ (n : ℕ). Says n stage known rest (closed known)) whole says)))
-    ended lines (Err (Memory refused)) whole says is = tt
 
 -- one statement more
 module _ (items rest : List ℕ) (len lines : ℕ) (rest_is : rest ≡ drop len items) (whole : lines ≡ newlines items + 1) (stage : Stage) (known new : Known) (step : Step) (is : IsStep lines stage known rest new step) where

@@ -1,5 +1,5 @@
 -- What holds of the lexicons of a text, statement by statement.
-use Rattle.std.proofs.Common.{◌≡◌, ◌≢◌, ◌⊎◌, ◌+◌, ◌<◌, ◌≤◌, ℕ, zero, suc, Bool, true, false, cond, List, [], ◌∷◌, ◌++◌, length, take, drop, map, codes, All, Contains, Option, None, Some, Result, Ok, Err, slice_get, refl, sym, ap, subst, ◌∙◌, inl, inr, arith}
+use Rattle.std.proofs.Common.{◌≡◌, ◌≢◌, ◌+◌, ◌<◌, ℕ, zero, suc, Bool, true, false, cond, List, [], ◌∷◌, ◌++◌, length, take, drop, map, codes, All, Contains, Option, None, Some, Result, Ok, Err, slice_get, refl, sym, ap, subst, ◌∙◌, inl, inr, arith}
 use Rattle.std.specs.Bool.{⊤}
 use Rattle.std.proofs.lemmas.List.{length-take-le, map-append}
 use Rattle.std.proofs.lemmas.List.Elements.{All-nil, All-cons, All-head, All-tail, All-push}
@@ -17,16 +17,15 @@ use Rattle.regex_ast.specs.declared.fault.Why.TheVariants as why
 use Rattle.regex_ast.specs.declared.lexc.Form.{Form as FormOf}
 use Rattle.regex_ast.specs.declared.lexc.Form.TheVariants.{Sides, Pairs}
 use Rattle.regex_ast.specs.declared.lexc.Piece.{Piece as PieceOf}
-use Rattle.regex_ast.specs.declared.lexc.Piece.TheVariants.{Symbol}
 use Rattle.regex_reader.specs.Files.{FaultAt}
-use Rattle.project_meaning.specs.Trees.{Piece, Form, sides, pairs, letter as letter_piece}
+use Rattle.project_meaning.specs.Trees.{Form, sides, pairs, letter as letter_piece}
 use Rattle.lexc_forms.specs.Forms.{CutsInto, ended, longest, one, IsWhole, symbol as whole_symbol, flag as whole_flag, IsForm, alone, is_nothing, symbol_of}
 use Rattle.lexc_forms.specs.Letters.{character_of, characters_of, text_of}
 use Rattle.lexc_forms.specs.declared.letters.Letter.{Letter}
 use Rattle.lexc_forms.proofs.Symbols.{is_listed, not_listed}
 use Rattle.lexc_tokens.specs.declared.token.Token.{Token}
 use Rattle.lexc_tokens.specs.declared.token.Token.TheVariants.{Word as word, Semicolon as semicolon, Expression as expression}
-use Rattle.lexc_grammar.specs.Entries.{Said, fault_at, with_form, with_expression, next_of, WordSays, EntrySays}
+use Rattle.lexc_grammar.specs.Entries.{Said, fault_at, with_form, with_expression, WordSays, EntrySays}
 use Rattle.lexc_grammar.specs.Files.{Says, all_read, end_word, no_token, symbols, symbols_later, symbol, flag, stray_word, stray_end, lexicon, lexicon_again, no_name, no_token_for_name, entry, entry_too_many, entry_refused, closed, or_unknown, is_among, unknown_next, first_unknown}
 use Rattle.lexc_grammar.specs.Lexicons.{EntryAt, LexiconAt, Known, nothing_known, with_symbol, with_lexicon, with_entry, lexicons_of, form_of, piece_of}
 use Rattle.lexc_grammar.specs.declared.statements.Ending.TheVariants.{Ended}

@@ -1,5 +1,5 @@
 -- Statements, one by one: what the text says is what the text behind a statement says.
-use Rattle.std.proofs.Common.{◌≡◌, ◌≢◌, ◌==◌, ◌+◌, ◌-◌, ◌^◌, ◌<◌, ◌≤◌, ℕ, Bool, true, false, List, [], ◌∷◌, length, take, drop, Option, None, Some, Result, Ok, Err, refl, sym, ap, subst, ◌∙◌, inl, inr, arith, length-drop}
+use Rattle.std.proofs.Common.{◌≡◌, ◌≢◌, ◌==◌, ◌+◌, ◌-◌, ◌^◌, ◌<◌, ℕ, Bool, true, false, List, [], ◌∷◌, length, take, drop, Option, None, Some, Result, Ok, Err, refl, sym, ap, subst, ◌∙◌, inl, inr, arith, length-drop}
 use Rattle.std.proofs.lemmas.Bool.Decides.{Decides-eqb}
 use Rattle.std.proofs.lemmas.List.{drop-drop}
 use Rattle.regex_ast.specs.Flags.{IsFlag}
@@ -15,7 +15,7 @@ use Rattle.lexc_forms.specs.Letters.{characters_of, text_of}
 use Rattle.lexc_forms.specs.declared.letters.Letter.{Letter}
 use Rattle.lexc_forms.specs.declared.letters.Letter.TheVariants.{Plain, Escaped}
 use Rattle.lexc_tokens.specs.Steps.{IsNext}
-use Rattle.lexc_tokens.specs.Tokens.{Follows, NoneFollows, Stands, IsWord, letter_front, behind_blanks, inner_len}
+use Rattle.lexc_tokens.specs.Tokens.{Follows, Stands, letter_front, behind_blanks, inner_len}
 use Rattle.lexc_tokens.specs.declared.expressions.Inside.TheVariants.{Nothing}
 use Rattle.lexc_tokens.specs.declared.scanning.Found.{Found}
 use Rattle.lexc_tokens.specs.declared.scanning.Next.TheVariants as what
@@ -23,9 +23,9 @@ use Rattle.lexc_tokens.specs.declared.token.Token.{Token}
 use Rattle.lexc_tokens.specs.declared.token.Token.TheVariants.{Word as word, Semicolon as semicolon, Expression as expression}
 use Rattle.lexc_grammar.specs.Entries.{fault_at, hash, EntrySays}
 use Rattle.lexc_grammar.specs.Files.{Says, HasTokens, all_read, end_word, no_token, symbols, symbols_later, symbol, flag, stray_word, stray_end, lexicon, lexicon_again, no_name, no_token_for_name, entry, entry_too_many, entry_refused, opens, spelling, closed, line_of, limit_of, is_among, IsNoKeyword}
-use Rattle.lexc_grammar.specs.Lexicons.{Known, LexiconAt, with_symbol, with_lexicon, with_entry}
+use Rattle.lexc_grammar.specs.Lexicons.{Known, with_symbol, with_lexicon, with_entry}
 use Rattle.lexc_grammar.specs.declared.statements.Ending.{Ending}
-use Rattle.lexc_grammar.specs.declared.statements.Ending.TheVariants.{Ended, Unended, Broken}
+use Rattle.lexc_grammar.specs.declared.statements.Ending.TheVariants.{Ended}
 use Rattle.lexc_grammar.specs.declared.statements.Keyword.{Keyword}
 use Rattle.lexc_grammar.specs.declared.statements.Keyword.TheVariants as keyword
 use Rattle.lexc_grammar.specs.declared.statements.Stage.{Stage}
@@ -34,25 +34,15 @@ use Rattle.lexc_entries.specs.Answers.{IsEntryRead, MayBeEntry}
 use Rattle.lexc_entries.specs.Gathering.{AreEntryTokens}
 use Rattle.lexc_entries.specs.declared.gathering.EntryTokens.{EntryTokens}
 use Rattle.lexc_reader.specs.Answers.{IsFound, IsStatementRead, IsStep, lines_of}
-use Rattle.lexc_reader.specs.declared.statements.Step.{Step}
 use Rattle.lexc_reader.proofs.Newlines.{newlines_encoded, newlines_front, other_first}
 
 -- What comes next.
-
-pub found_of : (opening : Bool) (line : ℕ) (text : List ℕ) (found : Found) → IsNext opening line text (what.Found found) → IsFound opening text found
-found_of opening line text found is = record { some = is.0; within = is.1; follows = is.2; line_is = is.3 ∙ sym is.4 }
-
-pub same_lines : (opening : Bool) (line : ℕ) (text : List ℕ) (found : Found) → IsNext opening line text (what.Found found) → lines_of text found ≡ line + newlines text
-same_lines opening line text found is = is.4
 
 pub line_back : (at lines : ℕ) (text : List ℕ) → at + newlines (behind_blanks text) ≡ lines → line_of lines text ≡ at
 line_back at lines text is = omega (arith, is)
 
 pub none_left : (lines : ℕ) (stage : Stage) (known : Known) (text : List ℕ) → behind_blanks text ≡ [] → IsStatementRead lines stage known text known (Ok None)
 none_left lines stage known text none = (refl, all_read stage known text none)
-
-pub with_lines : (lines others : ℕ) (stage : Stage) (known : Known) (text : List ℕ) (new : Known) (r : Result (Option Step) ReadError) → lines ≡ others → IsStatementRead lines stage known text new r → IsStatementRead others stage known text new r
-with_lines lines others stage known text new r same is = subst (λ (n : ℕ). IsStatementRead n stage known text new r) same is
 
 pub none_next : (line at : ℕ) (stage : Stage) (known : Known) (text : List ℕ) → IsNext (opens stage) line text (what.NoToken at) → Says (line + newlines text) stage known text (fault_at at why.Token)
 none_next line at stage known text is =
@@ -140,9 +130,6 @@ module _ (text : List ℕ) (found : Found) where
           symbol known text (drop found.len text) letters answer (follows_as InSymbols known is (word letters) same) none no_flag
           (subst (λ (k : Known). Says (lines_of text found) InSymbols k (drop found.len text) answer) (new_is ∙ ap (λ (n : ℕ). with_symbol known n (characters_of letters) (text_of letters)) (sym (line_back found.line (lines_of text found) text is.line_is))) says);
     }
-
-  pub letters_some : (opening : Bool) → IsFound opening text found → (letters : List Letter) → found.token ≡ word letters → letters ≢ []
-  letters_some opening is letters same = let follows : Follows opening text (word letters) (drop found.len text) = subst (λ (t : Token). Follows opening text t (drop found.len text)) same is.follows in follows.0
 
   -- Names of lexicons.
 

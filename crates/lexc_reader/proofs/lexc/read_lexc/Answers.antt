@@ -1,4 +1,4 @@
-use Rattle.std.proofs.Common.{◌≡◌, ◌+◌, List, ℕ, drop, ap, ◌∙◌}
+use Rattle.std.proofs.Common.{◌+◌, List, ℕ, drop, ap, ◌∙◌}
 use Rattle.regex_tokens.specs.Cuts.{newlines}
 use Rattle.lexc_reader.specs.Answers.{known_of}
 use Rattle.lexc_reader.proofs.Reading.{goes_on_more, line_more, room, within_more}

@@ -1,4 +1,4 @@
-use Rattle.std.proofs.Common.{◌≡◌, List, ℕ, ap, subst, ◌∙◌}
+use Rattle.std.proofs.Common.{List, ℕ, ap, subst, ◌∙◌}
 use Rattle.regex_ast.specs.Flags.{IsFlag}
 use Rattle.lexc_forms.proofs.Pieces.{flag_of_parts}
 use Rattle.lexc_forms.specs.Letters.{characters_of, text_of}
