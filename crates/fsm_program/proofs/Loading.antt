@@ -1,5 +1,5 @@
 -- What the files read say of the project, as far as they are told.
-use Rattle.std.proofs.Common.{◌≡◌, ◌↔◌, ℕ, ◌<◌, ◌≤◌, ◌+◌, List, [], ◌∷◌, ◌++◌, length, map, take, ◌⊎◌, inl, inr, Some, None, Option, Ok, Err, IfOk, IfErr, Result, refl, sym, ap, subst, ◌∙◌, arith}
+use Rattle.std.proofs.Common.{◌≡◌, ◌↔◌, ℕ, ◌<◌, ◌≤◌, ◌+◌, List, [], ◌∷◌, ◌++◌, length, map, take, inl, inr, Some, None, Option, Ok, Err, IfOk, IfErr, Result, refl, sym, ap, subst, ◌∙◌, arith}
 use Rattle.std.proofs.lemmas.Bool.{cases_lt}
 use Rattle.std.proofs.lemmas.List.{length-take, take_all}
 use Rattle.std.proofs.lemmas.List.Elements.{All-contains, Contains-append_left, Contains-append_right}
@@ -147,10 +147,10 @@ AreSeen sources files names = (name : List ℕ) → Contains names name → IsSe
 named_both : (sources files : Files) (l : Placed) → AreSeen sources files (file_in l.said) → (found : Fault) → NamedFault no_readers sources l found ↔ NamedFault no_readers files l found
 named_both sources files l seen = first_alike Of_sources Of_files (λ file. file) (λ file. file) (file_in l.said) (file_in l.said) refl both
   where
-    abbrev Of_sources : List ℕ → Fault → Type 0
+    Of_sources : List ℕ → Fault → Type 0
     Of_sources file found = First (FileFault no_readers sources l file) file_rows found
 
-    abbrev Of_files : List ℕ → Fault → Type 0
+    Of_files : List ℕ → Fault → Type 0
     Of_files file found = First (FileFault no_readers files l file) file_rows found
 
     both : (file other : List ℕ) → Contains (file_in l.said) other → file ≡ other → (found : Fault) → Of_sources file found ↔ Of_files other found
@@ -181,19 +181,12 @@ file_defines_both sources files l (file ∷ others) written seen =
 
 define_both : (sources files : Files) (lines : List Placed) (written : List Written) → AreSeen sources files (files_in lines) → FilesDefine no_readers sources lines written ↔ FilesDefine no_readers files lines written
 define_both sources files [] written seen = (λ h. h, λ h. h)
-define_both sources files (l ∷ lines) written seen = (there, back)
-  where
-    here : (front : List Written) → FileDefines no_readers sources l (file_in l.said) front ↔ FileDefines no_readers files l (file_in l.said) front
-    here front = file_defines_both sources files l (file_in l.said) front (λ name among. seen name (Contains-append_left (file_in l.said) (files_in lines) name among))
-
-    later : (rest : List Written) → FilesDefine no_readers sources lines rest ↔ FilesDefine no_readers files lines rest
-    later rest = define_both sources files lines rest (λ name among. seen name (Contains-append_right (file_in l.said) (files_in lines) name among))
-
-    there : FilesDefine no_readers sources (l ∷ lines) written → FilesDefine no_readers files (l ∷ lines) written
-    there (front, rest, one, others, is) = (front, rest, (here front).0 one, (later rest).0 others, is)
-
-    back : FilesDefine no_readers files (l ∷ lines) written → FilesDefine no_readers sources (l ∷ lines) written
-    back (front, rest, one, others, is) = (front, rest, (here front).1 one, (later rest).1 others, is)
+define_both sources files (l ∷ lines) written seen =
+    let here = λ (front : List Written). file_defines_both sources files l (file_in l.said) front (λ name among. seen name (Contains-append_left (file_in l.said) (files_in lines) name among)) in
+    let later = λ (rest : List Written). define_both sources files lines rest (λ name among. seen name (Contains-append_right (file_in l.said) (files_in lines) name among)) in (
+      λ (front, rest, one, others, is). (front, rest, (here front).0 one, (later rest).0 others, is),
+      λ (front, rest, one, others, is). (front, rest, (here front).1 one, (later rest).1 others, is),
+    )
 
 -- What sources have that have the manifest of the files and the files that it names, the files have.
 module _ (sources files : Files) (gathered : IsGathered sources files) where
