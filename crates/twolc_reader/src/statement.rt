@@ -1,0 +1,157 @@
+ghost use Rattle.std.specs.Prelude.{◌≡◌, false, IfOk, OnOk};
+ghost use Rattle.std.specs.Option.{option_map};
+ghost use Rattle.twolc_expressions.specs.Reading.{IsFound};
+ghost use Rattle.twolc_grammar.specs.Sections.{names_of, tokens_of, with_statement};
+ghost use Rattle.twolc_grammar.specs.Statements.{IsStatement, is_again, is_large};
+ghost use Rattle.twolc_reader.specs.Reading.{IsVerdict, grammar_view, section_view, statement_view};
+
+use crate::stage::Section;
+use regex_ast::{Grammar, PairAtom, PairDefine, Raw, ReadError, SetOf, TwoLevelRule, Why};
+use std::alloc::{AllocError, Global};
+use twolc_atoms::KnownNames;
+use twolc_expressions::has_high_power;
+use twolc_rules::rule_in;
+use twolc_statements::{alphabet_in, definition_in, is_too_deep, set_in};
+use twolc_tokens::Placed;
+
+/// The most contexts of a rule.
+const MOST_CONTEXTS: usize = 64;
+
+/// What a statement says.
+#[derive(Debug, Drop)]
+pub enum Statement {
+    /// The pairs of the alphabet.
+    Alphabet(Vec<PairAtom<Raw>>),
+    /// A set.
+    Set(SetOf<Raw>),
+    /// A definition.
+    Definition(PairDefine<Raw>),
+    /// A rule.
+    Rule(TwoLevelRule<Raw>),
+}
+
+/// What the tokens of one statement say where these names are known.
+///
+/// # Errors
+///
+/// `Fault` at this line, of these the first one that it has: `LimitNesting`, `Statement`, `LimitPower`, `LimitRule`,
+/// `Duplicate`. `Memory` where there was no memory.
+pub fn verdict(
+    alloc: Global,
+    names: &KnownNames,
+    section: Section,
+    line: u32,
+    tokens: &[Placed],
+) -> Result<Statement, ReadError>
+    ensures { IsVerdict names.now (section_view section) line (tokens_of tokens.now) result }
+{
+    if is_too_deep(tokens) {
+        return Err(ReadError::Fault {
+            line,
+            why: Why::LimitNesting,
+        });
+    }
+    let Some(found) = statement_in(alloc, names, section, line, tokens)? else {
+        return Err(ReadError::Fault {
+            line,
+            why: Why::Statement,
+        });
+    };
+    if has_high_power(tokens) {
+        return Err(ReadError::Fault {
+            line,
+            why: Why::LimitPower,
+        });
+    }
+    if is_large(&found) {
+        return Err(ReadError::Fault {
+            line,
+            why: Why::LimitRule,
+        });
+    }
+    if is_again(names, &found) {
+        return Err(ReadError::Fault {
+            line,
+            why: Why::Duplicate,
+        });
+    }
+    Ok(found)
+}
+
+/// The statement of a section that the tokens are, in whose line the first of them begins; `None` where they are none.
+fn statement_in(
+    alloc: Global,
+    names: &KnownNames,
+    section: Section,
+    line: u32,
+    tokens: &[Placed],
+) -> Result<Option<Statement>, AllocError>
+    ensures { IfOk result (λ found. IsFound (IsStatement names.now (section_view section) (tokens_of tokens.now)) (option_map statement_view found)) }
+{
+    match section {
+        Section::Alphabet => {
+            let pairs = alphabet_in(alloc, tokens)?;
+            Ok(pairs.map(Statement::Alphabet))
+        }
+        Section::Sets => {
+            let set = set_in(alloc, tokens)?;
+            Ok(set.map(Statement::Set))
+        }
+        Section::Definitions => {
+            let definition = definition_in(alloc, names, tokens)?;
+            Ok(definition.map(Statement::Definition))
+        }
+        Section::Rules => {
+            let rule = rule_in(alloc, names, line, tokens)?;
+            Ok(rule.map(Statement::Rule))
+        }
+    }
+}
+
+/// Whether it is a rule with more than 64 contexts.
+fn is_large(statement: &Statement) -> bool
+    ensures { result ≡ is_large (statement_view statement.now) }
+{
+    match statement {
+        Statement::Rule(rule) => rule.contexts.len() > MOST_CONTEXTS,
+        _ => false,
+    }
+}
+
+/// Whether it is a set or a definition with a name that is known.
+fn is_again(names: &KnownNames, statement: &Statement) -> bool
+    ensures { result ≡ is_again names.now (statement_view statement.now) }
+{
+    match statement {
+        Statement::Set(set) => names.has(set.name.as_str()),
+        Statement::Definition(definition) => names.has(definition.name.as_str()),
+        _ => false,
+    }
+}
+
+/// Puts what a statement says into a grammar, and its name to those that are known. After an `Err` the grammar may have it or
+/// not.
+pub fn put(
+    statement: Statement,
+    grammar: &mut Grammar<Raw>,
+    names: &mut KnownNames,
+) -> Result<(), AllocError>
+    requires known { names.old ≡ names_of (grammar_view grammar.old) }
+    requires new { is_again names.old (statement_view statement) ≡ false }
+    ensures grammar { OnOk result (grammar_view grammar.new ≡ with_statement (grammar_view grammar.old) (statement_view statement)) }
+    ensures names { OnOk result (names.new ≡ names_of (grammar_view grammar.new)) }
+{
+    match statement {
+        Statement::Alphabet(pairs) => grammar.pairs = pairs,
+        Statement::Set(set) => {
+            names.add_set(set.name.as_str())?;
+            grammar.sets.push(set)?;
+        }
+        Statement::Definition(definition) => {
+            names.add_definition(definition.name.as_str())?;
+            grammar.definitions.push(definition)?;
+        }
+        Statement::Rule(rule) => grammar.rules.push(rule)?,
+    }
+    Ok(())
+}
