@@ -1,6 +1,6 @@
 -- Words for what the reader answers, and for what its functions compute on their way to a grammar.
-use Rattle.std.specs.Prelude.{◌≡◌, ◌≢◌, ◌<◌, ℕ, Bool, true, false, List, [], ◌∷◌, ◌++◌, map, length, codes, ⊤, Option, None, Some, Result, Ok, Err, if◌then◌else◌}
-use Rattle.std.specs.List.{list_any}
+use Rattle.std.specs.Prelude.{◌≡◌, ◌≢◌, ◌<◌, ◌≤◌, ℕ, Bool, true, false, List, [], ◌∷◌, ◌++◌, map, length, take, drop, codes, ⊤, Option, None, Some, Result, Ok, Err, if◌then◌else◌}
+use Rattle.std.specs.List.{list_any, flat_map}
 use Rattle.std.specs.Str.{bytes_eq}
 use Rattle.regex_ast.specs.declared.expr.Raw.{Raw}
 use Rattle.regex_ast.specs.declared.fault.ReadError.{ReadError}
@@ -8,12 +8,15 @@ use Rattle.regex_ast.specs.declared.fault.ReadError.TheVariants.{Fault, Memory}
 use Rattle.regex_ast.specs.declared.fault.Why.{Why}
 use Rattle.regex_ast.specs.declared.fault.Why.TheVariants as why
 use Rattle.regex_ast.specs.declared.twolc.Grammar.{Grammar}
+use Rattle.regex_ast.specs.declared.twolc.TwoLevelRule.{TwoLevelRule}
 use Rattle.regex_reader.specs.Files.{FaultAt}
 use Rattle.regex_tokens.specs.declared.token.Ending.{Ending}
 use Rattle.regex_tokens.specs.declared.token.Ending.TheVariants.{Whole, NoToken}
 use Rattle.project_meaning.specs.Trees.{Grammar as Tree}
+use Rattle.twolc_tokens.specs.Cuts.{Cuts}
 use Rattle.twolc_tokens.specs.declared.token.Placed.{Placed}
 use Rattle.twolc_tokens.specs.declared.token.Token.{Token}
+use Rattle.twolc_tokens.specs.declared.token.Token.TheVariants.{Quoted as quoted}
 use Rattle.twolc_atoms.specs.Views.{pair_view}
 use Rattle.twolc_grammar.specs.Atoms.{Names}
 use Rattle.twolc_grammar.specs.Sections.{Stage, beginning, listed, within, State, Says, ReadsAs, IsOne, is_quoted, is_semicolon, may_begin, names_of, tokens_of}
@@ -40,6 +43,29 @@ IsAnswer Says (Err (Memory refused)) = ⊤
 -- the grammar of the text, or its first fault
 abbrev pub IsRead : List ℕ → Result (Grammar Raw) ReadError → Type 0
 IsRead text answer = IsAnswer (ReadsAs text) answer
+
+-- Lines of rules. A quoted text is the name of a rule and nothing else.
+
+-- a quoted text and its line; of another token nothing
+abbrev pub name_in : ℕ → Token → List (List ℕ × ℕ)
+name_in line (quoted name) = (name, line) ∷ []
+name_in line _ = []
+
+-- the quoted texts among tokens, each with its line
+abbrev pub names_at : List Placed → List (List ℕ × ℕ)
+names_at placed = flat_map (λ p. name_in p.line p.token) placed
+
+-- the name of a rule, and the line that it has
+abbrev pub name_of : TwoLevelRule Raw → List ℕ × ℕ
+name_of r = (r.name, r.line)
+
+-- the rules have the names that stand in the text, in order, and each has the line of its name
+abbrev pub HaveLines : List ℕ → List (TwoLevelRule Raw) → Type 0
+HaveLines text rules = (placed : List Placed) × (ending : Ending) × Cuts 1 text placed ending × (map name_of rules ≡ names_at placed)
+
+-- the names of the rules so far, and those that stand in what is left
+abbrev pub names_with : Grammar Raw → List Placed → List (List ℕ × ℕ)
+names_with g rest = map name_of g.rules.items ++ names_at rest
 
 -- Stages and sections.
 
@@ -80,7 +106,7 @@ IsOneSplit section tokens (Some x) = (tokens ≡ x.0 ++ x.1) × IsOne section x.
 
 -- so many tokens are the rule in front
 abbrev pub IsEndOfRule : List Placed → ℕ → Type 0
-IsEndOfRule tokens count = (front : List Placed) × (behind : List Placed) × (tokens ≡ front ++ behind) × (length front ≡ count) × IsOne in_rules front behind
+IsEndOfRule tokens count = (count ≤ length tokens) × IsOne in_rules (take count tokens) (drop count tokens)
 
 -- Statements.
 
@@ -89,6 +115,16 @@ statement_view (Pairs pairs) = alphabet (map pair_view pairs.items)
 statement_view (Set s) = set (set_view s)
 statement_view (Definition d) = definition (definition_view d)
 statement_view (Rule r) = rule (rule_view r)
+
+-- the name of a rule, with its line; of another statement nothing
+abbrev pub names_of_statement : Statement → List (List ℕ × ℕ)
+names_of_statement (Rule r) = name_of r ∷ []
+names_of_statement _ = []
+
+-- a rule has this line
+abbrev pub HasLine : ℕ → Statement → Type 0
+HasLine line (Rule r) = r.line ≡ line
+HasLine line _ = ⊤
 
 -- what is found in the tokens of one statement, every fault in this line
 abbrev pub IsVerdict : Names → Part → ℕ → List Token → Result Statement ReadError → Type 0

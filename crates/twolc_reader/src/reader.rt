@@ -1,8 +1,8 @@
-ghost use Rattle.std.specs.Prelude.{◌≡◌, ◌≢◌, ◌+◌, ◌-◌, ◌<◌, ◌^◌, []};
+ghost use Rattle.std.specs.Prelude.{◌≡◌, ◌≢◌, ◌+◌, ◌-◌, ◌<◌, ◌^◌, [], map, IfOk};
 ghost use Rattle.std.specs.Result.{result_map_both};
 ghost use Rattle.regex_tokens.specs.Cuts.{newlines};
 ghost use Rattle.twolc_grammar.specs.Sections.{Says, at_end, names_of, nothing_read, tokens_of, whole};
-ghost use Rattle.twolc_reader.specs.Reading.{IsAnswer, IsRead, IsStep, broken_at, grammar_view, open_fault, section_view, stage_view};
+ghost use Rattle.twolc_reader.specs.Reading.{HaveLines, IsAnswer, IsRead, IsStep, broken_at, grammar_view, name_of, names_at, names_with, open_fault, section_view, stage_view};
 
 use crate::one::split_one;
 use crate::stage::{Section, Stage, begun, leads};
@@ -16,7 +16,7 @@ use twolc_tokens::{Placed, tokens};
 
 /// Reads the grammar of a text: `Alphabet` and its list of pairs, `Sets` and `Definitions` and their statements, each of which
 /// may be left out, and `Rules` and one rule at least (Koskenniemi, Two-level Morphology, 1983; Karttunen and Beesley,
-/// Two-Level Rule Compiler, 1992).
+/// Two-Level Rule Compiler, 1992). A rule has the line of its name.
 ///
 /// # Errors
 ///
@@ -33,7 +33,8 @@ use twolc_tokens::{Placed, tokens};
 /// `Memory` where there was no memory.
 pub fn read_twolc(alloc: Global, text: &str) -> Result<Grammar<Raw>, ReadError>
     requires { newlines text.now + 1 < 2 ^ 32 - 1 }
-    ensures { IsRead text.now result }
+    ensures says { IsRead text.now result }
+    ensures lines { IfOk result (λ grammar. HaveLines text.now grammar.rules.items) }
 {
     let found = tokens(alloc, text)?;
     grammar_of(alloc, &found.tokens, found.ending)
@@ -41,7 +42,8 @@ pub fn read_twolc(alloc: Global, text: &str) -> Result<Grammar<Raw>, ReadError>
 
 /// The grammar that tokens say which end so, or the first fault.
 fn grammar_of(alloc: Global, tokens: &[Placed], ending: Ending) -> Result<Grammar<Raw>, ReadError>
-    ensures { IsAnswer (Says (nothing_read tokens.now ending)) result }
+    ensures says { IsAnswer (Says (nothing_read tokens.now ending)) result }
+    ensures lines { IfOk result (λ grammar. map name_of grammar.rules.items ≡ names_at tokens.now) }
 {
     let mut grammar = Grammar {
         pairs: Vec::new(alloc),
@@ -74,7 +76,8 @@ fn step<'a>(
 ) -> Result<(Stage, &'a [Placed]), ReadError>
     requires some { tokens.now ≢ [] }
     requires known { names.old ≡ names_of (grammar_view grammar.old) }
-    ensures { IsStep stage tokens.now ending grammar.old grammar.new names.new (result_map_both (λ x. (x.0, x.1.now)) (λ e. e) result) }
+    ensures leads { IsStep stage tokens.now ending grammar.old grammar.new names.new (result_map_both (λ x. (x.0, x.1.now)) (λ e. e) result) }
+    ensures lines { IfOk result (λ x. names_with grammar.new x.1.now ≡ names_with grammar.old tokens.now) }
 {
     let Some((first, more)) = tokens.split_first() else {
         return Ok((stage, tokens));
@@ -132,7 +135,8 @@ fn broken_at(section: Section, behind: &[Placed], ending: Ending) -> Option<u32>
 
 /// The grammar at the end of the tokens, or what is missing.
 fn whole(stage: Stage, grammar: Grammar<Raw>, ending: Ending) -> Result<Grammar<Raw>, ReadError>
-    ensures { IsAnswer (λ answer. answer ≡ at_end (stage_view stage) (grammar_view grammar) ending) result }
+    ensures says { IsAnswer (λ answer. answer ≡ at_end (stage_view stage) (grammar_view grammar) ending) result }
+    ensures same { IfOk result (λ whole. whole ≡ grammar) }
 {
     match ending {
         Ending::NoToken { line } => Err(ReadError::Fault {
@@ -145,7 +149,8 @@ fn whole(stage: Stage, grammar: Grammar<Raw>, ending: Ending) -> Result<Grammar<
 
 /// The grammar, where a rule was read.
 fn whole_grammar(stage: Stage, grammar: Grammar<Raw>) -> Result<Grammar<Raw>, ReadError>
-    ensures { IsAnswer (λ answer. answer ≡ whole (stage_view stage) (grammar_view grammar)) result }
+    ensures says { IsAnswer (λ answer. answer ≡ whole (stage_view stage) (grammar_view grammar)) result }
+    ensures same { IfOk result (λ whole. whole ≡ grammar) }
 {
     match stage {
         Stage::Within(Section::Rules) if !grammar.rules.is_empty() => Ok(grammar),

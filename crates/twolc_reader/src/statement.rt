@@ -1,9 +1,9 @@
-ghost use Rattle.std.specs.Prelude.{◌≡◌, false, IfOk, OnOk};
+ghost use Rattle.std.specs.Prelude.{◌≡◌, ◌++◌, map, false, IfOk, IfSome, OnOk};
 ghost use Rattle.std.specs.Option.{option_map};
 ghost use Rattle.twolc_expressions.specs.Reading.{IsFound};
 ghost use Rattle.twolc_grammar.specs.Sections.{names_of, tokens_of, with_statement};
 ghost use Rattle.twolc_grammar.specs.Statements.{IsStatement, is_again, is_large};
-ghost use Rattle.twolc_reader.specs.Reading.{IsVerdict, grammar_view, section_view, statement_view};
+ghost use Rattle.twolc_reader.specs.Reading.{HasLine, IsVerdict, grammar_view, name_of, names_of_statement, section_view, statement_view};
 
 use crate::stage::Section;
 use regex_ast::{Grammar, PairAtom, PairDefine, Raw, ReadError, SetOf, TwoLevelRule, Why};
@@ -43,7 +43,8 @@ pub fn verdict(
     line: u32,
     tokens: &[Placed],
 ) -> Result<Statement, ReadError>
-    ensures { IsVerdict names.now (section_view section) line (tokens_of tokens.now) result }
+    ensures says { IsVerdict names.now (section_view section) line (tokens_of tokens.now) result }
+    ensures at { IfOk result (HasLine line) }
 {
     if is_too_deep(tokens) {
         return Err(ReadError::Fault {
@@ -78,7 +79,7 @@ pub fn verdict(
     Ok(found)
 }
 
-/// The statement of a section that the tokens are, in whose line the first of them begins; `None` where they are none.
+/// The statement of a section that the tokens are; `None` where they are none. A rule keeps the line that is passed.
 fn statement_in(
     alloc: Global,
     names: &KnownNames,
@@ -86,25 +87,26 @@ fn statement_in(
     line: u32,
     tokens: &[Placed],
 ) -> Result<Option<Statement>, AllocError>
-    ensures { IfOk result (λ found. IsFound (IsStatement names.now (section_view section) (tokens_of tokens.now)) (option_map statement_view found)) }
+    ensures says { IfOk result (λ found. IsFound (IsStatement names.now (section_view section) (tokens_of tokens.now)) (option_map statement_view found)) }
+    ensures at { IfOk result (λ found. IfSome found (HasLine line)) }
 {
     match section {
-        Section::Alphabet => {
-            let pairs = alphabet_in(alloc, tokens)?;
-            Ok(pairs.map(Statement::Alphabet))
-        }
-        Section::Sets => {
-            let set = set_in(alloc, tokens)?;
-            Ok(set.map(Statement::Set))
-        }
-        Section::Definitions => {
-            let definition = definition_in(alloc, names, tokens)?;
-            Ok(definition.map(Statement::Definition))
-        }
-        Section::Rules => {
-            let rule = rule_in(alloc, names, line, tokens)?;
-            Ok(rule.map(Statement::Rule))
-        }
+        Section::Alphabet => match alphabet_in(alloc, tokens)? {
+            Some(pairs) => Ok(Some(Statement::Alphabet(pairs))),
+            None => Ok(None),
+        },
+        Section::Sets => match set_in(alloc, tokens)? {
+            Some(set) => Ok(Some(Statement::Set(set))),
+            None => Ok(None),
+        },
+        Section::Definitions => match definition_in(alloc, names, tokens)? {
+            Some(definition) => Ok(Some(Statement::Definition(definition))),
+            None => Ok(None),
+        },
+        Section::Rules => match rule_in(alloc, names, line, tokens)? {
+            Some(rule) => Ok(Some(Statement::Rule(rule))),
+            None => Ok(None),
+        },
     }
 }
 
@@ -140,6 +142,7 @@ pub fn put(
     requires new { is_again names.old (statement_view statement) ≡ false }
     ensures grammar { OnOk result (grammar_view grammar.new ≡ with_statement (grammar_view grammar.old) (statement_view statement)) }
     ensures names { OnOk result (names.new ≡ names_of (grammar_view grammar.new)) }
+    ensures lines { OnOk result (map name_of grammar.new.rules.items ≡ map name_of grammar.old.rules.items ++ names_of_statement statement) }
 {
     match statement {
         Statement::Alphabet(pairs) => grammar.pairs = pairs,

@@ -1,5 +1,5 @@
 -- Rules by their parts.
-use Rattle.std.proofs.Common.{◌≡◌, ◌≢◌, ◌==◌, ℕ, true, false, List, [], ◌∷◌, ◌++◌, length, Vec, Global, Option, None, Some, refl, sym, ap, subst, ◌∙◌}
+use Rattle.std.proofs.Common.{◌≡◌, ◌==◌, ℕ, true, false, List, [], ◌∷◌, ◌++◌, length, Vec, Global, Option, None, Some, refl, sym, ap, subst, ◌∙◌}
 use Rattle.std.specs.Option.{option_map}
 use Rattle.regex_ast.specs.Terms.{Contexts, no_context, between}
 use Rattle.regex_ast.specs.declared.expr.Context.{Context}
@@ -7,7 +7,7 @@ use Rattle.regex_ast.specs.declared.expr.Raw.{Raw}
 use Rattle.regex_ast.specs.declared.twolc.PairAtom.{PairAtom}
 use Rattle.regex_ast.specs.declared.twolc.PairPart.{PairPart}
 use Rattle.regex_ast.specs.declared.twolc.RuleKind.{RuleKind}
-use Rattle.project_meaning.specs.Trees.{Pair, Part, Rule}
+use Rattle.project_meaning.specs.Trees.{Part, Rule}
 use Rattle.twolc_tokens.specs.declared.token.Operator.{Operator}
 use Rattle.twolc_tokens.specs.declared.token.Operator.TheVariants.{Semicolon, Underscore}
 use Rattle.twolc_tokens.specs.declared.token.Placed.{Placed}

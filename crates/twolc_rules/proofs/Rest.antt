@@ -1,5 +1,5 @@
 -- The loop over contexts.
-use Rattle.std.proofs.Common.{◌≡◌, ◌==◌, ◌<◌, ℕ, true, false, List, [], ◌∷◌, ◌++◌, length, Option, None, Some, refl, sym, ap, subst, ◌∙◌, arith, length-append}
+use Rattle.std.proofs.Common.{◌≡◌, ◌==◌, ◌<◌, true, false, List, [], ◌∷◌, ◌++◌, length, Option, None, Some, refl, sym, ap, subst, ◌∙◌, arith, length-append}
 use Rattle.std.proofs.lemmas.List.{length-map}
 use Rattle.std.specs.List.{list_all}
 use Rattle.std.specs.Option.{option_map}
@@ -19,7 +19,7 @@ use Rattle.twolc_grammar.specs.Expressions.{IsPart}
 use Rattle.twolc_grammar.specs.Sections.{tokens_of}
 use Rattle.twolc_grammar.specs.Statements.{AreContexts}
 use Rattle.twolc_expressions.specs.Reading.{IsFound, pair_term}
-use Rattle.twolc_expressions.proofs.Made.{onto, onto-append}
+use Rattle.twolc_expressions.proofs.Made.{onto}
 use Rattle.twolc_rules.specs.declared.separator.Separator.{Separator}
 use Rattle.twolc_rules.specs.declared.separator.Separator.TheVariants.{Underscore as behind_left, Semicolon as behind_right}
 use Rattle.twolc_rules.specs.Reading.{context_before, context_views, sign, is_inner, IsSplit}
@@ -32,6 +32,10 @@ tails x y xs ys e = cc
 not_empty : {A : Type 0} (xs ys : List A) (y : A) → [] ≡ xs ++ (y ∷ ys) → ⊥
 not_empty [] ys y e = cc
 not_empty (x ∷ xs) ys y e = cc
+
+onto-append : {Y S : Type 0} (put : Y → S → S) (ys : List Y) (y : Y) (rest : S) → onto put (ys ++ y ∷ []) rest ≡ onto put ys (put y rest)
+onto-append put [] y rest = refl
+onto-append put (x ∷ ys) y rest = ap (put x) (onto-append put ys y rest)
 
 -- what stands before and behind the first separator
 split_same : (s : Separator) (a b c d : List Token) → list_all (is_inner s) a ≡ true → list_all (is_inner s) c ≡ true → a ++ (sign s ∷ b) ≡ c ++ (sign s ∷ d) → (a ≡ c) × (b ≡ d)
@@ -120,4 +124,4 @@ ended names tokens (p ∷ rest) found none so_far = absurd (no_items p rest none
 -- what is behind a token is shorter
 pub shorter : (rest behind : List Placed) (front : List Token) (t : Token) → tokens_of rest ≡ front ++ t ∷ tokens_of behind → length behind < length rest
 shorter rest behind front t e =
-    omega (arith, ap length e, length-append front (t ∷ tokens_of behind), length-map (λ (p : Placed). p.token) rest, length-map (λ (p : Placed). p.token) behind)
+    omega (arith, ap length e, length-append front (t ∷ tokens_of behind), length-map rest (λ (p : Placed). p.token), length-map behind (λ (p : Placed). p.token))

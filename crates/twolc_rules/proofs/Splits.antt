@@ -1,5 +1,5 @@
 -- The first separator of tokens, and that none stands in a part of a context.
-use Rattle.std.proofs.Common.{◌≡◌, ◌≤◌, ◌<◌, ◌+◌, ◌-◌, ℕ, zero, suc, Bool, true, false, not, ◌&&◌, cond, List, [], ◌∷◌, ◌++◌, length, take, drop, get_or, map, Option, None, Some, refl, sym, ap, ◌∙◌, arith}
+use Rattle.std.proofs.Common.{◌≡◌, ◌<◌, ◌+◌, ℕ, zero, suc, Bool, true, false, not, ◌&&◌, cond, List, [], ◌∷◌, ◌++◌, length, take, drop, get_or, Option, None, Some, refl, sym, ap, ◌∙◌, arith}
 use Rattle.std.specs.List.{list_all, position, position_from}
 use Rattle.std.specs.Option.{option_map, option_and_then}
 use Rattle.std.proofs.lemmas.List.Quantifiers.{position-Some}
@@ -14,7 +14,7 @@ use Rattle.twolc_tokens.specs.declared.token.Placed.{Placed}
 use Rattle.twolc_tokens.specs.declared.token.Token.{Token}
 use Rattle.twolc_tokens.specs.declared.token.Token.TheVariants.{Operator as operator}
 use Rattle.twolc_grammar.specs.Atoms.{Names}
-use Rattle.twolc_grammar.specs.Expressions.{as_token, as_xfst, is_caret, IsExpression, IsPart}
+use Rattle.twolc_grammar.specs.Expressions.{as_token, as_xfst, is_caret, IsPart}
 use Rattle.twolc_grammar.specs.Sections.{tokens_of}
 use Rattle.twolc_rules.specs.declared.separator.Separator.{Separator}
 use Rattle.twolc_rules.specs.declared.separator.Separator.TheVariants.{Underscore as behind_left, Semicolon as behind_right}

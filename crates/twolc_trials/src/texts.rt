@@ -8,7 +8,7 @@ use twolc_reader::read_twolc;
 const MOST_CONTEXTS: usize = 4;
 
 /// The most bytes that are said whole.
-const MOST_SAID: usize = 600;
+const MOST_SAID: usize = 500;
 
 /// How many characters are said where there are more bytes.
 const FIRST_SAID: usize = 100;

@@ -1,4 +1,4 @@
-use Rattle.std.proofs.Common.{◌≡◌}
+use Rattle.std.proofs.Common.{◌∙◌}
 use Rattle.twolc_grammar.specs.Sections.{tokens_of}
 use Rattle.twolc_rules.proofs.Heads.{no_name, no_centre, no_arrow, strange_arrow, strange_centre, strange_contexts, no_contexts, made, none_left, some_left}
 use Rattle.twolc_rules.proofs.rule.rule_in.Goals as goal
@@ -35,7 +35,6 @@ returns-in_default-3-clause-says c =
 
 pub returns-clause-says : goal.returns-clause-says
 returns-clause-says c =
-    let same : c.in_ok-name.name ≡ c.in-Some.name.now = cc in
     made c.args.names.now (tokens_of c.args.tokens.now) c.in-Some.name.now (tokens_of c.in-Some.behind_name.now) c.in-Some.ensures c.in-Some-split_atom.centre.now (tokens_of c.in-Some-split_atom.behind_centre.now) c.in-Some-split_atom.ensures c.in-Some-split_operator.arrow (tokens_of c.in-Some-split_operator.rest.now) c.in-Some-split_operator.ensures
-    c.in_ok-name.name c.in_ok-pair.field-0 c.in-Some-2.pair c.in-Some-kind_of.kind c.in_ok-contexts.field-0 c.in-Some-3.contexts same c.in-Some-2.is (rw c.as_str.ensures at c.in_ok-pair.ensures) c.in-Some-kind_of.ensures (some_left c.in-Some-split_operator.rest.now c.if-is_empty.ensures)
+    c.in_ok-name.name c.in_ok-pair.field-0 c.in-Some-2.pair c.in-Some-kind_of.kind c.in_ok-contexts.field-0 c.in-Some-3.contexts (c.in_ok-name.ensures ∙ c.as_str-2.ensures) c.in-Some-2.is (rw c.as_str.ensures at c.in_ok-pair.ensures) c.in-Some-kind_of.ensures (some_left c.in-Some-split_operator.rest.now c.if-is_empty.ensures)
     c.in-Some-3.is c.in_ok-contexts.ensures

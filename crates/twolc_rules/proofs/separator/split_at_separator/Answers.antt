@@ -8,8 +8,8 @@ returns-in_default c = split_none c.args.separator c.args.tokens.now c.in_defaul
 pub split_at-requires : goal.split_at-requires
 split_at-requires c = omega (arith, place_below c.args.separator c.args.tokens.now c.in-Some.place c.in-Some.ensures)
 
-pub split_at-in-Some-requires : goal.split_at-in-Some-requires
-split_at-in-Some-requires c = omega (arith, place_below c.args.separator c.args.tokens.now c.in-Some.place c.in-Some.ensures)
+pub split_at-requires-2 : goal.split_at-requires-2
+split_at-requires-2 c = omega (arith, place_below c.args.separator c.args.tokens.now c.in-Some.place c.in-Some.ensures)
 
 pub returns : goal.returns
-returns c = rw (c.split_at.ensures.front, c.split_at-in-Some.ensures.back, c.split_at.ensures.back) (split_found c.args.separator c.args.tokens.now c.in-Some.place c.in-Some.ensures)
+returns c = rw (c.split_at.ensures.front, c.split_at-2.ensures.back, c.split_at.ensures.back) (split_found c.args.separator c.args.tokens.now c.in-Some.place c.in-Some.ensures)
