@@ -1,10 +1,11 @@
 -- The names of rules, with their lines.
-use Rattle.std.proofs.Common.{◌≡◌, ◌≢◌, ℕ, Bool, true, false, ◌||◌, List, [], ◌∷◌, ◌++◌, map, Option, None, Some, refl, sym, ap, subst, ◌∙◌, append_assoc, append-nil}
+use Rattle.std.proofs.Common.{◌≡◌, ◌≢◌, ℕ, Bool, true, false, ◌||◌, List, [], ◌∷◌, ◌++◌, map, Option, None, Some, Result, Ok, Err, refl, sym, ap, subst, ◌∙◌, append_assoc, append-nil}
 use Rattle.std.specs.List.{flat_map, list_any}
 use Rattle.std.specs.Option.{option_map, option_and_then}
 use Rattle.std.proofs.lemmas.Grind.{flat_map-append}
 use Rattle.regex_ast.specs.Terms.{Term}
 use Rattle.regex_ast.specs.declared.expr.Raw.{Raw}
+use Rattle.regex_ast.specs.declared.fault.Why.{Why}
 use Rattle.regex_ast.specs.declared.twolc.Grammar.{Grammar}
 use Rattle.regex_ast.specs.declared.twolc.TwoLevelRule.{TwoLevelRule}
 use Rattle.regex_tokens.specs.declared.token.Token.{Token as XfstToken}
@@ -16,11 +17,12 @@ use Rattle.twolc_tokens.specs.declared.token.Token.TheVariants.{Operator as oper
 use Rattle.twolc_grammar.specs.Atoms.{Names}
 use Rattle.twolc_grammar.specs.Expressions.{as_token, as_xfst, is_caret, IsExpression}
 use Rattle.twolc_grammar.specs.Sections.{Stage, IsOne, is_quoted, leads, tokens_of}
-use Rattle.twolc_grammar.specs.Statements.{Section, in_alphabet, in_sets, in_definitions, in_rules, Statement as Said, alphabet, set, definition, rule, IsStatement}
+use Rattle.twolc_grammar.specs.Statements.{Section, in_alphabet, in_sets, in_definitions, in_rules, Statement as Said, alphabet, set, definition, rule, IsStatement, Verdict, deep, unread, power, large, again, fine}
 use Rattle.twolc_rules.specs.Reading.{rule_view}
 use Rattle.twolc_reader.specs.declared.statement.Statement.{Statement}
 use Rattle.twolc_reader.specs.declared.statement.Statement.TheVariants.{Alphabet as Pairs, Set, Definition, Rule}
 use Rattle.twolc_reader.specs.Reading.{HasLine, name_in, name_of, names_at, names_of_statement, names_with, statement_view}
+use Rattle.twolc_reader.proofs.Steps.{one_begins}
 
 -- Tokens without a quoted text have no name.
 
@@ -85,6 +87,25 @@ statement_names names in_alphabet p inner rest (Pairs pairs) h one at = no_names
 statement_names names in_sets p inner rest (Set s) h one at = no_names (p ∷ inner) (none_in_statement names in_sets (tokens_of (p ∷ inner)) (statement_view (Set s)) (λ e. cc) h)
 statement_names names in_definitions p inner rest (Definition d) h one at = no_names (p ∷ inner) (none_in_statement names in_definitions (tokens_of (p ∷ inner)) (statement_view (Definition d)) (λ e. cc) h)
 statement_names names section p inner rest s h one at = absurd h
+
+-- what a verdict has read
+ok_same : (s t : Said) → ◌≡◌ {A = Result Said Why} (Ok s) (Ok t) → s ≡ t
+ok_same s t e = cc
+
+read_of : (names : Names) (section : Section) (tokens : List Token) (r : Result Said Why) (s : Said) → r ≡ Ok s → Verdict names section tokens r → IsStatement names section tokens s
+read_of names section tokens r s e (deep d) = absurd cc
+read_of names section tokens r s e (unread d n) = absurd cc
+read_of names section tokens r s e (power t d i h) = absurd cc
+read_of names section tokens r s e (large t d i h l) = absurd cc
+read_of names section tokens r s e (again t d i h l a) = absurd cc
+read_of names section tokens r s e (fine t d i h l a) = subst (λ x. IsStatement names section tokens x) (ok_same t s e) i
+
+pub one_names : (names : Names) (section : Section) (tokens one behind : List Placed) (p : Placed) (more : List Placed) (s : Statement) → tokens ≡ p ∷ more → (tokens ≡ one ++ behind) × IsOne section one behind → Verdict names section (tokens_of one) (Ok (statement_view s)) → HasLine p.line s → names_at one ≡ names_of_statement s
+one_names names section tokens one behind p more s is whole verdict at =
+    let begun = one_begins section one behind p more (sym whole.0 ∙ is) whole.1 in
+    ap names_at begun.1 ∙ statement_names names section p begun.0 behind s
+    (subst (λ ps. IsStatement names section (tokens_of ps) (statement_view s)) begun.1 (read_of names section (tokens_of one) (Ok (statement_view s)) (statement_view s) refl verdict))
+    (subst (λ ps. IsOne section ps behind) begun.1 whole.1) at
 
 -- Steps.
 

@@ -19,8 +19,9 @@ use Rattle.twolc_tokens.specs.declared.token.Token.{Token}
 use Rattle.twolc_tokens.specs.declared.token.Token.TheVariants.{Quoted as quoted}
 use Rattle.twolc_atoms.specs.Views.{pair_view}
 use Rattle.twolc_grammar.specs.Atoms.{Names}
+use Rattle.twolc_grammar.specs.Expressions.{has_high_power}
 use Rattle.twolc_grammar.specs.Sections.{Stage, beginning, listed, within, State, Says, ReadsAs, IsOne, is_quoted, is_semicolon, may_begin, names_of, tokens_of}
-use Rattle.twolc_grammar.specs.Statements.{Section as Part, in_alphabet, in_sets, in_definitions, in_rules, Statement as Said, alphabet, set, definition, rule, Verdict, is_too_deep}
+use Rattle.twolc_grammar.specs.Statements.{Section as Part, in_alphabet, in_sets, in_definitions, in_rules, Statement as Said, alphabet, set, definition, rule, Verdict, is_again, is_large, is_too_deep}
 use Rattle.twolc_statements.specs.Reading.{set_view, definition_view}
 use Rattle.twolc_rules.specs.Reading.{rule_view}
 use Rattle.twolc_reader.specs.declared.stage.Section.{Section}
@@ -131,6 +132,15 @@ abbrev pub IsVerdict : Names → Part → ℕ → List Token → Result Statemen
 IsVerdict names section line tokens (Ok s) = Verdict names section tokens (Ok (statement_view s))
 IsVerdict names section line tokens (Err (Fault at reason)) = (at ≡ line) × Verdict names section tokens (Err reason)
 IsVerdict names section line tokens (Err (Memory refused)) = ⊤
+
+-- why a statement is refused that has a reading, if it is
+abbrev pub refusal : Names → List Token → Said → Option Why
+refusal names tokens s = if has_high_power false tokens then Some why.LimitPower else (if is_large s then Some why.LimitRule else (if is_again names s then Some why.Duplicate else None))
+
+-- the statement, or a fault in this line where it is refused
+abbrev pub unless : Statement → ℕ → Option Why → Result Statement ReadError
+unless s line None = Ok s
+unless s line (Some reason) = Err (Fault line reason)
 
 -- the fault of a statement without a `;` that begins in this line
 abbrev pub open_fault : ℕ → List Token → Ending → ReadError

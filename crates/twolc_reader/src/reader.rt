@@ -100,7 +100,10 @@ fn step<'a>(
             why: Why::Token,
         });
     }
-    let found = verdict(alloc, names, section, first.line, one)?;
+    let found = match verdict(alloc, names, section, first.line, one) {
+        Ok(found) => found,
+        Err(error) => return Err(error),
+    };
     put(found, grammar, names)?;
     Ok((section.behind_statement(), behind))
 }

@@ -3,7 +3,7 @@ ghost use Rattle.std.specs.Option.{option_map};
 ghost use Rattle.twolc_expressions.specs.Reading.{IsFound};
 ghost use Rattle.twolc_grammar.specs.Sections.{names_of, tokens_of, with_statement};
 ghost use Rattle.twolc_grammar.specs.Statements.{IsStatement, is_again, is_large};
-ghost use Rattle.twolc_reader.specs.Reading.{HasLine, IsVerdict, grammar_view, name_of, names_of_statement, section_view, statement_view};
+ghost use Rattle.twolc_reader.specs.Reading.{HasLine, IsVerdict, grammar_view, name_of, names_of_statement, refusal, section_view, statement_view, unless};
 
 use crate::stage::Section;
 use regex_ast::{Grammar, PairAtom, PairDefine, Raw, ReadError, SetOf, TwoLevelRule, Why};
@@ -58,25 +58,37 @@ pub fn verdict(
             why: Why::Statement,
         });
     };
+    let why = refusal(names, tokens, &found);
+    unless_refused(found, line, why)
+}
+
+/// Why a statement that has a reading is refused, if it is: `LimitPower`, `LimitRule` or `Duplicate`.
+fn refusal(names: &KnownNames, tokens: &[Placed], statement: &Statement) -> Option<Why>
+    ensures { result ≡ refusal names.now (tokens_of tokens.now) (statement_view statement.now) }
+{
     if has_high_power(tokens) {
-        return Err(ReadError::Fault {
-            line,
-            why: Why::LimitPower,
-        });
+        Some(Why::LimitPower)
+    } else if is_large(statement) {
+        Some(Why::LimitRule)
+    } else if is_again(names, statement) {
+        Some(Why::Duplicate)
+    } else {
+        None
     }
-    if is_large(&found) {
-        return Err(ReadError::Fault {
-            line,
-            why: Why::LimitRule,
-        });
+}
+
+/// The statement, or a fault at this line where it is refused.
+fn unless_refused(
+    statement: Statement,
+    line: u32,
+    refusal: Option<Why>,
+) -> Result<Statement, ReadError>
+    ensures { result ≡ unless statement line refusal }
+{
+    match refusal {
+        Some(why) => Err(ReadError::Fault { line, why }),
+        None => Ok(statement),
     }
-    if is_again(names, &found) {
-        return Err(ReadError::Fault {
-            line,
-            why: Why::Duplicate,
-        });
-    }
-    Ok(found)
 }
 
 /// The statement of a section that the tokens are; `None` where they are none. A rule keeps the line that is passed.
