@@ -27,7 +27,6 @@ pub record SoFar (tokens rest : List Placed) (ending : Ending) (stage : Reached)
   pub leads : LeadsTo (nothing_read tokens ending) (state stage (grammar_view g) rest ending)
   pub lines : names_with g rest ≡ names_at tokens
 
-
 nothing_seen : (g : Grammar Raw) → g.pairs.items ≡ [] → g.sets.items ≡ [] → g.definitions.items ≡ [] → g.rules.items ≡ [] → grammar_view g ≡ record { pairs = []; sets = []; definitions = []; rules = [] }
 nothing_seen g pairs sets definitions rules = λ i. record { pairs = map pair_view (pairs i); sets = map set_view (sets i); definitions = map definition_view (definitions i); rules = map rule_view (rules i) }
 

@@ -24,11 +24,12 @@ fn said_of_set(alloc: Global, set: &SetOf<Raw>) -> Result<String, AllocError> {
 }
 
 /// A definition: its name and its tree.
-fn said_of_definition(
-    alloc: Global,
-    definition: &PairDefine<Raw>,
-) -> Result<String, AllocError> {
-    format!(in alloc; "; definition {} = {:?}", definition.name.as_str(), definition.expr)
+fn said_of_definition(alloc: Global, definition: &PairDefine<Raw>) -> Result<String, AllocError> {
+    format!(in alloc;
+        "; definition {} = {:?}",
+        definition.name.as_str(),
+        definition.expr
+    )
 }
 
 /// A rule: its name, its line, its centre, its kind and its contexts.

@@ -35,13 +35,14 @@ returns-in-Err-clause-leads c =
     c.in-Some-split_one.one.now c.in-Some-split_one.behind.now c.in-Some-split_one.ensures c.args.names.now c.requires.known c.in_default-broken_at.ensures c.in-Err.error c.in-Err.ensures.says
 
 pub returns-clause-leads : goal.returns-clause-leads
-returns-clause-leads c =
-    (read_here (stage_view c.args.stage) (section_view c.in-Some-begun.section) c.in-Some-begun.ensures.0 (grammar_view c.args.grammar.now) c.args.tokens.now c.in-Some.first.now c.in-Some.more.now c.args.ending c.in-Some.ensures.cases.0 c.in_default-leads.ensures c.in-Some-begun.ensures.1
-        c.in-Some-split_one.one.now c.in-Some-split_one.behind.now c.in-Some-split_one.ensures c.args.names.now c.requires.known c.in_default-broken_at.ensures
-        (statement_view c.in-Ok.found) (stage_view c.behind_statement.result) (grammar_view c.put.new.grammar) c.in-Ok.ensures.says c.behind_statement.ensures c.in_ok-put.ensures.grammar,
-    behind_shorter (stage_view c.args.stage) (section_view c.in-Some-begun.section) c.in-Some-begun.ensures.0 (grammar_view c.args.grammar.now) c.args.tokens.now c.in-Some.first.now c.in-Some.more.now c.args.ending c.in-Some.ensures.cases.0 c.in_default-leads.ensures c.in-Some-begun.ensures.1
-        c.in-Some-split_one.one.now c.in-Some-split_one.behind.now c.in-Some-split_one.ensures,
-    c.in_ok-put.ensures.names)
+returns-clause-leads c = (
+  read_here (stage_view c.args.stage) (section_view c.in-Some-begun.section) c.in-Some-begun.ensures.0 (grammar_view c.args.grammar.now) c.args.tokens.now c.in-Some.first.now c.in-Some.more.now c.args.ending c.in-Some.ensures.cases.0 c.in_default-leads.ensures c.in-Some-begun.ensures.1
+      c.in-Some-split_one.one.now c.in-Some-split_one.behind.now c.in-Some-split_one.ensures c.args.names.now c.requires.known c.in_default-broken_at.ensures
+      (statement_view c.in-Ok.found) (stage_view c.behind_statement.result) (grammar_view c.put.new.grammar) c.in-Ok.ensures.says c.behind_statement.ensures c.in_ok-put.ensures.grammar,
+  behind_shorter (stage_view c.args.stage) (section_view c.in-Some-begun.section) c.in-Some-begun.ensures.0 (grammar_view c.args.grammar.now) c.args.tokens.now c.in-Some.first.now c.in-Some.more.now c.args.ending c.in-Some.ensures.cases.0 c.in_default-leads.ensures c.in-Some-begun.ensures.1
+      c.in-Some-split_one.one.now c.in-Some-split_one.behind.now c.in-Some-split_one.ensures,
+  c.in_ok-put.ensures.names,
+)
 
 pub returns-clause-lines : goal.returns-clause-lines
 returns-clause-lines c =
