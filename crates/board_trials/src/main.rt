@@ -5,24 +5,24 @@
 //! called then. A call is `release`, of the next value; `enter SEAT`; `beside RELEASES TURNS`, where the editor releases so
 //! many values while the seats, in threads of their own, enter so many times each; `close`; and behind it `learn SEAT`. What
 //! is told is the same in whatever order the threads run. An empty line, and one that begins with `#`, says nothing; a row in
-//! another form is told.
+//! another form is told, and so is how often a seat fell back.
 #![tactic(auto)]
 
-ghost use Rattle.std.specs.Prelude.{◌≡◌, IfOk};
-ghost use Rattle.board_trials.specs.Readers.{AreOf};
+ghost use Rattle.board_trials.specs.Seats.{AreOf};
 
 use crate::calls::{Call, Row, row_of};
-use crate::reader::{Reader, entered, learnt, readers_of};
+use crate::seats::{said_of_enter, said_of_learn};
 use crate::threads::{beside, release};
 use crate::version::Version;
-use publish_board::{Closed, Editor, open};
+use publish_board::{Closed, Editor, Seat, open};
 use std::alloc::{AllocError, Global};
 use std::io::{self, Read};
+use std::sync::atomic::{AtomicU64, Ordering};
 use std::sync::{Arc, Wait};
 use std::thread::Threads;
 
 mod calls;
-mod reader;
+mod seats;
 mod threads;
 mod version;
 
@@ -31,11 +31,12 @@ fn said_before<R: Threads + Wait + Sync>(
     rt: &R,
     alloc: Global,
     editor: &mut Editor<Version>,
-    readers: &mut [Reader],
+    seats: &mut [Seat<Version>],
     call: Call,
+    falls: &AtomicU64,
 ) -> Result<String, AllocError>
-    requires { AreOf editor.old.board readers.old }
-    ensures { AreOf editor.new.board readers.new }
+    requires { AreOf editor.old.board seats.old }
+    ensures { AreOf editor.new.board seats.new }
 {
     match call {
         Call::Release => {
@@ -43,10 +44,10 @@ fn said_before<R: Threads + Wait + Sync>(
             format!(in alloc; "released {}", editor.last())
         }
         Call::Beside { releases, turns } => {
-            beside(rt, alloc, editor, readers, releases, turns);
+            beside(rt, alloc, editor, seats, releases, turns, falls);
             format!(in alloc; "released {}", editor.last())
         }
-        Call::Enter { seat } => entered(alloc, readers, seat),
+        Call::Enter { seat } => said_of_enter(alloc, seats, seat, falls),
         Call::Learn { seat: _ } => String::from_str(alloc, "not closed"),
     }
 }
@@ -56,15 +57,16 @@ fn said_after<R: Wait>(
     rt: &R,
     alloc: Global,
     closed: &Closed<Version>,
-    readers: &mut [Reader],
+    seats: &mut [Seat<Version>],
     call: Call,
+    falls: &AtomicU64,
 ) -> Result<String, AllocError>
-    requires { AreOf closed.now.board readers.old }
-    ensures { AreOf closed.now.board readers.new }
+    requires { AreOf closed.now.board seats.old }
+    ensures { AreOf closed.now.board seats.new }
 {
     match call {
-        Call::Enter { seat } => entered(alloc, readers, seat),
-        Call::Learn { seat } => learnt(rt, alloc, closed, readers, seat),
+        Call::Enter { seat } => said_of_enter(alloc, seats, seat, falls),
+        Call::Learn { seat } => said_of_learn(rt, alloc, closed, seats, seat, falls),
         Call::Release
         | Call::Beside {
             releases: _,
@@ -73,81 +75,71 @@ fn said_after<R: Wait>(
     }
 }
 
-/// How many seats there are, and what came of the calls before the board is closed, added to what is said.
+/// How many seats there are, and what came of the calls before the board is closed.
 fn say_before<R: Threads + Wait + Sync>(
     rt: &R,
     alloc: Global,
     editor: &mut Editor<Version>,
-    readers: &mut [Reader],
+    seats: &mut [Seat<Version>],
     calls: &[Call],
+    falls: &AtomicU64,
     said: &mut String,
 ) -> Result<(), AllocError>
-    requires { AreOf editor.old.board readers.old }
-    ensures { AreOf editor.new.board readers.new }
+    requires { AreOf editor.old.board seats.old }
+    ensures { AreOf editor.new.board seats.new }
 {
-    let seats = format!(in alloc; "seats {}", readers.len())?;
-    said.push_str(seats.as_str())?;
+    let count = format!(in alloc; "seats {}", seats.len())?;
+    said.push_str(count.as_str())?;
     'calls: for call in calls {
-        let next = said_before(rt, alloc, editor, readers, *call)?;
+        let next = said_before(rt, alloc, editor, seats, *call, falls)?;
         said.push_str(", ")?;
         said.push_str(next.as_str())?;
     }
     Ok(())
 }
 
-/// What came of the calls once the board is closed, added to what is said.
+/// What came of the calls once the board is closed.
 fn say_after<R: Wait>(
     rt: &R,
     alloc: Global,
     closed: &Closed<Version>,
-    readers: &mut [Reader],
+    seats: &mut [Seat<Version>],
     calls: &[Call],
+    falls: &AtomicU64,
     said: &mut String,
 ) -> Result<(), AllocError>
-    requires { AreOf closed.now.board readers.old }
+    requires { AreOf closed.now.board seats.old }
 {
+    let number = format!(in alloc; ", closed at {}", closed.number())?;
+    said.push_str(number.as_str())?;
     'calls: for call in calls {
-        let next = said_after(rt, alloc, closed, readers, *call)?;
+        let next = said_after(rt, alloc, closed, seats, *call, falls)?;
         said.push_str(", ")?;
         said.push_str(next.as_str())?;
     }
     Ok(())
 }
 
-/// That the board is closed, and what came of the calls behind.
-fn say_closed<R: Wait>(
-    rt: &R,
-    alloc: Global,
-    closed: &Closed<Version>,
-    readers: &mut [Reader],
-    row: &Row,
-    said: &mut String,
-) -> Result<(), AllocError>
-    requires { AreOf closed.now.board readers.old }
-{
-    if !row.closes {
-        return Ok(());
-    }
-    let number = format!(in alloc; ", closed at {}", closed.number())?;
-    said.push_str(number.as_str())?;
-    say_after(rt, alloc, closed, readers, &row.after, said)
-}
-
 /// What came of the row's calls on the board.
-fn said_of_board<R: Threads + Wait + Sync>(
+fn say_board<R: Threads + Wait + Sync>(
     rt: &R,
     alloc: Global,
     editor: Editor<Version>,
-    readers: &mut [Reader],
+    seats: &mut [Seat<Version>],
     row: &Row,
+    falls: &AtomicU64,
     said: &mut String,
 ) -> Result<(), AllocError>
-    requires { AreOf editor.board readers.old }
+    requires { AreOf editor.board seats.old }
 {
     let mut editor = editor;
-    let before = say_before(rt, alloc, &mut editor, readers, &row.before, said);
+    let before = say_before(rt, alloc, &mut editor, seats, &row.before, falls, said);
     let closed = editor.close(rt);
-    let after = say_closed(rt, alloc, &closed, readers, row, said);
+    let after = if row.closes {
+        say_after(rt, alloc, &closed, seats, &row.after, falls, said)
+    } else {
+        Ok(())
+    };
     closed.end(rt);
     before?;
     after
@@ -165,19 +157,25 @@ fn said_of_row<R: Threads + Wait + Sync>(
     if row.seats < 1 || row.seats > 16 {
         return Ok(None);
     }
+    let mut said = String::new(alloc);
+    let falls = AtomicU64::new(0);
     let first = Arc::new(alloc, Version { number: 1 })?;
-    let (editor, seats) = open(rt, alloc, first, row.seats)?;
-    match readers_of(alloc, seats) {
-        Ok(mut readers) => {
-            let mut said = String::new(alloc);
-            said_of_board(rt, alloc, editor, readers.as_mut_slice(), &row, &mut said)?;
-            Ok(Some(said))
-        }
-        Err(error) => {
-            editor.close(rt).end(rt);
-            Err(error)
-        }
+    let (editor, mut seats) = open(rt, alloc, first, row.seats)?;
+    say_board(
+        rt,
+        alloc,
+        editor,
+        seats.as_mut_slice(),
+        &row,
+        &falls,
+        &mut said,
+    )?;
+    let fallen = falls.load(Ordering::SeqCst);
+    if fallen > 0 {
+        let fallen = format!(in alloc; ", fell back {fallen}")?;
+        said.push_str(fallen.as_str())?;
     }
+    Ok(Some(said))
 }
 
 fn main(rt: HostRuntime) -> io::Result<()> {

@@ -1,11 +1,12 @@
 //! An editor beside seats, in threads.
 ghost use Rattle.std.specs.Prelude.{◌≡◌, ◌<◌, ℕ, length, slice_index_or};
-ghost use Rattle.board_trials.specs.Readers.{AreOf};
+ghost use Rattle.publish_board.specs.Boards.{Seated};
 
-use crate::reader::Reader;
+use crate::seats::enter_often;
 use crate::version::Version;
-use publish_board::Editor;
+use publish_board::{Editor, Seat};
 use std::alloc::{AllocError, Global};
+use std::sync::atomic::AtomicU64;
 use std::sync::{Arc, Wait};
 use std::thread::{Threads, for_each_mut, join_mut};
 
@@ -36,10 +37,10 @@ fn release_often<R: Wait>(rt: &R, alloc: Global, editor: &mut Editor<Version>, r
 }
 
 /// Each seat enters so many times, in a thread of its own.
-fn enter_each<R: Threads + Sync>(rt: &R, readers: &mut [Reader], turns: u32)
-    ensures { (i : ℕ) (d : Reader) → i < length readers.old → (slice_index_or readers.new i d).seat.board ≡ (slice_index_or readers.old i d).seat.board }
+fn enter_each<R: Threads + Sync>(rt: &R, seats: &mut [Seat<Version>], turns: u32, falls: &AtomicU64)
+    ensures { (i : ℕ) (d : Seated Version) → i < length seats.old → (slice_index_or seats.new i d).board ≡ (slice_index_or seats.old i d).board }
 {
-    for_each_mut(rt, readers, 16, &|_, reader| reader.enter_often(turns));
+    for_each_mut(rt, seats, 16, &|_, seat| enter_often(seat, turns, falls));
 }
 
 /// The editor releases so many values while each seat enters so many times.
@@ -47,16 +48,17 @@ pub fn beside<R: Threads + Wait + Sync>(
     rt: &R,
     alloc: Global,
     editor: &mut Editor<Version>,
-    readers: &mut [Reader],
+    seats: &mut [Seat<Version>],
     releases: u32,
     turns: u32,
+    falls: &AtomicU64,
 )
     ensures editor { editor.new.board ≡ editor.old.board }
-    ensures readers { AreOf editor.old.board readers.old → AreOf editor.new.board readers.new }
+    ensures seats { (i : ℕ) (d : Seated Version) → i < length seats.old → (slice_index_or seats.new i d).board ≡ (slice_index_or seats.old i d).board }
 {
     join_mut(
         rt,
         &mut || release_often(rt, alloc, editor, releases),
-        &mut || enter_each(rt, readers, turns),
+        &mut || enter_each(rt, seats, turns, falls),
     );
 }
