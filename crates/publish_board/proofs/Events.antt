@@ -1,5 +1,5 @@
 -- What calls do, as events of the live machine.
-use Rattle.std.proofs.Common.{◌≡◌, ℕ, ◌+◌, ◌<◌, List, [], ◌∷◌, ◌++◌, length, refl, ap, arith, rules, length-append}
+use Rattle.std.proofs.Common.{◌≡◌, ◌<◌, List, [], ◌∷◌, ◌++◌, length, arith, rules, length-append}
 use mathlib.Core.List.{IsPrefix}
 use Rattle.live_core.specs.Machine.{last_of}
 use Rattle.publish_board.specs.Boards.{EndsWith, IsPublish, IsEnter, IsLearn}

@@ -1,4 +1,4 @@
-use Rattle.std.proofs.Common.{◌≡◌, ◌∙◌, ◌+◌, ap, sym, subst, List, ◌++◌, ◌∷◌, [], length, length-append, All, arith}
+use Rattle.std.proofs.Common.{◌≡◌, ◌∙◌, ap, sym, subst, ◌∷◌, [], length, length-append, All, arith}
 use Rattle.std.proofs.lemmas.List.Elements.{All-push}
 use Rattle.publish_board.specs.Boards.{Seated, seated}
 use Rattle.publish_board.proofs.board.seats_of.Goals as goal

@@ -1,4 +1,4 @@
-use Rattle.std.proofs.Common.{◌≡◌, ◌∙◌, ap, sym, fold, drop, List, ◌++◌, ◌∷◌, []}
+use Rattle.std.proofs.Common.{◌≡◌, ◌∙◌, ap, sym, fold, drop, ◌∷◌, []}
 use Rattle.std.proofs.lemmas.List.Sums.{fold-append}
 use Rattle.publish_board.proofs.Knowing.{keeps_show}
 use Rattle.publish_board.proofs.steps.show.Goals as goal

@@ -1,4 +1,4 @@
-use Rattle.std.proofs.Common.{◌≡◌, ◌∙◌, ap, sym, []}
+use Rattle.std.proofs.Common.{◌∙◌, ap, sym, []}
 use Rattle.std.proofs.lemmas.List.{append-nil}
 use Rattle.publish_board.proofs.Events.{is_enter}
 use Rattle.publish_board.proofs.seat.Seat.enter.Goals as goal

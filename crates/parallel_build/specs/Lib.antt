@@ -1,0 +1,2 @@
+pub mod Forges
+pub mod Levels
