@@ -15,7 +15,7 @@ fn names(alloc: Global) -> Result<KnownNames, AllocError> {
 }
 
 /// The text of a symbol.
-pub fn text_of(symbol: &Raw) -> &str {
+fn text_of(symbol: &Raw) -> &str {
     match symbol {
         Raw::Run(text) | Raw::Quoted(text) => text.as_str(),
     }
@@ -32,7 +32,7 @@ fn said_of_side(alloc: Global, side: &PairSide<Raw>) -> Result<String, AllocErro
 }
 
 /// A pair, or that there is none.
-pub fn said_of_pair(alloc: Global, pair: Option<&PairAtom<Raw>>) -> Result<String, AllocError> {
+fn said_of_pair(alloc: Global, pair: Option<&PairAtom<Raw>>) -> Result<String, AllocError> {
     let Some(pair) = pair else {
         return String::from_str(alloc, "none");
     };

@@ -3,20 +3,17 @@
 //!
 //! A row is `tokens TEXT`: the tokens of a text, whose escapes are those of `row_texts`, each with its line, and at the end
 //! whether the text ended, or in which line no token begins. Or it is `atom ATOM`: what the atom is where `V` is a set and `D` a
-//! definition, as a part of an expression, in the alphabet, as the centre of a rule, and in the list of a set. Or it is
-//! `text TEXT`: the grammar of a text, or the line and the reason of its first fault. A row with another field, as `#`, does
-//! nothing.
+//! definition, as a part of an expression, in the alphabet, as the centre of a rule, and in the list of a set. A row with
+//! another field, as `#`, does nothing.
 #![tactic(auto)]
 
 mod atoms;
-mod texts;
 
 use atoms::said_of_atom;
 use regex_tokens::Ending;
 use row_texts::undone;
 use std::alloc::{AllocError, Global};
 use std::io::{self, Read};
-use texts::said_of_text;
 use twolc_tokens::{Token, tokens};
 
 /// The most bytes of a text that is read.
@@ -56,13 +53,12 @@ fn said_of_row(alloc: Global, field: &str, value: &str) -> Result<Option<String>
     if field == "atom" {
         return Ok(Some(said_of_atom(alloc, value)?));
     }
+    if field != "tokens" {
+        return Ok(None);
+    }
     let bytes = undone(alloc, value)?;
     let text = std::str::from_utf8(&bytes).unwrap_or("");
-    match field {
-        "tokens" => Ok(Some(said_of_tokens(alloc, text)?)),
-        "text" => Ok(Some(said_of_text(alloc, text)?)),
-        _ => Ok(None),
-    }
+    Ok(Some(said_of_tokens(alloc, text)?))
 }
 
 fn main(rt: HostRuntime) -> io::Result<()> {
