@@ -1,24 +1,21 @@
 -- The names of rules, with their lines.
-use Rattle.std.proofs.Common.{◌≡◌, ◌≢◌, ℕ, Bool, true, false, ◌||◌, List, [], ◌∷◌, ◌++◌, map, Option, None, Some, Result, Ok, Err, refl, sym, ap, subst, ◌∙◌, append_assoc, append-nil}
-use Rattle.std.specs.List.{flat_map, list_any}
+use Rattle.std.proofs.Common.{◌≡◌, ◌≢◌, ℕ, Bool, true, false, ◌||◌, List, [], ◌∷◌, ◌++◌, map, Option, None, Some, Result, Ok, refl, sym, ap, subst, ◌∙◌, append_assoc, append-nil}
+use Rattle.std.specs.List.{list_any}
 use Rattle.std.specs.Option.{option_map, option_and_then}
 use Rattle.std.proofs.lemmas.Grind.{flat_map-append}
-use Rattle.regex_ast.specs.Terms.{Term}
 use Rattle.regex_ast.specs.declared.expr.Raw.{Raw}
 use Rattle.regex_ast.specs.declared.fault.Why.{Why}
 use Rattle.regex_ast.specs.declared.twolc.Grammar.{Grammar}
 use Rattle.regex_ast.specs.declared.twolc.TwoLevelRule.{TwoLevelRule}
 use Rattle.regex_tokens.specs.declared.token.Token.{Token as XfstToken}
-use Rattle.project_meaning.specs.Trees.{Part}
-use Rattle.twolc_tokens.specs.declared.token.Operator.TheVariants.{Semicolon, Equals}
+use Rattle.twolc_tokens.specs.declared.token.Operator.TheVariants.{Semicolon}
 use Rattle.twolc_tokens.specs.declared.token.Placed.{Placed}
 use Rattle.twolc_tokens.specs.declared.token.Token.{Token}
 use Rattle.twolc_tokens.specs.declared.token.Token.TheVariants.{Operator as operator, Quoted as quoted, Atom as atom}
 use Rattle.twolc_grammar.specs.Atoms.{Names}
-use Rattle.twolc_grammar.specs.Expressions.{as_token, as_xfst, is_caret, IsExpression}
+use Rattle.twolc_grammar.specs.Expressions.{as_token, as_xfst, is_caret}
 use Rattle.twolc_grammar.specs.Sections.{Stage, IsOne, is_quoted, leads, tokens_of}
-use Rattle.twolc_grammar.specs.Statements.{Section, in_alphabet, in_sets, in_definitions, in_rules, Statement as Said, alphabet, set, definition, rule, IsStatement, Verdict, deep, unread, power, large, again, fine}
-use Rattle.twolc_rules.specs.Reading.{rule_view}
+use Rattle.twolc_grammar.specs.Statements.{Section, in_alphabet, in_sets, in_definitions, in_rules, Statement as Said, alphabet, set, definition, IsStatement, Verdict, deep, unread, power, large, again, fine}
 use Rattle.twolc_reader.specs.declared.statement.Statement.{Statement}
 use Rattle.twolc_reader.specs.declared.statement.Statement.TheVariants.{Alphabet as Pairs, Set, Definition, Rule}
 use Rattle.twolc_reader.specs.Reading.{HasLine, name_in, name_of, names_at, names_of_statement, names_with, statement_view}

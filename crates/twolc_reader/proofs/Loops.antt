@@ -1,13 +1,11 @@
 -- The loop over the head words and statements of a text.
-use Rattle.std.proofs.Common.{◌≡◌, ◌==◌, ℕ, true, false, List, [], ◌∷◌, ◌++◌, map, length, Option, None, Some, Result, Ok, Err, IfOk, refl, sym, ap, subst, ◌∙◌, arith}
+use Rattle.std.proofs.Common.{◌≡◌, ◌==◌, ℕ, true, List, [], ◌∷◌, ◌++◌, map, length, None, Result, Ok, Err, IfOk, refl, sym, ap, subst, ◌∙◌, arith}
 use Rattle.std.proofs.lemmas.Bool.Decides.{nat_tests}
 use Rattle.regex_ast.specs.declared.expr.Raw.{Raw}
 use Rattle.regex_ast.specs.declared.fault.ReadError.{ReadError}
 use Rattle.regex_ast.specs.declared.fault.ReadError.TheVariants.{Fault, Memory}
 use Rattle.regex_ast.specs.declared.twolc.Grammar.{Grammar}
 use Rattle.regex_tokens.specs.declared.token.Ending.{Ending}
-use Rattle.regex_reader.specs.Files.{FaultAt}
-use Rattle.project_meaning.specs.Trees.{Grammar as Tree}
 use Rattle.twolc_tokens.specs.declared.token.Placed.{Placed}
 use Rattle.twolc_atoms.specs.Views.{pair_view}
 use Rattle.twolc_grammar.specs.Atoms.{Names, no_names}

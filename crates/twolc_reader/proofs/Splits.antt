@@ -1,5 +1,5 @@
 -- The tokens of one statement, by the place of what ends it.
-use Rattle.std.proofs.Common.{◌≡◌, ◌≤◌, ◌<◌, ◌+◌, ℕ, zero, suc, Bool, true, false, ◌||◌, cond, List, [], ◌∷◌, ◌++◌, length, take, drop, get_or, Option, None, Some, refl, sym, ap, subst, ◌∙◌, arith, add-one}
+use Rattle.std.proofs.Common.{◌≡◌, ◌≤◌, ◌<◌, ◌+◌, ℕ, zero, suc, Bool, true, false, ◌||◌, cond, List, [], ◌∷◌, length, take, drop, get_or, None, Some, refl, sym, ap, subst, ◌∙◌, arith, add-one}
 use Rattle.std.specs.List.{list_any, position, position_from}
 use Rattle.std.proofs.Math.Seq.{take-suc, drop-length}
 use Rattle.std.proofs.lemmas.List.{take-append-drop}
@@ -9,8 +9,7 @@ use Rattle.twolc_tokens.specs.declared.token.Operator.TheVariants.{Semicolon}
 use Rattle.twolc_tokens.specs.declared.token.Placed.{Placed}
 use Rattle.twolc_tokens.specs.declared.token.Token.{Token}
 use Rattle.twolc_tokens.specs.declared.token.Token.TheVariants.{Operator as operator}
-use Rattle.twolc_grammar.specs.Sections.{IsEnded, IsOne, begins_rule, is_quoted, is_semicolon, tokens_of}
-use Rattle.twolc_grammar.specs.Statements.{in_rules}
+use Rattle.twolc_grammar.specs.Sections.{IsEnded, begins_rule, is_quoted, is_semicolon, tokens_of}
 use Rattle.twolc_statements.proofs.Fronts.{semicolon_is}
 use Rattle.twolc_reader.specs.Reading.{IsEndedSplit, IsEndOfRule}
 

@@ -1,5 +1,5 @@
 -- What is found in the tokens of one statement.
-use Rattle.std.proofs.Common.{◌≡◌, ℕ, Bool, true, false, if◌then◌else◌, nat_lt, List, [], ◌∷◌, map, length, Vec, vec_len, Global, Option, None, Some, Result, Ok, Err, IfOk, refl, sym, ap, subst, ◌∙◌, arith}
+use Rattle.std.proofs.Common.{◌≡◌, ℕ, Bool, true, false, if◌then◌else◌, nat_lt, List, [], ◌∷◌, map, length, Vec, vec_len, Global, Option, None, Some, Result, Err, IfOk, refl, sym, ap, subst, ◌∙◌, arith}
 use Rattle.std.specs.Option.{option_map}
 use Rattle.regex_ast.specs.declared.expr.Context.{Context}
 use Rattle.regex_ast.specs.declared.expr.Raw.{Raw}
@@ -16,7 +16,7 @@ use Rattle.twolc_tokens.specs.declared.token.Token.{Token}
 use Rattle.twolc_atoms.specs.Views.{pair_view}
 use Rattle.twolc_grammar.specs.Atoms.{Names, no_names}
 use Rattle.twolc_grammar.specs.Expressions.{has_high_power}
-use Rattle.twolc_grammar.specs.Statements.{Section as Part, in_alphabet, in_sets, in_definitions, in_rules, Statement as Said, alphabet, set, definition, rule, IsStatement, Verdict, deep, unread, power, large, again, fine, count, is_again, is_large, is_too_deep}
+use Rattle.twolc_grammar.specs.Statements.{Section as Part, in_alphabet, in_sets, in_definitions, in_rules, Statement as Said, alphabet, set, definition, rule, IsStatement, Verdict, unread, power, large, again, fine, count, is_again, is_large, is_too_deep}
 use Rattle.twolc_expressions.specs.Reading.{IsFound}
 use Rattle.twolc_statements.specs.Reading.{definition_view, set_view}
 use Rattle.twolc_rules.specs.Reading.{context_views, rule_view}

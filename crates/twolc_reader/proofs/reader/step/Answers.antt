@@ -1,5 +1,4 @@
-use Rattle.std.proofs.Common.{sym, ap, length, subst, ◌∙◌, arith}
-use Rattle.twolc_grammar.specs.Sections.{names_of, tokens_of}
+use Rattle.std.proofs.Common.{sym, ap, length, arith}
 use Rattle.twolc_reader.specs.Reading.{grammar_view, section_view, stage_view, statement_view}
 use Rattle.twolc_reader.proofs.Lines.{head_keeps, one_names, statement_keeps}
 use Rattle.twolc_reader.proofs.Loops.{refusal_step, says_step}
