@@ -1,8 +1,8 @@
 #!/usr/bin/env python3
-"""Times `up` of one word in definitions of a megabyte, each a row of one operator: processor seconds and peak memory, beside foma where it is
-installed. What takes more than SECONDS is ended and shown as `inf`.
+"""Times `up` of one word in definitions of a megabyte, each a row of one operator: processor seconds and peak memory; with `foma` in front of
+the program, beside foma, which takes minutes. What takes more than SECONDS is ended and shown as `inf`.
 
-usage: bench/operators.py [PROGRAM]
+usage: bench/operators.py [foma] [PROGRAM]
 """
 import sys
 import tempfile
@@ -27,8 +27,9 @@ def source(front, piece, behind):
 
 
 def main():
-    ours = program(sys.argv[1:])
-    beside = has_foma()
+    words = sys.argv[1:]
+    beside = words[:1] == ['foma'] and has_foma()
+    ours = program(words[beside:])
     for name, front, piece, behind in ROWS:
         text = source(front, piece, behind)
         with tempfile.TemporaryDirectory() as folder:
