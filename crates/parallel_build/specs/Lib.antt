@@ -1,2 +1,0 @@
-pub mod Forges
-pub mod Levels
