@@ -3,3 +3,4 @@ pub mod Forms
 pub mod Entries
 pub mod Moves
 pub mod Once
+pub mod Sound

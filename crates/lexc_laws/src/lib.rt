@@ -2,10 +2,11 @@
 //! lexc_grammar.
 //!
 //! - [`one_reading`]: a text says one thing only.
+//! - [`lexicons_are_sound`]: what holds of the lexicons that a text says.
 //!
 //! `specs/Laws.antt` has the statements.
 #![tactic(auto)]
 
 mod laws;
 
-pub use laws::one_reading;
+pub use laws::{lexicons_are_sound, one_reading};
