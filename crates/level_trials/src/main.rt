@@ -85,7 +85,11 @@ fn said_of_level<R: Threads + Sync>(
         let next = format!(in alloc; "{number} ")?;
         said.push_str(next.as_str())?;
     }
-    let passed = format!(in alloc; "entered {} left {}", gate.entered.load(Ordering::SeqCst), gate.left.load(Ordering::SeqCst))?;
+    let passed = format!(in alloc;
+        "entered {} left {}",
+        gate.entered.load(Ordering::SeqCst),
+        gate.left.load(Ordering::SeqCst)
+    )?;
     said.push_str(passed.as_str())?;
     Ok(said)
 }
@@ -99,7 +103,13 @@ fn said_of_permits(alloc: Global, numbers: &[u32]) -> Result<Option<String>, All
     forge.reserve(2)?;
     let one = forge.permit(*a, u64::from(*b));
     let two = forge.permit(*c, u64::from(*d));
-    let mut said = format!(in alloc; "permits {} {} {} {} issues", one.name(), one.version(), two.name(), two.version())?;
+    let mut said = format!(in alloc;
+        "permits {} {} {} {} issues",
+        one.name(),
+        one.version(),
+        two.name(),
+        two.version()
+    )?;
     for issue in forge.issued() {
         let next = format!(in alloc; " {} {}", issue.name, issue.version)?;
         said.push_str(next.as_str())?;

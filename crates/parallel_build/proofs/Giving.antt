@@ -1,5 +1,5 @@
 -- What comes of jobs, place by place.
-use Rattle.std.proofs.Common.{◌≡◌, ℕ, ◌+◌, ◌<◌, List, [], ◌∷◌, length, get_or, arith}
+use Rattle.std.proofs.Common.{◌≡◌, ℕ, ◌+◌, ◌<◌, List, [], ◌∷◌, length, get_or, subst, arith}
 use Rattle.parallel_build.specs.Levels.{AllGive}
 
 pub give_each : {J X : Type 0} (gives : J → X → Type 0) (jobs : List J) (xs : List X) → length xs ≡ length jobs

@@ -41,5 +41,6 @@ pub fn run_level<R: Threads + Sync, J: Job, G: Gate>(
 ) -> Result<Vec<J::Out>, AllocError>
     ensures { IfOk result (λ outs. AllGive J.gives jobs.items outs.items) }
 {
-    map_vec(rt, jobs, &|job| work_at(job, gate))
+    let outs = map_vec(rt, jobs, &|job| work_at(job, gate))?;
+    Ok(outs)
 }
