@@ -1,6 +1,6 @@
 """Runs the gate from nothing and prints what it takes, crate by crate: processor seconds of the proof, of the tests and of the
-edits, and the peak memory of a check. Usage: bench/gate.py [WORDS OF rt ci ..], by default --anew; `bench/gate.py kept` proves
-only what no earlier run on this machine has proved.
+edits, and the peak memory of a check. Usage: bench/gate.py [WORDS OF rt ci ..], by default --anew where the kit keeps what it proved;
+`bench/gate.py kept` proves only what no earlier run on this machine has proved.
 
 The time of each prover is read while it runs, a few times a second, so a line may lack as much; the sum at the end is the
 system's own count."""
@@ -74,6 +74,12 @@ def watch(gate):
     return used.values()
 
 
+def keeps():
+    """Whether the kit's `rt ci` keeps what it proved, and so has a word for a run from nothing."""
+    said = subprocess.run(['rt', 'help'], stdout=subprocess.PIPE, stderr=subprocess.STDOUT, text=True).stdout
+    return 'rt ci --anew' in said or '[--anew]' in said
+
+
 def main(words):
     start = time.monotonic()
     gate = subprocess.Popen(['rt', 'ci', *words], cwd=ROOT)
@@ -94,5 +100,5 @@ def main(words):
 
 
 if __name__ == '__main__':
-    words = sys.argv[1:] or ['--anew']
+    words = sys.argv[1:] or (['--anew'] if keeps() else [])
     sys.exit(main([] if words == ['kept'] else words))

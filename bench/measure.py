@@ -4,6 +4,7 @@ import os
 import shutil
 import subprocess
 import sys
+import tempfile
 import time
 
 ROOT = os.path.dirname(os.path.dirname(os.path.abspath(__file__)))
@@ -67,3 +68,25 @@ def timed(command, source=None, statuses=(0,), most=None):
     if child.returncode not in statuses:
         sys.exit('%s: status %d' % (' '.join(command), child.returncode))
     return time.monotonic() - start, memory
+
+
+def spent(command, given, most):
+    """The processor seconds and the peak memory, in bytes, of a command with this input; infinitely many seconds where it takes
+    more than `most`, and is ended."""
+    with tempfile.TemporaryFile() as source:
+        source.write(given)
+        source.seek(0)
+        child = subprocess.Popen(command, stdin=source, stdout=subprocess.DEVNULL, stderr=subprocess.DEVNULL)
+    start, memory = time.monotonic(), 0
+    while True:
+        memory = max(memory, peak_of(child.pid))
+        done, status, usage = os.wait4(child.pid, os.WNOHANG)
+        if done:
+            child.returncode = status
+            return usage.ru_utime + usage.ru_stime, memory
+        if time.monotonic() - start > most:
+            child.kill()
+            os.wait4(child.pid, 0)
+            child.returncode = -9
+            return float('inf'), memory
+        time.sleep(0.002)

@@ -1,11 +1,11 @@
 -- Whether a network is built, as one pass tells it.
-use Rattle.std.proofs.Common.{◌≡◌, ◌↔◌, ℕ, Bool, true, false, ◌&&◌, IsTrue, List, [], ◌∷◌, refl, sym, ◌∙◌}
+use Rattle.std.proofs.Common.{◌≡◌, ◌↔◌, ℕ, Bool, true, ◌&&◌, IsTrue, List, [], ◌∷◌, refl, sym, ◌∙◌}
 use Rattle.regex_ast.specs.Terms.{Term, Terms, Links, Contexts, Steps, Mappings, Groups, empty, any, edge, atom, letters, group, maybe, not_one, cross, suffixed, prefixed, ignore, concat, chain, only, rules, steps, no_term, then_term, no_link, or, and, less, no_context, between, no_step, cross_with, then, no_mapping, plain, markup, insert, no_group, then_group}
 use Rattle.regex_ast.specs.declared.expr.Suffix.{Suffix}
 use Rattle.regex_ast.specs.declared.expr.Suffix.TheVariants.{Star, Plus, Power, Upper, Lower, Inverse, Reverse}
-use Rattle.expr_kinds.specs.Built.{IsBuiltBy, AreBuiltBy, LinksAreBuiltBy, ContextsAreBuiltBy, StepsAreBuiltBy, MappingsAreBuiltBy, GroupsAreBuiltBy}
+use Rattle.expr_kinds.specs.Built.{inserts_alone, IsBuiltBy, AreBuiltBy, LinksAreBuiltBy, ContextsAreBuiltBy, StepsAreBuiltBy, MappingsAreBuiltBy, GroupsAreBuiltBy}
 use Rattle.expr_kinds.specs.Kinds.{Leaves}
-use Rattle.expr_kinds.specs.Forms.{as_language, built_if, heavier, beside, behind, with_each, with_kind, nothing, form_in, form_in_each, form_in_links, form_in_steps, form_in_contexts, form_in_mappings, form_in_groups}
+use Rattle.expr_kinds.specs.Forms.{as_language, heavier, beside, behind, with_each, with_kind, nothing, form_in, form_in_each, form_in_links, form_in_steps, form_in_contexts, form_in_mappings, form_in_groups}
 use Rattle.expr_kinds.specs.declared.form.Form.{Form}
 use Rattle.expr_kinds.specs.declared.form.Kind.TheVariants.{Relation}
 use Rattle.expr_kinds.proofs.FitLaws.{both_true}
@@ -39,9 +39,6 @@ from_first first P Q is b all = (λ h. (is.0 (all.0 h).0, (all.0 h).1), λ h. al
 from_none : (Q : Type 0) (b : Bool) → IsTrue b ↔ (IsTrue true × Q) → IsTrue b ↔ Q
 from_none Q b all = (λ h. (all.0 h).1, λ h. all.1 (refl, h))
 
-never : (b : Bool) → IsTrue (b && false) ↔ ⊥
-never b = (λ h. let both = (both_true b false).0 h in let no : false ≡ true = both.1 in cc, λ h. absurd h)
-
 mutual
   pub built_is : {A : Type 0} (leaves : Leaves A) (leaf : A → ℕ) (built letter : A → Bool) (t : Term A) → IsTrue (form_in leaves leaf built letter t).built ↔ IsBuiltBy built letter t
   built_is leaves leaf built letter empty = (λ h. tt, λ h. refl)
@@ -63,7 +60,10 @@ mutual
   built_is leaves leaf built letter (concat es) = from_none (AreBuiltBy built letter es) (form_in_each leaves leaf built letter nothing es).built (each_built leaves leaf built letter nothing es)
   built_is leaves leaf built letter (chain e links) = from_first (form_in leaves leaf built letter e).built (IsBuiltBy built letter e) (LinksAreBuiltBy built letter links) (built_is leaves leaf built letter e) (form_in_links leaves leaf built letter (form_in leaves leaf built letter e) links).built (links_built leaves leaf built letter (form_in leaves leaf built letter e) links)
   built_is leaves leaf built letter (only e contexts) = from_first (form_in leaves leaf built letter e).built (IsBuiltBy built letter e) (ContextsAreBuiltBy built letter contexts) (built_is leaves leaf built letter e) (form_in_contexts leaves leaf built letter (form_in leaves leaf built letter e) contexts).built (contexts_built leaves leaf built letter (form_in leaves leaf built letter e) contexts)
-  built_is leaves leaf built letter (rules optional groups) = from_none (GroupsAreBuiltBy built letter groups) (form_in_groups leaves leaf built letter nothing groups).built (groups_built leaves leaf built letter nothing groups)
+  built_is leaves leaf built letter (rules optional groups) =
+      let all = from_none (GroupsAreBuiltBy built letter groups) (form_in_groups leaves leaf built letter nothing groups).built (groups_built leaves leaf built letter nothing groups) in
+      let pair = both_true (form_in_groups leaves leaf built letter nothing groups).built (inserts_alone groups) in
+      (λ h. ((pair.0 h).1, all.0 (pair.0 h).0), λ h. pair.1 (all.1 h.1, h.0))
   built_is leaves leaf built letter (steps e more) = from_first (form_in leaves leaf built letter e).built (IsBuiltBy built letter e) (StepsAreBuiltBy built letter more) (built_is leaves leaf built letter e) (form_in_steps leaves leaf built letter (form_in leaves leaf built letter e) more).built (steps_built leaves leaf built letter (form_in leaves leaf built letter e) more)
 
   each_built : {A : Type 0} (leaves : Leaves A) (leaf : A → ℕ) (built letter : A → Bool) (before : Form) (es : Terms A) → IsTrue (form_in_each leaves leaf built letter before es).built ↔ (IsTrue before.built × AreBuiltBy built letter es)
@@ -116,9 +116,7 @@ mutual
         λ h. rest.1 (pair.1 (h.0, parts.1 (first.1 h.1.1, outer.1 (second.1 h.1.2, third.1 h.1.3))), h.1.4),
       )
   mappings_built leaves leaf built letter before (insert r maps) =
-      let inner = beside before (form_in leaves leaf built letter r) in
-      let rest = mappings_built leaves leaf built letter (built_if inner false) maps in
-      (λ h. absurd ((never inner.built).0 (rest.0 h).0), λ h. absurd h.1)
+      one_more before.built (form_in leaves leaf built letter r).built (IsBuiltBy built letter r) (MappingsAreBuiltBy built letter maps) (built_is leaves leaf built letter r) _ (mappings_built leaves leaf built letter (beside before (form_in leaves leaf built letter r)) maps)
 
   groups_built : {A : Type 0} (leaves : Leaves A) (leaf : A → ℕ) (built letter : A → Bool) (before : Form) (groups : Groups A) → IsTrue (form_in_groups leaves leaf built letter before groups).built ↔ (IsTrue before.built × GroupsAreBuiltBy built letter groups)
   groups_built leaves leaf built letter before no_group = (λ h. (h, tt), λ h. h.0)

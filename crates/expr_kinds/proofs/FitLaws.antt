@@ -5,7 +5,7 @@ use Rattle.regex_ast.specs.declared.expr.Suffix.{Suffix}
 use Rattle.regex_ast.specs.declared.expr.Suffix.TheVariants.{Star, Plus, Power, Upper, Lower, Inverse, Reverse}
 use Rattle.std.specs.Prelude.{List, [], ◌∷◌}
 use Rattle.expr_kinds.specs.Kinds.{Leaves, both, kind_of, Fits, EachFits, EachFitsAsLanguage, ChainFits, StepsFit, ContextsFit, MappingsFit, GroupsFit}
-use Rattle.expr_kinds.specs.Forms.{is_language, as_language, built_if, heavier, beside, behind, with_each, with_kind, nothing, form_in, form_in_each, form_in_links, form_in_steps, form_in_contexts, form_in_mappings, form_in_groups}
+use Rattle.expr_kinds.specs.Forms.{is_language, as_language, heavier, beside, behind, with_each, with_kind, nothing, form_in, form_in_each, form_in_links, form_in_steps, form_in_contexts, form_in_mappings, form_in_groups}
 use Rattle.expr_kinds.specs.declared.form.Form.{Form}
 use Rattle.expr_kinds.specs.declared.form.Kind.{Kind}
 use Rattle.expr_kinds.specs.declared.form.Kind.TheVariants.{Language, Relation}
@@ -213,7 +213,7 @@ mutual
   mappings_hold leaves leaf built letter before (insert r maps) =
       let right = holds_as (form_in leaves leaf built letter r) (kind_of leaves r) (Fits leaves r) (kind_is leaves leaf built letter r) (fits_is leaves leaf built letter r) in
       let pair = beside_holds before (form_in leaves leaf built letter r) in
-      let rest = mappings_hold leaves leaf built letter (built_if (beside before (form_in leaves leaf built letter r)) false) maps in (
+      let rest = mappings_hold leaves leaf built letter (beside before (form_in leaves leaf built letter r)) maps in (
         λ h. let a = rest.0 h in let b = pair.0 a.0 in let e = right.0 b.1 in (b.0, (e.0, e.1, a.1)),
         λ h. rest.1 (pair.1 (h.0, right.1 (h.1.0, h.1.1)), h.1.2),
       )

@@ -1,5 +1,5 @@
 -- Kinds and fits are told by what is known of the leaves that stand in an expression.
-use Rattle.std.proofs.Common.{◌≡◌, Bool, true, false, ◌&&◌, IsTrue, List, [], ◌∷◌, cond, refl, ap}
+use Rattle.std.proofs.Common.{◌≡◌, Bool, true, false, ◌&&◌, IsTrue, [], ◌∷◌, cond, refl, ap}
 use Rattle.std.specs.List.{list_all}
 use Rattle.regex_ast.specs.Terms.{Term, Terms, Links, Contexts, Steps, Mappings, Groups, empty, any, edge, atom, letters, group, maybe, not_one, cross, suffixed, prefixed, ignore, concat, chain, only, rules, steps, no_term, then_term, no_link, or, and, less, no_context, between, no_step, cross_with, then, no_mapping, plain, markup, insert, no_group, then_group}
 use Rattle.expr_kinds.specs.Built.{IsBuilt, AreBuilt, LinksAreBuilt, ContextsAreBuilt, StepsAreBuilt, MappingsAreBuilt, GroupsAreBuilt}
@@ -123,7 +123,7 @@ module _ {A : Type 0} (here there : Leaves A) (passes : A → Bool) (kinds : (a 
     fits_alike (only e contexts) h =
         let k = kind_alike e h.0 in let a = fits_alike e h.0 in let b = contexts_fit contexts h.1 in
         λ i. Is (k i) × a i × b i
-    fits_alike (rules optional groups) h = groups_fit groups h
+    fits_alike (rules optional groups) h = groups_fit groups h.1
     fits_alike (steps e more) h =
         let a = fits_alike e h.0 in
         let b = steps_fit more h.1 (kind_of there e) (kind_of here e) (kind_alike e h.0) in
@@ -183,7 +183,10 @@ module _ {A : Type 0} (here there : Leaves A) (passes : A → Bool) (kinds : (a 
         let l = kind_alike f h.3 in let c = fits_alike f h.3 in
         let more = mappings_fit maps h.4 in
         λ i. Is (k i) × a i × Is (j i) × b i × Is (l i) × c i × more i
-    mappings_fit (insert d maps) h = absurd h
+    mappings_fit (insert d maps) h =
+        let k = kind_alike d h.0 in let a = fits_alike d h.0 in
+        let b = mappings_fit maps h.1 in
+        λ i. Is (k i) × a i × b i
 
     groups_fit : (groups : Groups A) → GroupsAreBuilt passes groups → GroupsFit there groups ≡ GroupsFit here groups
     groups_fit no_group h = refl

@@ -1,4 +1,5 @@
 pub mod Sets
+mod Inserts
 pub mod Passes
 pub mod KindLaws
 pub mod FitLaws

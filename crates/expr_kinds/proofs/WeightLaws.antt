@@ -1,11 +1,11 @@
 -- The weight that one pass tells is the expression's, as far as weights are told apart.
-use Rattle.std.proofs.Common.{◌≡◌, ℕ, Bool, true, false, ◌+◌, ◌-◌, ◌*◌, zero, suc, List, [], ◌∷◌, length, refl, sym, ap, ◌∙◌, arith}
+use Rattle.std.proofs.Common.{◌≡◌, ℕ, Bool, true, ◌+◌, ◌-◌, ◌*◌, zero, suc, List, [], ◌∷◌, length, refl, sym, ap, ◌∙◌, arith}
 use Rattle.regex_ast.specs.declared.expr.Suffix.{Suffix}
 use Rattle.regex_ast.specs.declared.expr.Suffix.TheVariants.{Star, Plus, Power, Upper, Lower, Inverse, Reverse}
 use Rattle.regex_ast.specs.Terms.{Term, Terms, Links, Contexts, Steps, Mappings, Groups, empty, any, edge, atom, letters, group, maybe, not_one, cross, suffixed, prefixed, ignore, concat, chain, only, rules, steps, no_term, then_term, no_link, or, and, less, no_context, between, no_step, cross_with, then, no_mapping, plain, markup, insert, no_group, then_group}
 use Rattle.expr_kinds.specs.Kinds.{Leaves}
 use Rattle.expr_kinds.specs.Weights.{most_weight, weight_behind, suffixed_weight, count_of, weight_of, weight_of_each, weight_of_links, weight_of_steps, weight_of_contexts, weight_of_mappings, weight_of_groups}
-use Rattle.expr_kinds.specs.Forms.{capped, as_language, built_if, heavier, beside, behind, with_each, with_kind, nothing, form_in, form_in_each, form_in_links, form_in_steps, form_in_contexts, form_in_mappings, form_in_groups}
+use Rattle.expr_kinds.specs.Forms.{capped, as_language, heavier, beside, behind, with_each, with_kind, nothing, form_in, form_in_each, form_in_links, form_in_steps, form_in_contexts, form_in_mappings, form_in_groups}
 use Rattle.expr_kinds.specs.declared.form.Form.{Form}
 use Rattle.expr_kinds.specs.declared.form.Kind.TheVariants.{Relation}
 
@@ -122,7 +122,7 @@ module _ {A : Type 0} (leaves : Leaves A) (here leaf : A → ℕ) (built letter 
         (two_is _ _ _ _ is (two_is _ _ _ _ (weight_as c) (two_is _ _ _ _ (weight_as m) (weight_as r))))
         ∙ regrouped b (weight_of leaf c + (weight_of leaf m + weight_of leaf r)) (weight_of_mappings leaf maps) _ (omega arith)
     mappings_weight before b (insert r maps) is =
-        mappings_weight (built_if (beside before (form_in leaves here built letter r)) false) (b + weight_of leaf r) maps (two_is _ _ _ _ is (weight_as r))
+        mappings_weight (beside before (form_in leaves here built letter r)) (b + weight_of leaf r) maps (two_is _ _ _ _ is (weight_as r))
         ∙ regrouped b (weight_of leaf r) (weight_of_mappings leaf maps) _ refl
 
     groups_weight : (before : Form) (b : ℕ) (groups : Groups A) → before.weight ≡ capped b → (form_in_groups leaves here built letter before groups).weight ≡ capped (b + weight_of_groups leaf groups)

@@ -1,7 +1,32 @@
--- The expressions whose networks are built: those without an insertion, with such leaves and centres as can be built.
-use Rattle.std.specs.Prelude.{Bool, IsTrue}
+-- The expressions whose networks are built: those with such leaves and centres as can be built, where each insertion stands alone in
+-- its rules.
+use Rattle.std.specs.Prelude.{Bool, true, false, not, ◌&&◌, ◌||◌, IsTrue}
 use Rattle.std.specs.List.{list_all}
 use Rattle.regex_ast.specs.Terms.{Term, Terms, Links, Contexts, Steps, Mappings, Groups, empty, any, edge, atom, letters, group, maybe, not_one, cross, suffixed, prefixed, ignore, concat, chain, only, rules, steps, no_term, then_term, no_link, or, and, less, no_context, between, no_step, cross_with, then, no_mapping, plain, markup, insert, no_group, then_group}
+
+-- whether an insertion is among mappings
+abbrev pub holds_insertion : {A : Type 0} → Mappings A → Bool
+holds_insertion no_mapping = false
+holds_insertion (plain c r maps) = holds_insertion maps
+holds_insertion (markup c b a maps) = holds_insertion maps
+holds_insertion (insert r maps) = true
+
+abbrev pub has_no_insertion : {A : Type 0} → Groups A → Bool
+has_no_insertion no_group = true
+has_no_insertion (then_group maps side contexts groups) = not (holds_insertion maps) && has_no_insertion groups
+
+-- one mapping, an insertion; and one group with it
+abbrev pub is_insertion_alone : {A : Type 0} → Mappings A → Bool
+is_insertion_alone (insert r no_mapping) = true
+is_insertion_alone _ = false
+
+abbrev pub is_insertion : {A : Type 0} → Groups A → Bool
+is_insertion (then_group maps side contexts no_group) = is_insertion_alone maps
+is_insertion _ = false
+
+-- an insertion stands alone in its rules
+abbrev pub inserts_alone : {A : Type 0} → Groups A → Bool
+inserts_alone groups = is_insertion groups || has_no_insertion groups
 
 -- each leaf passes the first test, each symbol in braces the second (no name may stand there), and each centre of a replacement the
 -- third
@@ -23,7 +48,7 @@ module _ {A : Type 0} (leaf letter : A → Bool) (Centre : Term A → Type 0) wh
     IsBuiltWith (concat es) = AreBuiltWith es
     IsBuiltWith (chain e links) = IsBuiltWith e × LinksAreBuiltWith links
     IsBuiltWith (only e contexts) = IsBuiltWith e × ContextsAreBuiltWith contexts
-    IsBuiltWith (rules optional groups) = GroupsAreBuiltWith groups
+    IsBuiltWith (rules optional groups) = IsTrue (inserts_alone groups) × GroupsAreBuiltWith groups
     IsBuiltWith (steps e more) = IsBuiltWith e × StepsAreBuiltWith more
 
     pub AreBuiltWith : Terms A → Type 0
@@ -45,12 +70,11 @@ module _ {A : Type 0} (leaf letter : A → Bool) (Centre : Term A → Type 0) wh
     StepsAreBuiltWith (cross_with e more) = IsBuiltWith e × StepsAreBuiltWith more
     StepsAreBuiltWith (then e more) = IsBuiltWith e × StepsAreBuiltWith more
 
-    -- an insertion can't be built yet
     pub MappingsAreBuiltWith : Mappings A → Type 0
     MappingsAreBuiltWith no_mapping = Unit {0}
     MappingsAreBuiltWith (plain c r maps) = Centre c × IsBuiltWith c × IsBuiltWith r × MappingsAreBuiltWith maps
     MappingsAreBuiltWith (markup c b a maps) = Centre c × IsBuiltWith c × IsBuiltWith b × IsBuiltWith a × MappingsAreBuiltWith maps
-    MappingsAreBuiltWith (insert r maps) = ⊥
+    MappingsAreBuiltWith (insert r maps) = IsBuiltWith r × MappingsAreBuiltWith maps
 
     pub GroupsAreBuiltWith : Groups A → Type 0
     GroupsAreBuiltWith no_group = Unit {0}

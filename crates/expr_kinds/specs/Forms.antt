@@ -5,6 +5,7 @@ use Rattle.std.specs.List.{list_all}
 use Rattle.regex_ast.specs.declared.expr.Suffix.{Suffix}
 use Rattle.regex_ast.specs.declared.expr.Suffix.TheVariants.{Upper, Lower, Power}
 use Rattle.regex_ast.specs.Terms.{Term, Terms, Links, Contexts, Steps, Mappings, Groups, empty, any, edge, atom, letters, group, maybe, not_one, cross, suffixed, prefixed, ignore, concat, chain, only, rules, steps, no_term, then_term, no_link, or, and, less, no_context, between, no_step, cross_with, then, no_mapping, plain, markup, insert, no_group, then_group}
+use Rattle.expr_kinds.specs.Built.{inserts_alone}
 use Rattle.expr_kinds.specs.Kinds.{Leaves, both, half, are_alike}
 use Rattle.expr_kinds.specs.Weights.{most_weight, count_of}
 use Rattle.expr_kinds.specs.declared.form.Form.{Form}
@@ -71,7 +72,7 @@ abbrev mutual
   form_in leaves leaf built letter (concat es) = heavier (form_in_each leaves leaf built letter nothing es) (count_of es - 1)
   form_in leaves leaf built letter (chain e links) = form_in_links leaves leaf built letter (form_in leaves leaf built letter e) links
   form_in leaves leaf built letter (only e contexts) = heavier (as_language (form_in_contexts leaves leaf built letter (form_in leaves leaf built letter e) contexts)) 1
-  form_in leaves leaf built letter (rules optional groups) = with_kind (heavier (as_language (form_in_groups leaves leaf built letter nothing groups)) 1) Relation
+  form_in leaves leaf built letter (rules optional groups) = built_if (with_kind (heavier (as_language (form_in_groups leaves leaf built letter nothing groups)) 1) Relation) (inserts_alone groups)
   form_in leaves leaf built letter (steps e more) = form_in_steps leaves leaf built letter (form_in leaves leaf built letter e) more
 
   -- what was told before with what the items tell
@@ -98,7 +99,7 @@ abbrev mutual
   form_in_mappings leaves leaf built letter before no_mapping = before
   form_in_mappings leaves leaf built letter before (plain c r maps) = form_in_mappings leaves leaf built letter (beside before (beside (form_in leaves leaf built letter c) (form_in leaves leaf built letter r))) maps
   form_in_mappings leaves leaf built letter before (markup c b a maps) = form_in_mappings leaves leaf built letter (beside before (beside (form_in leaves leaf built letter c) (beside (form_in leaves leaf built letter b) (form_in leaves leaf built letter a)))) maps
-  form_in_mappings leaves leaf built letter before (insert r maps) = form_in_mappings leaves leaf built letter (built_if (beside before (form_in leaves leaf built letter r)) false) maps
+  form_in_mappings leaves leaf built letter before (insert r maps) = form_in_mappings leaves leaf built letter (beside before (form_in leaves leaf built letter r)) maps
 
   pub form_in_groups : {A : Type 0} → Leaves A → (A → ℕ) → (A → Bool) → (A → Bool) → Form → Groups A → Form
   form_in_groups leaves leaf built letter before no_group = before

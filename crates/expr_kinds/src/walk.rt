@@ -9,6 +9,7 @@ ghost use Rattle.expr_kinds.specs.Weights.{most_weight, weight_of};
 
 use crate::form::{Form, Kind};
 use crate::half::are_alike;
+use crate::insertions::inserts_alone;
 use regex_ast::{Atom, Context, Expr, Group, Link, Mapping, Step, Suffix};
 
 /// What an expression is by its form, in time linear in its size. A name has the kind and the weight of the form at its
@@ -120,7 +121,8 @@ fn in_expression(names: &[Form], expr: &Expr<Atom>) -> Form
         Expr::Rules(rules) => in_groups(names, &rules.groups)
             .as_language()
             .heavier(1)
-            .with_kind(Kind::Relation),
+            .with_kind(Kind::Relation)
+            .built_if(inserts_alone(&rules.groups)),
         Expr::Steps(first, steps) => in_steps(names, in_expression(names, first), steps),
     }
 }
@@ -250,6 +252,6 @@ fn in_mapping(names: &[Form], form: Form, mapping: &Mapping<Atom>) -> Form
         } => form.beside(in_expression(names, centre).beside(in_expression(names, before).beside(
             in_expression(names, after),
         ))),
-        Mapping::Insert { result: by } => { form.beside(in_expression(names, by)).built_if(false) }
+        Mapping::Insert { result: by } => { form.beside(in_expression(names, by)) }
     }
 }

@@ -29,6 +29,11 @@ none_asked : {A B C : Type 0} (p : C → A) (q : C → B) (contexts : Contexts C
 none_asked p q no_context is = refl
 none_asked p q (between l r contexts) is = let e : between (mapped p l) (mapped p r) (mapped_contexts p contexts) ≡ no_context = is in absurd (cc)
 
+-- the empty word is spelled so alone
+none_spelled : {K L M : Type 0} (f : K → L) (g : K → M) (y : List K) → map f y ≡ [] → map g y ≡ []
+none_spelled f g [] is = refl
+none_spelled f g (x ∷ y) is = let e : f x ∷ map f y ≡ [] = is in absurd (cc)
+
 module _ {K C A B L M : Type 0} (s : Side K C A L) (t : Side K C B M) where
   -- a word without the edge of a set that goes to the other side, and its spelling
   word_goes : {P : List (Bound L) → Type 0} {Q : List (Bound M) → Type 0} → Goes s t P Q → (c : List L) → P (inner c) → (y : List K) × (c ≡ map s.letter y)
@@ -153,9 +158,9 @@ module _ {K C : Type 0} (spells : C → Bool) where
         rewritten s.letter t.letter m.tells s.alphabet t.alphabet
         (record {
           letter = λ x among. let r = s.known x among in (r.0, sym r.1, t.named r.0);
-          words = λ before behind c r h. group_words s t m n groups built before behind c r h;
-          replaces = λ before behind y z h. group_replaces s t m n groups built before behind y z h;
-          applies = λ before behind y h. group_applies t s n m groups built before behind y h;
+          words = λ before behind c r h. group_words s t m n groups built.1 before behind c r h;
+          replaces = λ before behind y z h. group_replaces s t m n groups built.1 before behind y z h;
+          applies = λ before behind y h. group_applies t s n m groups built.1 before behind y h;
         })
         optional
 
@@ -209,7 +214,10 @@ module _ {K C : Type 0} (spells : C → Bool) where
           (y.0, z.0, y.1, z.1)
       | inr later ↦ mapping_words s t m n maps built.4 c r later
     ]
-    mapping_words s t m n (insert f maps) built c r h = absurd built
+    mapping_words s t m n (insert f maps) built c r h = elim h as (λ _. (y : List K) × (z : List K) × (c ≡ map s.letter y) × (r ≡ map s.letter z)) [
+      | inl here ↦ let z = word_goes s t (set_goes s t m n f built.0) r here.1 in ([], z.0, here.0, z.1)
+      | inr later ↦ mapping_words s t m n maps built.1 c r later
+    ]
 
     mapping_goes : {A B L M : Type 0} (s : Side K C A L) (t : Side K C B M) → Meets spells s t → Meets spells t s → (maps : Mappings C) → MappingsAreBuilt spells maps
         → (y z : List K) → IsMapped s.leaf s.alphabet (mapped_mappings s.leaf_of maps) (map s.letter y) (map s.letter z)
@@ -228,7 +236,11 @@ module _ {K C : Type 0} (spells : C → Bool) where
           )
           | inr later ↦ inr (mapping_goes s t m n maps built.4 y z later)
         ]
-    mapping_goes s t m n (insert f maps) built y z h = absurd built
+    mapping_goes s t m n (insert f maps) built y z h =
+        elim h as (λ _. IsMapped t.leaf t.alphabet (mapped_mappings t.leaf_of (insert f maps)) (map t.letter y) (map t.letter z)) [
+          | inl here ↦ inl (none_spelled s.letter t.letter y here.0, same_goes s t m.tells (set_goes s t m n f built.0) z here.1)
+          | inr later ↦ inr (mapping_goes s t m n maps built.1 y z later)
+        ]
 
     centre_goes : {A B L M : Type 0} (s : Side K C A L) (t : Side K C B M) → Meets spells s t → Meets spells t s → (maps : Mappings C) → MappingsAreBuilt spells maps
         → (y : List K) → IsCentre s.leaf s.alphabet (mapped_mappings s.leaf_of maps) (map s.letter y) → IsCentre t.leaf t.alphabet (mapped_mappings t.leaf_of maps) (map t.letter y)
@@ -241,7 +253,10 @@ module _ {K C : Type 0} (spells : C → Bool) where
       | inl here ↦ inl (same_goes s t m.tells (set_goes s t m n e built.1) y here)
       | inr later ↦ inr (centre_goes s t m n maps built.4 y later)
     ]
-    centre_goes s t m n (insert f maps) built y h = absurd built
+    centre_goes s t m n (insert f maps) built y h = elim h as (λ _. IsCentre t.leaf t.alphabet (mapped_mappings t.leaf_of (insert f maps)) (map t.letter y)) [
+      | inl here ↦ inl (none_spelled s.letter t.letter y here)
+      | inr later ↦ inr (centre_goes s t m n maps built.1 y later)
+    ]
 
     -- the words of a replacement are spelled
     group_words : {A B L M : Type 0} (s : Side K C A L) (t : Side K C B M) → Meets spells s t → Meets spells t s → (groups : Groups C) → GroupsAreBuilt spells groups

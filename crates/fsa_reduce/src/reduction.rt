@@ -27,16 +27,12 @@ pub fn reduced<L: Letter>(alloc: Global, a: &Fsa<L>) -> Result<Fsa<L>, AllocErro
     }
 }
 
-/// Merges states as long as that takes away more than a sixteenth of them, and not again where the first pass found
-/// no two that are alike.
+/// Merges states as long as that takes away more than a sixteenth of them.
 fn merged_often<L: Letter>(alloc: Global, a: &Fsa<L>) -> Result<Fsa<L>, AllocError>
     ensures letters { IfOk result (λ m. (x : L) → UsesLetter m x → UsesLetter a.now x) }
     ensures language { IfOk result (λ m. (w : List L) → Accepts m w ↔ Accepts a.now w) }
 {
     let mut m = merged(alloc, a, true)?;
-    if m.states() == a.states() {
-        return Ok(m);
-    }
     for _pass in 0..PASSES {
         let next = merged_again(alloc, &m)?;
         let is_last = next.states() >= m.states() - m.states() / 16;

@@ -3,6 +3,7 @@ pub mod Endings
 pub mod LastByte
 pub mod Lawful
 pub mod Loading
+pub mod Gathering
 pub mod Named
 pub mod Networks
 pub mod Ordered

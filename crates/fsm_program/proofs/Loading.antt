@@ -1,41 +1,37 @@
 -- What the files read say of the project, as far as they are told.
-use Rattle.std.proofs.Common.{◌≡◌, ◌↔◌, ℕ, ◌<◌, ◌≤◌, ◌+◌, Bool, true, false, cond, List, [], ◌∷◌, ◌++◌, append_assoc, append-nil, length, take, ◌⊎◌, inl, inr, Some, None, Option, Ok, Err, IfOk, IfErr, MatchOption, Result, refl, sym, ap, subst, ◌∙◌, arith}
+use Rattle.std.proofs.Common.{◌≡◌, ◌↔◌, ℕ, ◌<◌, ◌≤◌, ◌+◌, List, [], ◌∷◌, ◌++◌, length, map, take, inl, inr, Some, None, Option, Ok, Err, IfOk, IfErr, Result, refl, sym, ap, subst, ◌∙◌, arith}
 use Rattle.std.proofs.lemmas.Bool.{cases_lt}
 use Rattle.std.proofs.lemmas.List.{length-take, take_all}
-use Rattle.std.proofs.lemmas.Slice.Eq.{bytes_eq-Decides}
+use Rattle.std.proofs.lemmas.List.Elements.{All-contains, Contains-append_left, Contains-append_right}
+use Rattle.std.specs.List.{Contains}
 use Rattle.std.specs.Option.{option_map}
-use Rattle.std.specs.Str.{bytes_eq}
-use Rattle.std.specs.declared.vec.Vec.{Vec}
-use Rattle.std.specs.declared.alloc.Global.{Global}
 use Rattle.fsm_io.specs.Causes.{Rose}
-use Rattle.fsm_io.specs.Folders.{Asked, AsksFor, HasAsked, Files, file_of, Finds, Told}
-use Rattle.fsm_io.specs.declared.folder.Found.TheVariants.{Bytes, Missing}
+use Rattle.fsm_io.specs.Folders.{Files, file_of, Told}
 use Rattle.regex_ast.specs.declared.fault.Fault.{Fault}
 use Rattle.regex_ast.specs.declared.fault.Why.TheVariants as why
-use Rattle.project_manifest.specs.Manifests.{IsManifest, ManifestView, project_name}
-use Rattle.project_meaning.specs.Projects.{Project}
+use Rattle.regex_reader.specs.Files.{FaultAt}
+use Rattle.word_relations.proofs.Members.{Contains-cons_cases, Contains-head, Contains-nil_cases}
+use Rattle.project_manifest.specs.Lines.{ManifestFault, Placed, file_in, files_in, line_rows_so_far, manifest_of}
+use Rattle.project_manifest.specs.Manifests.{project_name}
+use Rattle.project_manifest.specs.Rows.{First}
+use Rattle.project_manifest.proofs.Firsts.{first_alike}
+use Rattle.project_meaning.specs.Projects.{Project, Written}
 use Rattle.project_sources.specs.Limits.{most_bytes}
-use Rattle.project_sources.specs.Manifests.{manifest_of, xfst_line}
-use Rattle.project_sources.specs.Rows.{First}
-use Rattle.project_sources.specs.Sources.{FilesSay, HasText, HaveText, Said, project_in}
-use Rattle.project_sources.specs.Faults.{fault, TextFault, text_rows, ContentFault, FileRow, missing, no_text, unread, file_rows, FileFault, NamedFault, Row, no_project, other_manifest, manifest_text, manifest_line, in_files, in_said, HasFault, FirstFault, rows_so_far}
+use Rattle.project_sources.specs.Sources.{FileDefines, FilesDefine, FilesSay, HasText, HaveText, Said, project_in}
+use Rattle.project_sources.specs.Faults.{fault, TextFault, text_rows, ContentFault, FileRow, missing, no_text, unread, file_rows, FileFault, NamedFault, Row, no_project, manifest_text, manifest_lines, in_files, in_said, empty_centre, HasFault, FirstFault, rows_so_far, said_so_far}
 use Rattle.project_sources.specs.Laws.{unbuilt as no_readers}
-use Rattle.project_sources.proofs.Firsts.{first_alike}
-use Rattle.project_sources.proofs.Once.{text_one}
-use Rattle.project_sources.proofs.OneFile.{NamesOne, file_fault, names_one, says_back, says_one}
-use Rattle.project_model.specs.Answers.{IsManifestFile, said_by}
-use Rattle.fsm_program.specs.Files.{IsLoaded, IsLoadError, Names, AreWanted, AskedForFiles, Reads, most_read}
-use Rattle.fsm_program.specs.Gathered.{HasAdded, IsGathered, IsOfSources, IsSeen, IsWhyNot, SourcesName}
+use Rattle.fsm_program.specs.Files.{IsLoaded, IsLoadError, Reads, most_read}
+use Rattle.fsm_program.specs.Gathered.{IsGathered, IsOfSources, IsSeen, IsWhyNot}
 use Rattle.fsm_program.specs.Loaded.{LoadedView}
 use Rattle.fsm_program.specs.declared.load.LoadError.{LoadError}
 use Rattle.fsm_program.specs.declared.load.LoadError.TheVariants.{Failed, Memory, Refused}
 
 -- what follows of what is told is told
-told_so : {T : Type 0} (P Q : T → Type 0) (o : Option T) → ((x : T) → P x → Q x) → Told o P → Told o Q
+pub told_so : {T : Type 0} (P Q : T → Type 0) (o : Option T) → ((x : T) → P x → Q x) → Told o P → Told o Q
 told_so P Q None f h = tt
 told_so P Q (Some x) f h = f x h
 
-told_both : {T : Type 0} (P Q R : T → Type 0) (o : Option T) → ((x : T) → P x → Q x → R x) → Told o P → Told o Q → Told o R
+pub told_both : {T : Type 0} (P Q R : T → Type 0) (o : Option T) → ((x : T) → P x → Q x → R x) → Told o P → Told o Q → Told o R
 told_both P Q R None f h k = tt
 told_both P Q R (Some x) f h k = f x h k
 
@@ -80,7 +76,7 @@ seen_none sources files name seen none = by (file_of name files) (sym seen ∙ n
 abbrev IsCutOf : Option (List ℕ) → List ℕ → Type 0
 IsCutOf o bytes = (content : List ℕ) × (o ≡ Some content) × (bytes ≡ take most_read content)
 
-seen_some : (sources files : Files) (name bytes : List ℕ) → IsSeen sources files name → file_of name sources ≡ Some bytes → IsCutOf (file_of name files) bytes
+pub seen_some : (sources files : Files) (name bytes : List ℕ) → IsSeen sources files name → file_of name sources ≡ Some bytes → IsCutOf (file_of name files) bytes
 seen_some sources files name bytes seen some = by (file_of name files) (sym seen ∙ some)
   where
     by : (o : Option (List ℕ)) → option_map (take most_read) o ≡ Some bytes → IsCutOf o bytes
@@ -123,131 +119,165 @@ module _ (sources files : Files) (seen : IsSeen sources files project_name) wher
       let both = missing_both sources files project_name seen in
       (λ (none, e). (both.0 none, e), λ (none, e). (both.1 none, e))
 
-  other_both : (found : Fault) → HasFault no_readers sources other_manifest found ↔ HasFault no_readers files other_manifest found
-  other_both found =
+  lines_both : (found : Fault) → HasFault no_readers sources (manifest_lines line_rows_so_far) found ↔ HasFault no_readers files (manifest_lines line_rows_so_far) found
+  lines_both found =
       let both = text_both sources files project_name seen in
-      (λ (none, e). ((λ text m have is. none text m ((both text).1 have) is), e), λ (none, e). ((λ text m have is. none text m ((both text).0 have) is), e))
+      (λ (t, at, held, faulty, e). (t, at, (both t).0 held, faulty, e), λ (t, at, held, faulty, e). (t, at, (both t).1 held, faulty, e))
 
-  -- No manifest names a file.
-  module _ (none : (name : List ℕ) → SourcesName sources name → ⊥) where
-    no_manifest : (text : List ℕ) (m : ManifestView) → HaveText sources project_name text → IsManifest text m → ⊥
-    no_manifest text m (content, at, has) is = none is.file (content, at, (m, record { text = text; has_text = has; says = is }, is.files_are))
+-- The file of a line is seen.
+module _ (sources files : Files) (l : Placed) (file : List ℕ) (seen : IsSeen sources files file) where
+  file_row_both : (row : FileRow) (found : Fault) → FileFault no_readers sources l file row found ↔ FileFault no_readers files l file row found
+  file_row_both missing found =
+      let both = missing_both sources files file seen in
+      (λ (none, e). (both.0 none, e), λ (none, e). (both.1 none, e))
+  file_row_both no_text found = content_both sources files file seen found
+  file_row_both unread found =
+      let both = text_both sources files file seen in
+      (λ (t, at, held, says, e). (t, at, (both t).0 held, says, e), λ (t, at, held, says, e). (t, at, (both t).1 held, says, e))
 
-    unnamed_both : (found : Fault) → FirstFault no_readers sources rows_so_far found ↔ FirstFault no_readers files rows_so_far found
-    unnamed_both found = (there, back)
+  file_both : (found : Fault) → First (FileFault no_readers sources l file) file_rows found ↔ First (FileFault no_readers files l file) file_rows found
+  file_both =
+      first_alike (FileFault no_readers sources l file) (FileFault no_readers files l file) (λ row. row) (λ row. row) file_rows file_rows refl
+      (λ row other among same found. subst (λ (r : FileRow). FileFault no_readers sources l file row found ↔ FileFault no_readers files l file r found) same (file_row_both row found))
+
+-- each of these names is seen
+abbrev AreSeen : Files → Files → List (List ℕ) → Type 0
+AreSeen sources files names = (name : List ℕ) → Contains names name → IsSeen sources files name
+
+named_both : (sources files : Files) (l : Placed) → AreSeen sources files (file_in l.said) → (found : Fault) → NamedFault no_readers sources l found ↔ NamedFault no_readers files l found
+named_both sources files l seen = first_alike Of_sources Of_files (λ file. file) (λ file. file) (file_in l.said) (file_in l.said) refl both
+  where
+    Of_sources : List ℕ → Fault → Type 0
+    Of_sources file found = First (FileFault no_readers sources l file) file_rows found
+
+    Of_files : List ℕ → Fault → Type 0
+    Of_files file found = First (FileFault no_readers files l file) file_rows found
+
+    both : (file other : List ℕ) → Contains (file_in l.said) other → file ≡ other → (found : Fault) → Of_sources file found ↔ Of_files other found
+    both file other among same found = subst (λ (f : List ℕ). Of_sources f found ↔ Of_files other found) (sym same) (file_both sources files l other (seen other among) found)
+
+-- the files of lines are those of each of them
+of_line : (lines : List Placed) (l : Placed) → Contains lines l → (file : List ℕ) → Contains (file_in l.said) file → Contains (files_in lines) file
+of_line [] l among file named = absurd (Contains-nil_cases l among)
+of_line (k ∷ lines) l among file named =
+    elim (Contains-cons_cases k lines l among) as (λ _. Contains (files_in (k ∷ lines)) file) [
+      | inl same ↦ Contains-append_left (file_in k.said) (files_in lines) file (subst (λ (p : Placed). Contains (file_in p.said) file) (sym same) named)
+      | inr later ↦ Contains-append_right (file_in k.said) (files_in lines) file (of_line lines l later file named)
+    ]
+
+-- The files of these lines are seen.
+lines_named_both : (sources files : Files) (lines : List Placed) → AreSeen sources files (files_in lines) → (found : Fault) → First (NamedFault no_readers sources) lines found ↔ First (NamedFault no_readers files) lines found
+lines_named_both sources files lines seen =
+    first_alike (NamedFault no_readers sources) (NamedFault no_readers files) (λ l. l) (λ l. l) lines lines refl
+    (λ l other among same found.
+    subst (λ (p : Placed). NamedFault no_readers sources p found ↔ NamedFault no_readers files other found) (sym same)
+    (named_both sources files other (λ name named. seen name (of_line lines other among name named)) found))
+
+file_defines_both : (sources files : Files) (l : Placed) (named : List (List ℕ)) (written : List Written) → AreSeen sources files named → FileDefines no_readers sources l named written ↔ FileDefines no_readers files l named written
+file_defines_both sources files l [] written seen = (λ h. h, λ h. h)
+file_defines_both sources files l (file ∷ others) written seen =
+    let both = text_both sources files file (seen file (Contains-head file others)) in
+    (λ (text, have, says). (text, (both text).0 have, says), λ (text, have, says). (text, (both text).1 have, says))
+
+define_both : (sources files : Files) (lines : List Placed) (written : List Written) → AreSeen sources files (files_in lines) → FilesDefine no_readers sources lines written ↔ FilesDefine no_readers files lines written
+define_both sources files [] written seen = (λ h. h, λ h. h)
+define_both sources files (l ∷ lines) written seen =
+    let here = λ (front : List Written). file_defines_both sources files l (file_in l.said) front (λ name among. seen name (Contains-append_left (file_in l.said) (files_in lines) name among)) in
+    let later = λ (rest : List Written). define_both sources files lines rest (λ name among. seen name (Contains-append_right (file_in l.said) (files_in lines) name among)) in (
+      λ (front, rest, one, others, is). (front, rest, (here front).0 one, (later rest).0 others, is),
+      λ (front, rest, one, others, is). (front, rest, (here front).1 one, (later rest).1 others, is),
+    )
+
+-- What sources have that have the manifest of the files and the files that it names, the files have.
+module _ (sources files : Files) (gathered : IsGathered sources files) where
+  abbrev seen : IsSeen sources files project_name
+  seen = gathered.manifest
+
+  -- Their manifest has no fault.
+  module _ (free : (found : Fault) → HasFault no_readers sources (manifest_lines line_rows_so_far) found → ⊥) where
+    all_seen : (text : List ℕ) → HaveText sources project_name text → AreSeen sources files (files_in (manifest_of text))
+    all_seen text (content, at, has) name among =
+        All-contains (IsSeen sources files) (files_in (manifest_of text)) name
+        (gathered.named (manifest_of text) (content, at, record { text = text; has_text = has; faultless = no_fault; says = refl })) among
       where
-        there : FirstFault no_readers sources rows_so_far found → FirstFault no_readers files rows_so_far found
-        there (inl h) = inl ((project_both found).0 h)
-        there (inr (held, inl h)) = inr ((λ other h. held other ((project_both other).1 h)), inl ((other_both found).0 h))
-        there (inr (held, inr (has, rest))) = absurd (has (fault project_name 0 why.NotBuilt) (no_manifest, refl))
-
-        back : FirstFault no_readers files rows_so_far found → FirstFault no_readers sources rows_so_far found
-        back (inl h) = inl ((project_both found).1 h)
-        back (inr (held, inl h)) = inr ((λ other h. held other ((project_both other).0 h)), inl ((other_both found).1 h))
-        back (inr (held, inr (has, rest))) =
-            absurd (has (fault project_name 0 why.NotBuilt) ((λ text m have is. no_manifest text m ((text_both sources files project_name seen text).1 have) is), refl))
-
-    -- so what they say has a fault
-    unnamed_faulty : (said : Said) → FilesSay no_readers sources said → ((found : Fault) → FirstFault no_readers sources rows_so_far found → ⊥) → ⊥
-    unnamed_faulty said (text, (content, at, has), manifest_is, defines) free =
-        free (fault project_name 0 why.NotBuilt) (inr ((λ other (gone, e). let clash : Some content ≡ None = sym at ∙ gone in cc), inl (no_manifest, refl)))
-
-  -- The file that the manifest names is seen.
-  module _ (text : List ℕ) (manifest : ManifestView) (have : HaveText sources project_name text) (is : IsManifest text manifest) (file_seen : IsSeen sources files (names_one text manifest is).file) where
-    abbrev one : NamesOne text manifest
-    one = names_one text manifest is
-
-    have_too : HaveText files project_name text
-    have_too = (text_both sources files project_name seen text).0 have
-
-    abbrev OfFile : Files → FileRow → Fault → Type 0
-    OfFile which row found = FileFault no_readers which (record { line = manifest.line; said = xfst_line one.file }) one.file row found
-
-    file_row_both : (row : FileRow) (found : Fault) → OfFile sources row found ↔ OfFile files row found
-    file_row_both missing found =
-        let both = missing_both sources files one.file file_seen in
-        (λ (none, e). (both.0 none, e), λ (none, e). (both.1 none, e))
-    file_row_both no_text found = content_both sources files one.file file_seen found
-    file_row_both unread found =
-        let both = text_both sources files one.file file_seen in
-        (λ (t, at, held, says, e). (t, at, (both t).0 held, says, e), λ (t, at, held, says, e). (t, at, (both t).1 held, says, e))
-
-    file_both : (found : Fault) → First (OfFile sources) file_rows found ↔ First (OfFile files) file_rows found
-    file_both =
-        first_alike (OfFile sources) (OfFile files) (λ row. row) (λ row. row) file_rows file_rows refl
-        (λ row other among same found. subst (λ (r : FileRow). OfFile sources row found ↔ OfFile files r found) same (file_row_both row found))
+        no_fault : (found : FaultAt) → ManifestFault line_rows_so_far text found → ⊥
+        no_fault found faulty = free (fault project_name found.line found.why) (text, found, (content, at, has), faulty, refl)
 
     said_both : (said : Said) → FilesSay no_readers sources said ↔ FilesSay no_readers files said
     said_both said = (there, back)
       where
         there : FilesSay no_readers sources said → FilesSay no_readers files said
-        there h =
-            let it = says_back sources text manifest one have said h in
-            let same : said ≡ said_by (manifest_of text) one.file it.statements = λ i. record { manifest = it.manifest_is i; written = it.written_is i } in
-            subst (FilesSay no_readers files) (sym same)
-            (says_one files text manifest one have_too it.content it.statements ((text_both sources files one.file file_seen it.content).0 it.held) it.reads)
+        there (text, have, is, defines) = (text, (text_both sources files project_name seen text).0 have, is, (define_both sources files (manifest_of text) said.written (all_seen text have)).0 defines)
 
         back : FilesSay no_readers files said → FilesSay no_readers sources said
-        back h =
-            let it = says_back files text manifest one have_too said h in
-            let same : said ≡ said_by (manifest_of text) one.file it.statements = λ i. record { manifest = it.manifest_is i; written = it.written_is i } in
-            subst (FilesSay no_readers sources) (sym same)
-            (says_one sources text manifest one have it.content it.statements ((text_both sources files one.file file_seen it.content).1 it.held) it.reads)
+        back (text, have, is, defines) =
+            let too = (text_both sources files project_name seen text).1 have in
+            (text, too, is, (define_both sources files (manifest_of text) said.written (all_seen text too)).1 defines)
 
     in_files_both : (found : Fault) → HasFault no_readers sources in_files found ↔ HasFault no_readers files in_files found
     in_files_both found = (there, back)
       where
         there : HasFault no_readers sources in_files found → HasFault no_readers files in_files found
-        there (t, held, h) =
-            let same : t ≡ text = text_one sources project_name t text held have in
-            let here = subst (λ (z : List ℕ). First (NamedFault no_readers sources) (manifest_of z) found) same h in
-            (text, have_too, (file_fault files text manifest one found).0 ((file_both found).0 ((file_fault sources text manifest one found).1 here)))
+        there (text, have, h) = (text, (text_both sources files project_name seen text).0 have, (lines_named_both sources files (manifest_of text) (all_seen text have) found).0 h)
 
         back : HasFault no_readers files in_files found → HasFault no_readers sources in_files found
-        back (t, held, h) =
-            let same : t ≡ text = text_one files project_name t text held have_too in
-            let here = subst (λ (z : List ℕ). First (NamedFault no_readers files) (manifest_of z) found) same h in
-            (text, have, (file_fault sources text manifest one found).0 ((file_both found).1 ((file_fault files text manifest one found).1 here)))
+        back (text, have, h) =
+            let too = (text_both sources files project_name seen text).1 have in
+            (text, too, (lines_named_both sources files (manifest_of text) (all_seen text too) found).1 h)
 
     row_both : (row : Row) (found : Fault) → HasFault no_readers sources row found ↔ HasFault no_readers files row found
-    row_both no_project found = project_both found
-    row_both other_manifest found = other_both found
+    row_both no_project found = project_both sources files seen found
     row_both manifest_text found = content_both sources files project_name seen found
-    row_both manifest_line found =
+    row_both (manifest_lines by) found =
         let both = text_both sources files project_name seen in
-        (λ (t, held, h). (t, (both t).0 held, h), λ (t, held, h). (t, (both t).1 held, h))
+        (λ (t, at, held, faulty, e). (t, at, (both t).0 held, faulty, e), λ (t, at, held, faulty, e). (t, at, (both t).1 held, faulty, e))
     row_both in_files found = in_files_both found
     row_both (in_said row) found = (λ (said, says, h). (said, (said_both said).0 says, h), λ (said, says, h). (said, (said_both said).1 says, h))
 
-    named_both : (found : Fault) → FirstFault no_readers sources rows_so_far found ↔ FirstFault no_readers files rows_so_far found
-    named_both =
-        first_alike (HasFault no_readers sources) (HasFault no_readers files) (λ row. row) (λ row. row) rows_so_far rows_so_far refl
+    rows_both : (by : List Row) (found : Fault) → FirstFault no_readers sources by found ↔ FirstFault no_readers files by found
+    rows_both by =
+        first_alike (HasFault no_readers sources) (HasFault no_readers files) (λ row. row) (λ row. row) by by refl
         (λ row other among same found. subst (λ (r : Row). HasFault no_readers sources row found ↔ HasFault no_readers files r found) same (row_both row found))
 
--- what sources have that have the manifest of the files and the file that it names, the files have
-module _ (sources files : Files) (gathered : IsGathered sources files) where
-  abbrev IsSame : Type 0
-  IsSame = ((found : Fault) → FirstFault no_readers sources rows_so_far found ↔ FirstFault no_readers files rows_so_far found)
-      × ((said : Said) → ((found : Fault) → FirstFault no_readers sources rows_so_far found → ⊥) → FilesSay no_readers sources said → FilesSay no_readers files said)
+  -- the rows behind those of the manifest
+  abbrev behind : List Row
+  behind = in_files ∷ map in_said said_so_far ++ in_said empty_centre ∷ []
 
-  named_same : (name : List ℕ) → SourcesName sources name → IsSeen sources files name → IsSame
-  named_same name (content, at, (manifest, is, named)) seen =
-      let have : HaveText sources project_name is.text = (content, at, is.has_text) in
-      let one = names_one is.text manifest is.says in
-      let files_are : name ∷ [] ≡ one.file ∷ [] = sym named ∙ one.files in
-      let same : name ≡ one.file = cc in
-      let file_seen = subst (IsSeen sources files) same seen in
-      (named_both sources files gathered.manifest is.text manifest have is.says file_seen, λ said free says. (said_both sources files gathered.manifest is.text manifest have is.says file_seen said).0 says)
+  gone_both : (found : Fault) → HasFault no_readers sources no_project found ↔ HasFault no_readers files no_project found
+  gone_both = project_both sources files seen
 
-  is_same : IsSame
-  is_same = elim gathered.file as (λ _. IsSame) [
-    | inl none ↦ (unnamed_both sources files gathered.manifest none, λ said free says. absurd (unnamed_faulty sources files gathered.manifest none said says free))
-    | inr (name, named, seen) ↦ named_same name named seen
-  ]
+  textless_both : (found : Fault) → HasFault no_readers sources manifest_text found ↔ HasFault no_readers files manifest_text found
+  textless_both = content_both sources files project_name seen
+
+  faulty_both : (found : Fault) → HasFault no_readers sources (manifest_lines line_rows_so_far) found ↔ HasFault no_readers files (manifest_lines line_rows_so_far) found
+  faulty_both = lines_both sources files seen
+
+  faults_both : (found : Fault) → FirstFault no_readers sources rows_so_far found ↔ FirstFault no_readers files rows_so_far found
+  faults_both found = (there, back)
+    where
+      there : FirstFault no_readers sources rows_so_far found → FirstFault no_readers files rows_so_far found
+      there (inl h) = inl ((gone_both found).0 h)
+      there (inr (held, inl h)) = inr ((λ other h. held other ((gone_both other).1 h)), inl ((textless_both found).0 h))
+      there (inr (held, inr (has, inl h))) = inr ((λ other h. held other ((gone_both other).1 h)), inr ((λ other h. has other ((textless_both other).1 h)), inl ((faulty_both found).0 h)))
+      there (inr (held, inr (has, inr (free, h)))) =
+          inr ((λ other h. held other ((gone_both other).1 h)), inr ((λ other h. has other ((textless_both other).1 h)), inr ((λ other h. free other ((faulty_both other).1 h)), (rows_both free behind found).0 h)))
+
+      back : FirstFault no_readers files rows_so_far found → FirstFault no_readers sources rows_so_far found
+      back (inl h) = inl ((gone_both found).1 h)
+      back (inr (held, inl h)) = inr ((λ other h. held other ((gone_both other).0 h)), inl ((textless_both found).1 h))
+      back (inr (held, inr (has, inl h))) = inr ((λ other h. held other ((gone_both other).0 h)), inr ((λ other h. has other ((textless_both other).0 h)), inl ((faulty_both found).1 h)))
+      back (inr (held, inr (has, inr (free, h)))) =
+          let free_too : (other : Fault) → HasFault no_readers sources (manifest_lines line_rows_so_far) other → ⊥ = λ other h. free other ((faulty_both other).0 h) in
+          inr ((λ other h. held other ((gone_both other).0 h)), inr ((λ other h. has other ((textless_both other).0 h)), inr (free_too, (rows_both free_too behind found).1 h)))
+
+  -- without fault the manifest has none
+  no_line_fault : ((found : Fault) → FirstFault no_readers sources rows_so_far found → ⊥) → (found : Fault) → HasFault no_readers sources (manifest_lines line_rows_so_far) found → ⊥
+  no_line_fault free found h =
+      free found (inr ((λ other gone. free other (inl gone)), inr ((λ other none. free other (inr ((λ it gone. free it (inl gone)), inl none))), inl h)))
 
   gathered_says : (answer : Result Project Fault) → Reads sources answer → Reads files answer
-  gathered_says (Err found) h = (is_same.0 found).0 h
-  gathered_says (Ok project) (free, said, says, is) = ((λ found h. free found ((is_same.0 found).1 h)), said, is_same.1 said free says, is)
+  gathered_says (Err found) h = (faults_both found).0 h
+  gathered_says (Ok project) (free, said, says, is) = ((λ found h. free found ((faults_both found).1 h)), said, (said_both (no_line_fault free) said).0 says, is)
 
 -- what sources say, the folder's files say
 loaded_from : (sources : Files) (files : Option Files) (loaded : LoadedView) → Told files (IsGathered sources) → IsOfSources sources loaded → IsLoaded loaded files
@@ -259,84 +289,6 @@ why_from sources files before now Failed told held why = absurd why
 why_from sources files before now (Memory refused) told held why = tt
 why_from sources files before now (Refused fault) told held why = (told_so (IsGathered sources) (λ fs. Reads fs (Err fault)) files (λ fs gathered. gathered_says sources fs gathered (Err fault) why) told, held)
 
--- a file that was found is put beside the sources
-pub added_file : (name : List ℕ) (most : ℕ) (files : Option Files) (bytes : Vec ℕ Global) (old new : Files) → Told files (Finds name most (Bytes bytes)) → ((other : List ℕ) → file_of other new ≡ cond (bytes_eq name other) (Some bytes.items) (file_of other old)) → Told files (HasAdded name most old new)
-added_file name most files bytes old new told put =
-    told_so (Finds name most (Bytes bytes)) (HasAdded name most old new) files
-    (λ fs (content, held, is) other. put other ∙ ap (λ (o : Option (List ℕ)). cond (bytes_eq name other) o (file_of other old)) (sym (ap (option_map (take most)) held ∙ ap (λ (z : List ℕ). Some z) (sym is)))) told
-
-pub added_none : (name : List ℕ) (most : ℕ) (files : Option Files) (old : Files) → Told files (Finds name most Missing) → file_of name old ≡ None → Told files (HasAdded name most old old)
-added_none name most files old told none =
-    told_so (Finds name most Missing) (HasAdded name most old old) files (λ fs gone other. by fs gone other (bytes_eq name other) refl) told
-  where
-    by : (fs : Files) → file_of name fs ≡ None → (other : List ℕ) (b : Bool) → bytes_eq name other ≡ b → file_of other old ≡ cond b (option_map (take most) (file_of name fs)) (file_of other old)
-    by fs gone other true e = ap (λ (z : List ℕ). file_of z old) (sym ((bytes_eq-Decides name other).0 e)) ∙ none ∙ sym (ap (option_map (take most)) gone)
-    by fs gone other false e = refl
-
-same_bytes : (text : List ℕ) → bytes_eq text text ≡ true
-same_bytes text = (bytes_eq-Decides text text).1 refl
-
--- what was added is seen, and no other file is there then
-module _ (most : ℕ) (is_most : most ≡ most_read) where
-  added_seen : (name : List ℕ) (old new files : Files) → HasAdded name most old new files → IsSeen new files name
-  added_seen name old new files added =
-      added name ∙ ap (λ (b : Bool). cond b (option_map (take most) (file_of name files)) (file_of name old)) (same_bytes name)
-      ∙ ap (λ n. option_map (take n) (file_of name files)) is_most
-
-  apart : (name other : List ℕ) → (name ≡ other → ⊥) → bytes_eq name other ≡ false
-  apart name other differ = by (bytes_eq name other) refl
-    where
-      by : (b : Bool) → bytes_eq name other ≡ b → bytes_eq name other ≡ false
-      by true e = absurd (differ ((bytes_eq-Decides name other).0 e))
-      by false e = e
-
-  added_other : (name other : List ℕ) (old new files : Files) → (name ≡ other → ⊥) → HasAdded name most old new files → file_of other new ≡ file_of other old
-  added_other name other old new files differ added = added other ∙ ap (λ (b : Bool). cond b (option_map (take most) (file_of name files)) (file_of other old)) (apart name other differ)
-
--- the manifest alone was read, and it names no file
-pub gathered_alone : (most : ℕ) → most ≡ most_read → (files : Option Files) (sources : Files) → Told files (HasAdded project_name most [] sources) → ((name : List ℕ) → SourcesName sources name → ⊥) → Told files (IsGathered sources)
-gathered_alone most is_most files sources told none =
-    told_so (HasAdded project_name most [] sources) (IsGathered sources) files (λ fs added. record { manifest = added_seen most is_most project_name [] sources fs added; file = inl none }) told
-
--- a manifest names another file than its own
-other_name : (content name : List ℕ) → Names content name → name ≡ project_name → ⊥
-other_name content name (m, is, named) same =
-    let files : name ∷ [] ≡ is.says.file ∷ [] = sym named ∙ is.says.files_are in
-    let file : is.says.file ≡ name = cc in
-    is.says.line_is.name_is.other (file ∙ same)
-
--- the manifest and then the file that it names were read
-pub gathered_both : (most : ℕ) → most ≡ most_read → (files : Option Files) (between sources : Files) (name : List ℕ) → SourcesName between name → Told files (HasAdded project_name most [] between) → Told files (HasAdded name most between sources)
-    → Told files (IsGathered sources)
-gathered_both most is_most files between sources name (content, at, named) told added =
-    told_both (HasAdded project_name most [] between) (HasAdded name most between sources) (IsGathered sources) files
-    (λ fs first second.
-    let stays : file_of project_name sources ≡ file_of project_name between = added_other most is_most name project_name between sources fs (other_name content name named) second in
-    record {
-      manifest = stays ∙ added_seen most is_most project_name [] between fs first;
-      file = inr (name, (content, stays ∙ at, named), added_seen most is_most name between sources fs second);
-    }) told added
-
--- the same of what was made of the sources
-pub gathers_both : {E : Type 0} (most : ℕ) → most ≡ most_read → (files : Option Files) (between : Files) (name : List ℕ) (r : Result Files E) → SourcesName between name → Told files (HasAdded project_name most [] between)
-    → IfOk r (λ new. Told files (HasAdded name most between new)) → IfOk r (λ new. Told files (IsGathered new))
-gathers_both most is files between name (Ok new) named told added = gathered_both most is files between new name named told added
-gathers_both most is files between name (Err error) named told added = tt
-
--- the file that the sources' manifest names
-pub named_from : {E : Type 0} (sources : Files) (content : List ℕ) (r : Result (Option (List ℕ)) E) → file_of project_name sources ≡ Some content → IfOk r (λ file. MatchOption file ((name : List ℕ) → Names content name → ⊥) (Names content))
-    → IfOk r (λ file. MatchOption file ((name : List ℕ) → SourcesName sources name → ⊥) (SourcesName sources))
-named_from sources content (Err error) at named = tt
-named_from sources content (Ok (Some name)) at named = (content, at, named)
-named_from sources content (Ok None) at none = λ name (whole, whole_at, is).
-    let same : Some whole ≡ Some content = sym whole_at ∙ at in
-    let contents : whole ≡ content = cc in
-    none name (subst (λ (z : List ℕ). Names z name) contents is)
-
--- a manifest names a file that isn't among the sources yet
-pub not_there : (between : Files) (name : List ℕ) → ((other : List ℕ) → (project_name ≡ other → ⊥) → file_of other between ≡ file_of other []) → SourcesName between name → file_of name between ≡ None
-not_there between name others (content, at, named) = others name (λ same. other_name content name named (sym same))
-
 -- the project of gathered sources, and their fault
 pub loads_from : (sources : Files) (files : Option Files) (r : Result LoadedView LoadError) → Told files (IsGathered sources) → IfOk r (IsOfSources sources) → IfOk r (λ loaded. IsLoaded loaded files)
 loads_from sources files (Ok loaded) told of_sources = loaded_from sources files loaded told of_sources
@@ -345,54 +297,3 @@ loads_from sources files (Err error) told of_sources = tt
 pub fails_from : (sources : Files) (files : Option Files) (before now : ℕ) (r : Result LoadedView LoadError) → Told files (IsGathered sources) → ¬ (Rose before now) → IfErr r (IsWhyNot sources) → IfErr r (λ error. IsLoadError error files before now)
 fails_from sources files before now (Ok loaded) told held why = tt
 fails_from sources files before now (Err error) told held why = why_from sources files before now error told held why
-
--- what was asked for in two calls
-asked_twice : (old between new : Option (List Asked)) (first second : List Asked) → AsksFor old between first → AsksFor between new second → AsksFor old new (first ++ second)
-asked_twice None between new first second one two = subst (λ (o : Option (List Asked)). AsksFor o new second) one two
-asked_twice (Some asked) between new first second one two =
-    subst (λ (o : Option (List Asked)). AsksFor o new second) one two ∙ ap (λ (z : List Asked). Some z) (append_assoc asked first second)
-
--- nothing was asked for
-asked_nothing : (old new : Option (List Asked)) → new ≡ old → AsksFor old new []
-asked_nothing None new same = same
-asked_nothing (Some asked) new same = same ∙ ap (λ (z : List Asked). Some z) (sym (append-nil asked))
-
-pub asks_none : (files : Option Files) (old new : Option (List Asked)) → new ≡ old → AskedForFiles files old new
-asks_none files old new same = ([], asked_nothing old new same, told_all files)
-  where
-    told_all : (files : Option Files) → Told files (AreWanted [])
-    told_all None = tt
-    told_all (Some fs) = tt
-
-abbrev whole : List ℕ → Asked
-whole name = record { name = name; most = most_read }
-
-told_manifest : (files : Option Files) → Told files (AreWanted (project_name ∷ []))
-told_manifest None = tt
-told_manifest (Some fs) = (refl, tt)
-
--- the manifest was asked for
-pub asks_manifest : {T E : Type 0} (files : Option Files) (old new : Option (List Asked)) (most : ℕ) (r : Result T E) → most ≡ most_read → HasAsked old new project_name most r → AskedForFiles files old new
-asks_manifest files old new most r is (inl asked) =
-    (project_name ∷ [], subst (λ (n : ℕ). AsksFor old new (record { name = project_name; most = n } ∷ [])) is asked, told_manifest files)
-asks_manifest files old new most r is (inr none) = asks_none files old new none.1
-
--- what was answered without error was asked for
-pub asked_sure : (old new : Option (List Asked)) (requests : List Asked) → AsksFor old new requests ⊎ ((false ≡ true) × (new ≡ old)) → AsksFor old new requests
-asked_sure old new requests (inl asked) = asked
-asked_sure old new requests (inr none) = let clash : false ≡ true = none.0 in cc
-
--- the manifest and then the file that it names were asked for
-pub asks_both : {T E : Type 0} (files : Option Files) (old between new : Option (List Asked)) (most : ℕ) (sources : Files) (name : List ℕ) (second : Result T E) → most ≡ most_read
-    → Told files (HasAdded project_name most [] sources) → SourcesName sources name → AsksFor old between (record { name = project_name; most = most } ∷ []) → HasAsked between new name most second → AskedForFiles files old new
-asks_both {T} {E} files old between new most sources name second is told (content, at, (manifest, file, named)) one (inl two) = (
-  project_name ∷ name ∷ [],
-  asked_twice old between new (whole project_name ∷ []) (whole name ∷ [])
-      (subst (λ (n : ℕ). AsksFor old between (record { name = project_name; most = n } ∷ [])) is one) (subst (λ (n : ℕ). AsksFor between new (record { name = name; most = n } ∷ [])) is two),
-  told_so (HasAdded project_name most [] sources) (AreWanted (project_name ∷ name ∷ [])) files
-      (λ fs added.
-      let (seen, held, cut) = seen_some sources fs project_name content (added_seen most is project_name [] sources fs added) at in
-      (refl, (seen, manifest, [], held, subst (λ (z : List ℕ). IsManifestFile z manifest) cut file, named))) told,
-)
-asks_both {T} {E} files old between new most sources name second is told named one (inr none) =
-    asks_manifest files old new most second is (inl (subst (λ (o : Option (List Asked)). AsksFor old o (record { name = project_name; most = most } ∷ [])) (sym none.1) one))

@@ -25,8 +25,8 @@ use Rattle.project_meaning.specs.Leaves.{symbols_in}
 use Rattle.project_meaning.specs.Projects.{Refers, Reaches, at_once, further, Written, names_of}
 use Rattle.project_sources.specs.Faults.{fault, fault_of, read_so_far, rows_so_far, FirstFault}
 use Rattle.project_sources.specs.Laws.{unbuilt as no_readers}
-use Rattle.project_sources.specs.Manifests.{symbols_of as further_symbols}
-use Rattle.project_sources.specs.Rows.{First, Where}
+use Rattle.project_manifest.specs.Lines.{symbols_of as further_symbols}
+use Rattle.project_manifest.specs.Rows.{First, Where}
 use Rattle.project_sources.specs.Sources.{FilesSay, Said, project_in, resolved_in}
 use Rattle.project_sources.proofs.Once.{files_say_one, unbuilt_exact}
 use Rattle.project_sources.proofs.Sound.{centres_come_last}

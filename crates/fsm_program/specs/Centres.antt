@@ -1,5 +1,5 @@
 -- Empty centres of a loaded project's definitions, by the places of these.
-use Rattle.std.specs.Prelude.{◌≡◌, ◌<◌, ◌⊎◌, ℕ, Bool, false, true, List, [], Contains, Option, None, Some, length, slice_get, slice_set}
+use Rattle.std.specs.Prelude.{◌≡◌, ◌<◌, ◌⊎◌, ℕ, Bool, false, true, List, [], Option, None, Some, length, slice_get, slice_set}
 use Rattle.network_algebra.specs.declared.network.Network.{Network}
 use Rattle.network_build.specs.declared.compiled.BuildError.{BuildError}
 use Rattle.network_build.specs.declared.compiled.BuildError.TheVariants as unbuilt

@@ -4,7 +4,8 @@ use Rattle.fsm_io.specs.Causes.{Rose}
 use Rattle.fsm_io.specs.Folders.{Asked, AsksFor, Files, file_of, Told}
 use Rattle.regex_ast.specs.declared.fault.Fault.{Fault}
 use Rattle.project_meaning.specs.Projects.{Project}
-use Rattle.project_manifest.specs.Manifests.{ManifestView, project_name}
+use Rattle.project_manifest.specs.Lines.{Placed, files_in}
+use Rattle.project_manifest.specs.Manifests.{project_name}
 use Rattle.project_sources.specs.Sources.{Said, project_in}
 use Rattle.project_sources.specs.Limits.{most_bytes}
 use Rattle.project_sources.specs.Faults.{SourcesSay, rows_so_far}
@@ -22,26 +23,30 @@ Reads files answer = SourcesSay unbuilt files rows_so_far answer
 unfoldable pub most_read : ℕ
 most_read = most_bytes + 1
 
--- this content of a manifest names the file
-abbrev pub Names : List ℕ → List ℕ → Type 0
-Names content file = (manifest : ManifestView) × IsManifestFile content manifest × (manifest.files ≡ file ∷ [])
-
--- a front of the names of the files that the manifest names
+-- a front of the names of the files that the manifest names, which has no fault
 abbrev pub AreNamed : List (List ℕ) → Files → Type 0
 AreNamed [] files = ⊤
 AreNamed (name ∷ names) files =
-    (content : List ℕ) × (manifest : ManifestView) × (rest : List (List ℕ)) × (file_of project_name files ≡ Some content) × IsManifestFile (take most_read content) manifest
-    × (manifest.files ≡ (name ∷ names) ++ rest)
+    (content : List ℕ) × (lines : List Placed) × (rest : List (List ℕ)) × (file_of project_name files ≡ Some content) × IsManifestFile (take most_read content) lines
+    × (files_in lines ≡ (name ∷ names) ++ rest)
 
 -- a front of the names of the files that a project stands in: the manifest's, and then those that it names
 abbrev pub AreWanted : List (List ℕ) → Files → Type 0
 AreWanted [] files = ⊤
 AreWanted (name ∷ names) files = (name ≡ project_name) × AreNamed names files
 
--- the folder was asked for these files alone, in their order, each as far as files are read
+-- each of these files, as far as files are read
+abbrev pub as_read : List (List ℕ) → List Asked
+as_read names = map (λ name. record { name = name; most = most_read }) names
+
+-- the folder was asked for a front of these files
+abbrev pub AsksForFront : Option (List Asked) → Option (List Asked) → List (List ℕ) → Type 0
+AsksForFront old new names = (front : List (List ℕ)) × (rest : List (List ℕ)) × (names ≡ front ++ rest) × AsksFor old new (as_read front)
+
+-- the folder was asked for the files of its project alone, in their order
 abbrev pub AskedForFiles : Option Files → Option (List Asked) → Option (List Asked) → Type 0
 AskedForFiles files old new =
-    (names : List (List ℕ)) × AsksFor old new (map (λ name. record { name = name; most = most_read }) names) × Told files (AreWanted names)
+    (names : List (List ℕ)) × AsksFor old new (as_read names) × Told files (AreWanted names)
 
 -- why files couldn't be read: their folder failed, or want of memory
 abbrev pub IsReadError : LoadError → ℕ → ℕ → Type 0

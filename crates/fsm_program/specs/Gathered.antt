@@ -1,11 +1,13 @@
 -- The files of a folder that are read for its project.
-use Rattle.std.specs.Prelude.{◌≡◌, ◌⊎◌, ℕ, List, Some, Ok, Err, cond, take}
+use Rattle.std.specs.Prelude.{◌≡◌, ℕ, List, All, Some, Ok, Err, cond, take}
 use Rattle.std.specs.Option.{option_map}
 use Rattle.std.specs.Str.{bytes_eq}
 use Rattle.fsm_io.specs.Folders.{Files, file_of}
+use Rattle.project_manifest.specs.Lines.{Placed, files_in}
 use Rattle.project_manifest.specs.Manifests.{project_name}
+use Rattle.project_model.specs.Answers.{IsManifestFile}
 use Rattle.project_sources.specs.Sources.{Said, project_in}
-use Rattle.fsm_program.specs.Files.{Names, Reads, most_read}
+use Rattle.fsm_program.specs.Files.{Reads, most_read}
 use Rattle.fsm_program.specs.Loaded.{LoadedView, IsLoadedFrom}
 use Rattle.fsm_program.specs.declared.load.LoadError.{LoadError}
 use Rattle.fsm_program.specs.declared.load.LoadError.TheVariants.{Failed, Memory, Refused}
@@ -18,14 +20,14 @@ HasAdded name most old new files = (other : List ℕ) → file_of other new ≡ 
 abbrev pub IsSeen : Files → Files → List ℕ → Type 0
 IsSeen sources files name = file_of name sources ≡ option_map (take most_read) (file_of name files)
 
--- the sources' manifest names this file
-abbrev pub SourcesName : Files → List ℕ → Type 0
-SourcesName sources name = (content : List ℕ) × (file_of project_name sources ≡ Some content) × Names content name
+-- the sources have a manifest without fault, with these lines
+abbrev pub SourcesDeclare : Files → List Placed → Type 0
+SourcesDeclare sources lines = (content : List ℕ) × (file_of project_name sources ≡ Some content) × IsManifestFile content lines
 
--- the sources have the manifest of the files, and the file that it names, if it names one
+-- the sources have the manifest of the files, and the files that it names
 pub record IsGathered (sources files : Files) : Type 0 where
   pub manifest : IsSeen sources files project_name
-  pub file : ((name : List ℕ) → SourcesName sources name → ⊥) ⊎ ((name : List ℕ) × SourcesName sources name × IsSeen sources files name)
+  pub named : (lines : List Placed) → SourcesDeclare sources lines → All (IsSeen sources files) (files_in lines)
 
 -- the project that sources are
 abbrev pub IsOfSources : Files → LoadedView → Type 0

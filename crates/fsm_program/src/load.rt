@@ -1,17 +1,20 @@
-ghost use Rattle.std.specs.Prelude.{◌≡◌, ◌≤◌, ℕ, List, None, MatchOption, IfOk, IfErr, OnOk};
+ghost use Rattle.std.specs.Prelude.{◌≡◌, ◌≤◌, ℕ, List, All, Contains, None, MatchOption, IfOk, IfErr, OnOk};
 ghost use Rattle.regex_ast.specs.declared.fault.Why.TheVariants as why;
 ghost use Rattle.project_sources.specs.Faults.{fault};
 ghost use Rattle.fsm_program.specs.Centres.{HasNoEmptyCentre, IsCentreError};
 ghost use Rattle.fsm_io.specs.Folders.{Finds, HasAsked, Told, file_of};
-ghost use Rattle.fsm_program.specs.Files.{AskedForFiles, IsLoadError, IsLoaded, IsReadError, Names, most_read};
-ghost use Rattle.fsm_program.specs.Gathered.{HasAdded, IsGathered, IsOfSources, IsWhyNot, SourcesName};
+ghost use Rattle.fsm_program.specs.Files.{AskedForFiles, AsksForFront, IsLoadError, IsLoaded, IsReadError, most_read};
+ghost use Rattle.fsm_program.specs.Gathered.{HasAdded, IsGathered, IsOfSources, IsSeen, IsWhyNot, SourcesDeclare};
+ghost use Rattle.project_manifest.specs.Lines.{Placed};
+ghost use Rattle.project_model.specs.Answers.{IsManifestFile};
+ghost use Rattle.word_relations.specs.Words.{IsDistinct};
 
 use crate::centres::try_centres;
 use crate::project::Project;
 use crate::ready::Ready;
 use fsm_base::{SymbolTable, Text};
 use fsm_io::{Folder, FolderError, Found, rose};
-use project_model::{Definition, PlanError, Sources, manifest_of, read_project};
+use project_model::{Definition, Manifest, PlanError, Sources, manifest_of, read_project};
 use regex_ast::{Fault, Why};
 use std::alloc::{AllocError, Global};
 use thiserror::Error;
@@ -41,12 +44,12 @@ impl From<AllocError> for LoadError {
     }
 }
 
-/// The file that a manifest of this content names, or `None` where it is no manifest.
-fn file_named(alloc: Global, content: &[u8]) -> Result<Option<Text>, AllocError>
-    ensures { IfOk result (λ file. MatchOption file ((name : List ℕ) → Names content.now name → ⊥) (Names content.now)) }
+/// The manifest of this content, or `None` where it has a fault.
+fn readable(alloc: Global, content: &[u8]) -> Result<Option<Manifest>, AllocError>
+    ensures { IfOk result (λ manifest. MatchOption manifest ((lines : List Placed) → IsManifestFile content.now lines → ⊥) (IsManifestFile content.now)) }
 {
     match manifest_of(alloc, content) {
-        Ok(manifest) => Ok(Some(manifest.file().clone()?)),
+        Ok(manifest) => Ok(Some(manifest)),
         Err(PlanError::Refused(_fault)) => Ok(None),
         Err(PlanError::Memory(error)) => Err(error),
     }
@@ -98,17 +101,42 @@ fn with_file<F: Folder>(
     }
 }
 
-/// The file that the manifest of sources names, or `None` where there is none.
-fn named_in(alloc: Global, sources: &Sources) -> Result<Option<Text>, AllocError>
-    ensures { IfOk result (λ file. MatchOption file ((name : List ℕ) → SourcesName sources.now name → ⊥) (SourcesName sources.now)) }
+/// The sources with the first bytes of these files of the folder, `most` at most of each that is there.
+fn with_files<F: Folder>(
+    alloc: Global,
+    folder: &mut F,
+    mut sources: Sources,
+    names: &[Text],
+    most: usize,
+) -> Result<Sources, LoadError>
+    requires most { most ≡ most_read }
+    requires apart { IsDistinct names.now }
+    requires new { All (λ name. file_of name sources ≡ None) names.now }
+    ensures seen { IfOk result (λ new. Told (F.files folder.old) (λ files. All (IsSeen new files) names.now)) }
+    ensures others { IfOk result (λ new. (other : List ℕ) → (Contains names.now other → ⊥) → file_of other new ≡ file_of other sources) }
+    ensures error { IfErr result (λ error. IsReadError error (F.faults folder.old) (F.faults folder.new)) }
+    ensures files { F.files folder.new ≡ F.files folder.old }
+    ensures asked { AsksForFront (F.asked folder.old) (F.asked folder.new) names.now }
+    ensures later { F.faults folder.old ≤ F.faults folder.new }
+{
+    'names: for name in names {
+        sources = with_file(alloc, folder, sources, name.as_str(), most)?;
+    }
+    Ok(sources)
+}
+
+/// The manifest of sources, or `None` where it is missing or has a fault.
+fn manifest_in(alloc: Global, sources: &Sources) -> Result<Option<Manifest>, AllocError>
+    ensures { IfOk result (λ manifest. MatchOption manifest ((lines : List Placed) → SourcesDeclare sources.now lines → ⊥) (SourcesDeclare sources.now)) }
 {
     match sources.get("project") {
-        Some(content) => file_named(alloc, content),
+        Some(content) => readable(alloc, content),
         None => Ok(None),
     }
 }
 
-/// The sources of a folder's project: its manifest, and the file that this names. At most `most` bytes of each are read.
+/// The sources of a folder's project: its manifest, and the files that this names where it has no fault. At most `most` bytes of
+/// each are read.
 fn gather<F: Folder>(alloc: Global, folder: &mut F, most: usize) -> Result<Sources, LoadError>
     requires { most ≡ most_read }
     ensures gathered { IfOk result (λ sources. Told (F.files folder.old) (IsGathered sources)) }
@@ -117,8 +145,8 @@ fn gather<F: Folder>(alloc: Global, folder: &mut F, most: usize) -> Result<Sourc
     ensures later { F.faults folder.old ≤ F.faults folder.new }
 {
     let sources = with_file(alloc, folder, Sources::new(alloc), "project", most)?;
-    match named_in(alloc, &sources)? {
-        Some(file) => with_file(alloc, folder, sources, file.as_str(), most),
+    match manifest_in(alloc, &sources)? {
+        Some(manifest) => with_files(alloc, folder, sources, manifest.files(), most),
         None => Ok(sources),
     }
 }

@@ -1,8 +1,8 @@
--- Prefixes one before another, and `$` twice.
+-- Prefixes one before another, `$` twice, and `~` three times.
 use Rattle.std.proofs.Common.{◌≡◌, List, [], ◌∷◌, ◌++◌, length, arith, sym, ap, subst, ◌∙◌, append_assoc, append-nil}
 use Rattle.fsm_base.specs.declared.letters.Bound.{Bound}
 use Rattle.regex_ast.specs.declared.expr.Prefix.{Prefix}
-use Rattle.regex_ast.specs.declared.expr.Prefix.TheVariants.{Contains as Part}
+use Rattle.regex_ast.specs.declared.expr.Prefix.TheVariants.{Not, Contains as Part}
 use Rattle.expr_meaning.specs.Operators.{IsPrefixed, ArePrefixed}
 use Rattle.network_affixes.proofs.Alike.{SameWords, words_back, words_then, prefix_same}
 
@@ -31,6 +31,19 @@ module _ {L : Type 0} (alphabet : List L) where
       (prefix_same alphabet Part Q (IsPrefixed alphabet Part P) same)
       (words_then (IsPrefixed alphabet Part (IsPrefixed alphabet Part P)) (IsPrefixed alphabet Part P) Q (contains_again P) (words_back Q (IsPrefixed alphabet Part P) same))
 
+  -- `~~~A` is `~A`
+  not_thrice : (P : List (Bound L) → Type 0) → SameWords (IsPrefixed alphabet Not (IsPrefixed alphabet Not (IsPrefixed alphabet Not P))) (IsPrefixed alphabet Not P)
+  not_thrice P w = (λ h. (h.0, λ p. h.1 (h.0, λ x. x.1 p)), λ h. (h.0, λ x. x.1 h))
+
+  -- what a prefix makes, `~~` makes nothing new of, if it is `~`
+  pub not_settled : (prefix : Prefix) (P Q : List (Bound L) → Type 0) → SameWords Q (IsPrefixed alphabet prefix P) → prefix ≡ Not → SameWords (IsPrefixed alphabet Not (IsPrefixed alphabet Not Q)) Q
+  not_settled prefix P Q made is =
+      let N = IsPrefixed alphabet Not in
+      let same : SameWords Q (N P) = subst (λ x. SameWords Q (IsPrefixed alphabet x P)) is made in
+      words_then (N (N Q)) (N (N (N P))) Q
+      (prefix_same alphabet Not (N Q) (N (N P)) (prefix_same alphabet Not Q (N P) same))
+      (words_then (N (N (N P))) (N P) Q (not_thrice P) (words_back Q (N P) same))
+
   -- the same where the prefix is `$`
   pub some_same : (prefix : Prefix) (P : List (Bound L) → Type 0) → prefix ≡ Part → SameWords P (IsPrefixed alphabet Part P) → SameWords P (IsPrefixed alphabet prefix P)
   some_same prefix P is same = subst (λ x. SameWords P (IsPrefixed alphabet x P)) (sym is) same
@@ -48,6 +61,14 @@ module _ {L : Type 0} (alphabet : List L) where
     is ∙ ap (λ (z : List Prefix). z ++ behind) parts ∙ append_assoc front (prefix ∷ []) behind,
     words_then R (IsPrefixed alphabet prefix Q) (IsPrefixed alphabet prefix (ArePrefixed alphabet behind P)) made (prefix_same alphabet prefix Q (ArePrefixed alphabet behind P) same),
   )
+
+  -- two `~` more, where they turn each other back
+  pub two_more_behind : (whole rest front before : List Prefix) (prefix : Prefix) (P Q : List (Bound L) → Type 0) → rest ≡ front ++ prefix ∷ [] → front ≡ before ++ Not ∷ [] → prefix ≡ Not
+      → ArePrefixedBehind whole rest P Q → SameWords (IsPrefixed alphabet Not (IsPrefixed alphabet Not Q)) Q → ArePrefixedBehind whole before P Q
+  two_more_behind whole rest front before prefix P Q parts others is behind turned =
+      let N = IsPrefixed alphabet Not in
+      let one = one_more_behind whole rest front prefix P Q (N Q) parts behind (subst (λ x. SameWords (N Q) (IsPrefixed alphabet x Q)) (sym is) (λ w. (λ h. h, λ h. h))) in
+      one_more_behind whole front before Not P (N Q) Q others one (words_back (N (N Q)) Q turned)
 
   pub all_behind : (whole rest : List Prefix) (P Q : List (Bound L) → Type 0) → length rest ≡ 0 → ArePrefixedBehind whole rest P Q → SameWords Q (ArePrefixed alphabet whole P)
   all_behind whole [] P Q none (behind, is, same) = subst (λ z. SameWords Q (ArePrefixed alphabet z P)) (sym is) same

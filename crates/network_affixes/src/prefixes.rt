@@ -1,4 +1,4 @@
-ghost use Rattle.std.specs.Prelude.{◌≡◌, ◌↔◌, IfOk, IsTrue, List, Some};
+ghost use Rattle.std.specs.Prelude.{◌≡◌, ◌↔◌, ◌++◌, ◌∷◌, [], IfOk, IfSome, IsTrue, List, Some};
 ghost use Rattle.fsm_base.specs.declared.letters.Bound.{Bound};
 ghost use Rattle.fsm_base.specs.declared.letters.Sym.{Sym};
 ghost use Rattle.word_relations.specs.Words.{IsDistinct};
@@ -20,6 +20,16 @@ fn makes_nothing_new(prefix: Prefix, last: Option<Prefix>) -> bool
     matches!((prefix, last), (Prefix::Contains, Some(Prefix::Contains)))
 }
 
+/// What stands before two `~` that stand before a third one: these two turn each other back.
+fn before_two_nots(prefix: Prefix, front: &[Prefix], last: Option<Prefix>) -> Option<&[Prefix]>
+    ensures { IfSome result (λ before. (last ≡ Some Prefix.Not) × (prefix ≡ Prefix.Not) × (front.now ≡ before.now ++ Prefix.Not ∷ [])) }
+{
+    match (prefix, last, front.split_last()) {
+        (Prefix::Not, Some(Prefix::Not), Some((Prefix::Not, before))) => Some(before),
+        _ => None,
+    }
+}
+
 /// A language with prefixes, of which the last stands at it.
 pub fn apply_prefixes(
     alloc: Global,
@@ -37,6 +47,10 @@ pub fn apply_prefixes(
     'prefixes: while let Some((prefix, front)) = rest.split_last() {
         rest = front;
         if makes_nothing_new(*prefix, last) {
+            continue;
+        }
+        if let Some(before) = before_two_nots(*prefix, front, last) {
+            rest = before;
             continue;
         }
         words = apply_prefix(alloc, alphabet, *prefix, &words)?;

@@ -35,7 +35,7 @@ module _ {A : Type 0} (spells : A → Bool) where
     leaves_pass (concat es) h = each_passes es h
     leaves_pass (chain e links) h = All-append Passes (leaves_in e) (leaves_in_links links) (leaves_pass e h.0) (links_pass links h.1)
     leaves_pass (only e contexts) h = All-append Passes (leaves_in e) (leaves_in_contexts contexts) (leaves_pass e h.0) (contexts_pass contexts h.1)
-    leaves_pass (rules optional groups) h = groups_pass groups h
+    leaves_pass (rules optional groups) h = groups_pass groups h.1
     leaves_pass (steps e more) h = All-append Passes (leaves_in e) (leaves_in_steps more) (leaves_pass e h.0) (steps_pass more h.1)
 
     each_passes : (es : Terms A) → AreBuilt spells es → All Passes (leaves_in_each es)
@@ -66,7 +66,7 @@ module _ {A : Type 0} (spells : A → Bool) where
     mappings_pass (markup c b a maps) h =
         let first = All-append Passes (leaves_in c) (leaves_in b) (leaves_pass c h.1) (leaves_pass b h.2) in
         All-append Passes (leaves_in c ++ leaves_in b ++ leaves_in a) (leaves_in_mappings maps) (All-append Passes (leaves_in c ++ leaves_in b) (leaves_in a) first (leaves_pass a h.3)) (mappings_pass maps h.4)
-    mappings_pass (insert r maps) h = absurd h
+    mappings_pass (insert r maps) h = All-append Passes (leaves_in r) (leaves_in_mappings maps) (leaves_pass r h.0) (mappings_pass maps h.1)
 
     groups_pass : (groups : Groups A) → GroupsAreBuilt spells groups → All Passes (leaves_in_groups groups)
     groups_pass no_group h = All-nil Passes
@@ -112,7 +112,7 @@ module _ {A : Type 0} (spells letter passes held : A → Bool) where
     built_by (concat es) h s = each_by es h s
     built_by (chain e links) h s = both (leaves_in e) (leaves_in_links links) (built_by e h.0) (links_by links h.1) s
     built_by (only e contexts) h s = both (leaves_in e) (leaves_in_contexts contexts) (built_by e h.0) (contexts_by contexts h.1) s
-    built_by (rules optional groups) h s = groups_by groups h s
+    built_by (rules optional groups) h s = (h.0, groups_by groups h.1 s)
     built_by (steps e more) h s = both (leaves_in e) (leaves_in_steps more) (built_by e h.0) (steps_by more h.1) s
 
     each_by : (es : Terms A) → AreBuiltWith spells letter AnyCentre es → Both (leaves_in_each es) → AreBuiltWith passes held AnyCentre es
@@ -148,7 +148,7 @@ module _ {A : Type 0} (spells letter passes held : A → Bool) where
         let parts = both (leaves_in c ++ leaves_in b) (leaves_in a) first (built_by a h.3) in
         let all = both (leaves_in c ++ leaves_in b ++ leaves_in a) (leaves_in_mappings maps) parts (mappings_by maps h.4) s in
         (tt, all.0.0.0, all.0.0.1, all.0.1, all.1)
-    mappings_by (insert r maps) h s = h
+    mappings_by (insert r maps) h s = both (leaves_in r) (leaves_in_mappings maps) (built_by r h.0) (mappings_by maps h.1) s
 
     groups_by : (groups : Groups A) → GroupsAreBuiltWith spells letter AnyCentre groups → Both (leaves_in_groups groups) → GroupsAreBuiltWith passes held AnyCentre groups
     groups_by no_group h s = tt
@@ -184,7 +184,7 @@ module _ {A : Type 0} (one one_letter two two_letter passes : A → Bool) (leaf 
     built_both (concat es) h g = each_both es h g
     built_both (chain e links) h g = (built_both e h.0 g.0, links_both links h.1 g.1)
     built_both (only e contexts) h g = (built_both e h.0 g.0, contexts_both contexts h.1 g.1)
-    built_both (rules optional groups) h g = groups_both groups h g
+    built_both (rules optional groups) h g = (h.0, groups_both groups h.1 g.1)
     built_both (steps e more) h g = (built_both e h.0 g.0, steps_both more h.1 g.1)
 
     each_both : (es : Terms A) → AreBuiltWith one one_letter AnyCentre es → AreBuiltWith two two_letter AnyCentre es → AreBuilt passes es
@@ -210,7 +210,7 @@ module _ {A : Type 0} (one one_letter two two_letter passes : A → Bool) (leaf 
     mappings_both no_mapping h g = tt
     mappings_both (plain c r maps) h g = (tt, built_both c h.1 g.1, built_both r h.2 g.2, mappings_both maps h.3 g.3)
     mappings_both (markup c b a maps) h g = (tt, built_both c h.1 g.1, built_both b h.2 g.2, built_both a h.3 g.3, mappings_both maps h.4 g.4)
-    mappings_both (insert r maps) h g = h
+    mappings_both (insert r maps) h g = (built_both r h.0 g.0, mappings_both maps h.1 g.1)
 
     groups_both : (groups : Groups A) → GroupsAreBuiltWith one one_letter AnyCentre groups → GroupsAreBuiltWith two two_letter AnyCentre groups → GroupsAreBuilt passes groups
     groups_both no_group h g = tt

@@ -30,7 +30,7 @@ module _ {A : Type 0} (leaf letter : A → Bool) (Centre : Term A → Type 0) wh
     filled_built (concat es) b h = each_filled es b h
     filled_built (chain e links) b h = (filled_built e b.0 (front (centres_in e) (centres_in_links links) h), links_filled links b.1 (back (centres_in e) (centres_in_links links) h))
     filled_built (only e contexts) b h = (filled_built e b.0 (front (centres_in e) (centres_in_contexts contexts) h), contexts_filled contexts b.1 (back (centres_in e) (centres_in_contexts contexts) h))
-    filled_built (rules optional groups) b h = groups_filled groups b h
+    filled_built (rules optional groups) b h = (b.0, groups_filled groups b.1 h)
     filled_built (steps e more) b h = (filled_built e b.0 (front (centres_in e) (centres_in_steps more) h), steps_filled more b.1 (back (centres_in e) (centres_in_steps more) h))
 
     each_filled : (es : Terms A) → AreBuiltWith leaf letter AnyCentre es → All Centre (centres_in_each es) → AreBuiltWith leaf letter Centre es
@@ -77,7 +77,7 @@ module _ {A : Type 0} (leaf letter : A → Bool) (Centre : Term A → Type 0) wh
           filled_built after b.3 (back (c ∷ centres_in c ++ centres_in before) (centres_in after) parts),
           mappings_filled maps b.4 (back (c ∷ centres_in c ++ centres_in before ++ centres_in after) (centres_in_mappings maps) h),
         )
-    mappings_filled (insert r maps) b h = absurd b
+    mappings_filled (insert r maps) b h = (filled_built r b.0 (front (centres_in r) (centres_in_mappings maps) h), mappings_filled maps b.1 (back (centres_in r) (centres_in_mappings maps) h))
 
     groups_filled : (groups : Groups A) → GroupsAreBuiltWith leaf letter AnyCentre groups → All Centre (centres_in_groups groups) → GroupsAreBuiltWith leaf letter Centre groups
     groups_filled no_group b h = tt

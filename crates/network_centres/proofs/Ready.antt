@@ -38,7 +38,7 @@ module _ {A : Type 0} (leaf letter : A → Bool) (leaves : Leaves A) where
     ready_in (concat es) b f = ready_each es b f
     ready_in (chain e links) b f = two (centres_in e) (centres_in_links links) (ready_in e b.0 f.0) (ready_links (kind_of leaves e) links b.1 f.1)
     ready_in (only e contexts) b f = two (centres_in e) (centres_in_contexts contexts) (ready_in e b.0 f.1) (ready_contexts contexts b.1 f.2)
-    ready_in (rules optional groups) b f = ready_groups groups b f
+    ready_in (rules optional groups) b f = ready_groups groups b.1 f
     ready_in (steps e more) b f = two (centres_in e) (centres_in_steps more) (ready_in e b.0 f.0) (ready_steps (kind_of leaves e) more b.1 f.1)
 
     ready_each : (es : Terms A) → AreBuiltWith leaf letter AnyCentre es → EachFits leaves es → All IsReady (centres_in_each es)
@@ -75,7 +75,7 @@ module _ {A : Type 0} (leaf letter : A → Bool) (leaves : Leaves A) where
         two (c ∷ centres_in c ++ centres_in before ++ centres_in after) (centres_in_mappings maps)
         (two (c ∷ centres_in c ++ centres_in before) (centres_in after) (two (c ∷ centres_in c) (centres_in before) own (ready_in before b.2 f.3)) (ready_in after b.3 f.5))
         (ready_mappings maps b.4 f.6)
-    ready_mappings (insert r maps) b f = absurd b
+    ready_mappings (insert r maps) b f = two (centres_in r) (centres_in_mappings maps) (ready_in r b.0 f.1) (ready_mappings maps b.1 f.2)
 
     ready_groups : (groups : Groups A) → GroupsAreBuiltWith leaf letter AnyCentre groups → GroupsFit leaves groups → All IsReady (centres_in_groups groups)
     ready_groups no_group b f = none

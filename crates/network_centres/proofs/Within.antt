@@ -32,7 +32,7 @@ module _ {A : Type 0} (leaf letter : A → Bool) where
     built_within (concat es) b = each_within es b
     built_within (chain e links) b = two (centres_in e) (centres_in_links links) (built_within e b.0) (links_within links b.1)
     built_within (only e contexts) b = two (centres_in e) (centres_in_contexts contexts) (built_within e b.0) (contexts_within contexts b.1)
-    built_within (rules optional groups) b = groups_within groups b
+    built_within (rules optional groups) b = groups_within groups b.1
     built_within (steps e more) b = two (centres_in e) (centres_in_steps more) (built_within e b.0) (steps_within more b.1)
 
     each_within : (es : Terms A) → AreBuiltBy leaf letter es → All Built (centres_in_each es)
@@ -65,7 +65,7 @@ module _ {A : Type 0} (leaf letter : A → Bool) where
         two (c ∷ centres_in c ++ centres_in before ++ centres_in after) (centres_in_mappings maps)
         (two (c ∷ centres_in c ++ centres_in before) (centres_in after) (two (c ∷ centres_in c) (centres_in before) own (built_within before b.2)) (built_within after b.3))
         (mappings_within maps b.4)
-    mappings_within (insert r maps) b = absurd b
+    mappings_within (insert r maps) b = two (centres_in r) (centres_in_mappings maps) (built_within r b.0) (mappings_within maps b.1)
 
     groups_within : (groups : Groups A) → GroupsAreBuiltBy leaf letter groups → All Built (centres_in_groups groups)
     groups_within no_group b = none

@@ -24,7 +24,7 @@ use Rattle.regex_ast.specs.declared.expr.Atom.TheVariants.{Sym as Symbol}
 use Rattle.regex_ast.specs.declared.expr.Link.{Link}
 use Rattle.regex_ast.specs.declared.expr.Step.{Step}
 use Rattle.regex_ast.specs.declared.expr.Context.{Context}
-use Rattle.regex_ast.specs.Terms.{Term, Terms, Links, Contexts, Steps, empty, any, atom, letters, maybe, cross, prefixed, not_one, ignore, concat, only, no_term, then_term, no_link, or, and, less, no_context, between, no_step, cross_with, then, terms_of, links_of, contexts_of, steps_by}
+use Rattle.regex_ast.specs.Terms.{Term, Terms, Links, Contexts, Steps, empty, any, atom, letters, maybe, cross, prefixed, not_one, ignore, concat, only, no_term, then_term, no_link, or, no_context, between, no_step, cross_with, then, terms_of, links_of, contexts_of, steps_by}
 use Rattle.expr_kinds.specs.Atoms.{are_one_symbol}
 use Rattle.expr_kinds.specs.Kinds.{are_alike, both, half, kind_of, kind_of_each, kind_of_chain, kind_of_steps, kind_of_contexts, ChainFits, StepsFit, ContextsFit, EachFitsAsLanguage}
 use Rattle.expr_kinds.specs.declared.form.Kind.{Kind}

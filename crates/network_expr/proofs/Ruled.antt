@@ -1,5 +1,5 @@
 -- Rules one by one: each is built, fits, and weighs no more than all.
-use Rattle.std.proofs.Common.{◌≡◌, ◌<◌, ◌≤◌, ◌+◌, ℕ, zero, suc, Bool, List, [], ◌∷◌, length, take, get_or, arith, refl, sym, ap}
+use Rattle.std.proofs.Common.{◌≡◌, ◌<◌, ◌≤◌, ℕ, zero, suc, Bool, true, false, ◌||◌, IsTrue, List, [], ◌∷◌, length, take, get_or, arith, refl, sym, ap, subst}
 use Rattle.fsm_base.specs.declared.letters.Sym.{Sym}
 use Rattle.fsm_base.specs.declared.letters.Pair.{Pair}
 use Rattle.word_relations.specs.Relations.{AreSame}
@@ -12,16 +12,18 @@ use Rattle.regex_ast.specs.declared.expr.Group.{Group}
 use Rattle.regex_ast.specs.declared.expr.Mapping.{Mapping, Plain, Markup, Insert}
 use Rattle.regex_ast.specs.declared.expr.Expr.TheViews.{out-Group, roll-Group, roll-out-Group}
 use Rattle.regex_ast.specs.Terms.{rules, side_of, mappings_of, contexts_of, groups_of}
+use Rattle.expr_kinds.specs.Built.{is_insertion}
 use Rattle.expr_kinds.specs.Kinds.{MappingsFit, ContextsFit, GroupsFit}
 use Rattle.expr_meaning.specs.Meaning.{In, Relates}
 use Rattle.expr_meaning.specs.Replacement.{IsRewritten}
-use Rattle.network_algebra.specs.Networks.{IsFor}
 use Rattle.network_algebra.specs.declared.network.Network.TheVariants.{Pairs}
 use Rattle.network_algebra.proofs.Meanings.{pairs_for}
 use Rattle.replace_rules.specs.declared.rules.LangGroup.{LangGroup}
+use Rattle.replace_rules.specs.declared.rules.LangMap.{LangMap}
 use Rattle.replace_rules.specs.Rules.{ReplacesBy, AppliesBy}
+use Rattle.replace_insertions.specs.Insertions.{InsertsBy, AsksBy}
 use Rattle.network_rules.specs.Rules.{AreGroups}
-use Rattle.network_rules.proofs.Meaning.{rules_mean}
+use Rattle.network_rules.proofs.Meaning.{rules_mean, insertion_means, insertion_rows}
 use Rattle.network_expr.specs.Built.{IsMeant, MappingsAreBuiltOver, ContextsAreBuiltOver, GroupsAreBuiltOver}
 use Rattle.network_expr.specs.Parts.{kinds, stands}
 use Rattle.network_expr.specs.declared.parts.Part.{Part}
@@ -37,6 +39,11 @@ take_whole [] zero all = refl
 take_whole [] (suc n) all = refl
 take_whole (x ∷ xs) zero all = absurd (omega arith)
 take_whole (x ∷ xs) (suc n) all = ap (λ ys. x ∷ ys) (take_whole xs n (omega arith))
+
+-- the second of two, where the first isn't so
+pub else_second : (a b : Bool) → IsTrue (a || b) → a ≡ false → IsTrue b
+else_second true b h is = let clash : true ≡ false = is in absurd (cc)
+else_second false b h is = h
 
 module _ (parts : List Part) (alphabet : List Sym) where
   -- what is asked of rules, where they weigh at most so much
@@ -63,7 +70,10 @@ module _ (parts : List Part) (alphabet : List Sym) where
   map_ready (Markup c r a ∷ maps) most zero d within all =
       let b = all.built in let f = all.fits in let light = all.light in
       record { built = (b.0, b.1, b.2, b.3, tt); fits = (f.0, f.1, f.2, f.3, f.4, f.5, tt); light = omega (arith, light) }
-  map_ready (Insert r ∷ maps) most i d within all = absurd all.built
+  map_ready (Insert r ∷ maps) most zero d within all =
+      let b = all.built in let f = all.fits in let light = all.light in
+      record { built = (b.0, tt); fits = (f.0, f.1, tt); light = omega (arith, light) }
+  map_ready (Insert r ∷ maps) most (suc i) d within all = let light = all.light in map_ready maps most i d (omega arith) (record { built = all.built.1; fits = all.fits.2; light = omega (arith, light) })
   map_ready (Plain c r ∷ maps) most (suc i) d within all = let light = all.light in map_ready maps most i d (omega arith) (record { built = all.built.3; fits = all.fits.4; light = omega (arith, light) })
   map_ready (Markup c r a ∷ maps) most (suc i) d within all = let light = all.light in map_ready maps most i d (omega arith) (record { built = all.built.4; fits = all.fits.6; light = omega (arith, light) })
 
@@ -88,3 +98,13 @@ module _ (parts : List Part) (alphabet : List Sym) where
       let e = rules optional (groups_of groups) in
       pairs_for _ m (In (stands parts) alphabet e) (Relates (stands parts) alphabet e) refl
       (same_trans (IsRelated m) (IsRewritten alphabet (ReplacesBy langs) (AppliesBy langs) optional) (Relates (stands parts) alphabet e) related (rules_mean (stands parts) alphabet optional (groups_of groups) langs are))
+
+  -- the network of an insertion
+  pub insertion_meant : (optional : Bool) (groups : List (Group Atom)) (langs : List LangGroup) (n : Automaton Pair) → IsTrue (is_insertion (groups_of groups)) → AreGroups (stands parts) alphabet (groups_of groups) langs
+      → ((g : LangGroup) (m : LangMap) → langs ≡ g ∷ [] → g.maps.items ≡ m ∷ [] → AreSame (IsRelated n) (IsRewritten alphabet (InsertsBy m.result g.side g.contexts.items) (AsksBy g.side g.contexts.items) optional)) → IsMeant parts alphabet (rules optional (groups_of groups)) (Pairs n)
+  insertion_meant optional groups langs n alone are related =
+      let e = rules optional (groups_of groups) in
+      let (g, m, one, mapping, letters) = insertion_rows (stands parts) alphabet (groups_of groups) langs alone are in
+      pairs_for _ n (In (stands parts) alphabet e) (Relates (stands parts) alphabet e) refl
+      (same_trans (IsRelated n) (IsRewritten alphabet (InsertsBy m.result g.side g.contexts.items) (AsksBy g.side g.contexts.items) optional) (Relates (stands parts) alphabet e) (related g m one mapping)
+      (insertion_means (stands parts) alphabet optional (groups_of groups) g m alone (subst (λ (z : List LangGroup). AreGroups (stands parts) alphabet (groups_of groups) z) one are) mapping))

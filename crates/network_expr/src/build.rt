@@ -7,6 +7,7 @@ ghost use Rattle.fsa.specs.Complete as complete;
 ghost use Rattle.fsa.specs.Language.{Accepts};
 ghost use Rattle.lang_algebra.specs.Languages.{IsLang};
 ghost use Rattle.regex_ast.specs.Terms.{concat, contexts_of, cross, groups_of, ignore, links_of, mappings_of, maybe, not_one, only, rules, steps_by, term, terms_of};
+ghost use Rattle.expr_kinds.specs.Built.{inserts_alone};
 ghost use Rattle.expr_kinds.specs.Kinds.{ChainFits, ContextsFit, EachFits, EachFitsAsLanguage, Fits, GroupsFit, IsLanguage, MappingsFit, StepsFit, kind_of_chain, kind_of_steps};
 ghost use Rattle.expr_kinds.specs.declared.form.Kind.{Kind};
 ghost use Rattle.expr_meaning.specs.Meaning.{In, InChain, InContext, InIgnoring, InSteps, RelatesChain, RelatesSteps};
@@ -19,20 +20,20 @@ ghost use Rattle.network_rules.specs.Rules.{AreContexts, AreMaps, IsPart};
 
 use crate::leaves::{leaf, symbols};
 use crate::parts::Part;
-use expr_kinds::are_alike;
+use expr_kinds::{are_alike, is_insertion};
 use fsa::Fsa;
 use fsm_base::{Bound, Sym};
 use lang_algebra::{Lang, one_letter};
 use network_affixes::{apply_prefixes, apply_suffixes, not_one_times};
 use network_algebra::{Network, cross, inner_letters, reduced, union, word};
-use network_rules::inner_language;
+use network_rules::{empty_word, inner_language, insertion};
 use network_sets::{Split, both, compose, ignore, in_context, language, restrict};
 use regex_ast::{Atom, Context, Expr, Group, Link, Mapping, Step};
 use replace_rules::{LangContext, LangGroup, LangMap, replace};
 use std::alloc::{AllocError, Global};
 
 /// The network of an expression over an alphabet: of its kind, with its words where it is a language, and with the
-/// pairs that it relates. A name relates what its part does; an insertion can't be built yet.
+/// pairs that it relates. A name relates what its part does.
 #[cycle(build)]
 pub fn network_of(
     alloc: Global,
@@ -544,6 +545,7 @@ fn replaced(
     groups: &[Group<Atom>],
 ) -> Result<Network, AllocError>
     requires ground { IsGround alphabet.now parts.now }
+    requires alone { IsTrue (inserts_alone (groups_of groups.now)) }
     requires built { GroupsAreBuiltOver parts.now alphabet.now (groups_of groups.now) }
     requires fits { GroupsFit (kinds parts.now) (groups_of groups.now) }
     ensures letters { IfOk result (IsNetwork alphabet.now) }
@@ -558,6 +560,9 @@ fn replaced(
             side: group.side,
             contexts,
         })?;
+    }
+    if is_insertion(groups) {
+        return Ok(Network::Pairs(insertion(alloc, alphabet, optional, &langs)?));
     }
     Ok(Network::Pairs(replace(alloc, alphabet, optional, &langs)?))
 }
@@ -610,7 +615,11 @@ fn lang_map(
             result: part_language(alloc, alphabet, parts, before)?,
             after: Some(part_language(alloc, alphabet, parts, after)?),
         }),
-        Mapping::Insert { .. } => unreachable!(),
+        Mapping::Insert { result } => Ok(LangMap {
+            centre: empty_word(alloc, alphabet)?,
+            result: part_language(alloc, alphabet, parts, result)?,
+            after: None,
+        }),
     }
 }
 

@@ -1,2 +1,3 @@
+mod Inserting
 pub mod Meaning
 pub mod Rows

@@ -1,6 +1,7 @@
 -- What rules of languages relate, the expression relates whose rules they are.
-use Rattle.std.proofs.Common.{◌≡◌, ◌↔◌, ◌⊎◌, Bool, List, [], ◌∷◌, ◌++◌, Option, None, Some, refl, sym, subst, ◌∙◌, inl, inr}
+use Rattle.std.proofs.Common.{◌≡◌, ◌↔◌, ◌⊎◌, Bool, true, false, not, IsTrue, List, [], ◌∷◌, Option, None, Some, refl, sym, subst, ◌∙◌, inl, inr}
 use Rattle.std.specs.List.{Contains}
+use Rattle.std.proofs.lemmas.Bool.{and_parts}
 use Rattle.std.proofs.lemmas.List.Elements.{All-contains_itself}
 use Rattle.fsm_base.specs.declared.letters.Bound.{Bound}
 use Rattle.fsm_base.specs.declared.letters.Bound.TheVariants.{Inner}
@@ -12,6 +13,7 @@ use Rattle.fsa.specs.Automaton.{Automaton, UsesLetter}
 use Rattle.fsa.specs.Complete.{Complete, Accepts}
 use Rattle.regex_ast.specs.declared.expr.Side.{Side}
 use Rattle.regex_ast.specs.Terms.{Term, Contexts, Mappings, Groups, rules, no_context, between, no_mapping, plain, markup, insert, no_group, then_group}
+use Rattle.expr_kinds.specs.Built.{holds_insertion, has_no_insertion, is_insertion}
 use Rattle.expr_meaning.specs.Meaning.{In, InContext, IsCentre, IsMapped, Replaces, Applies, Relates}
 use Rattle.expr_meaning.specs.Operators.{inner, HoldsLeft, HoldsRight}
 use Rattle.expr_meaning.specs.Replacement.{Piece, copied, replaced, read_before, read_behind, IsAround, IsAllowed, IsPiece, IsRewritten}
@@ -19,8 +21,10 @@ use Rattle.network_algebra.specs.Networks.{UsesOnly, all_letters}
 use Rattle.replace_rules.specs.declared.rules.LangMap.{LangMap}
 use Rattle.replace_rules.specs.declared.rules.LangContext.{LangContext}
 use Rattle.replace_rules.specs.declared.rules.LangGroup.{LangGroup}
+use Rattle.lang_algebra.specs.Languages.{IsLang}
+use Rattle.replace_insertions.specs.Insertions.{AllowsAt, InsertsBy, AsksBy}
 use Rattle.replace_rules.specs.Rules.{IsPut, HasCentre, HasMapping, HasContext, Allows, ReplacesBy, AppliesBy, IsMapOver, AreMapsOver}
-use Rattle.network_rules.specs.Rules.{IsPart, IsSide, IsFilled, IsPlain, IsMarkup, AreMaps, AreContexts, AreGroups}
+use Rattle.network_rules.specs.Rules.{IsPart, IsPlain, IsMarkup, AreMaps, AreContexts, AreGroups}
 
 then_same : (P Q R : Type 0) → P ↔ Q → Q ↔ R → P ↔ R
 then_same P Q R f g = (λ p. g.0 (f.0 p), λ r. f.1 (g.1 r))
@@ -71,6 +75,8 @@ module _ {A : Type 0} (leaf : A → List Sym → List Sym → Type 0) (alphabet 
       items_same (λ (m : LangMap). Accepts m.centre c) (In leaf alphabet e (inner c)) (IsCentre leaf alphabet maps c) m langs (are.0.1.words c) (centre_same maps langs are.1 c)
   centre_same (markup e b a maps) (m ∷ langs) are c =
       items_same (λ (m : LangMap). Accepts m.centre c) (In leaf alphabet e (inner c)) (IsCentre leaf alphabet maps c) m langs (are.0.1.words c) (centre_same maps langs are.1 c)
+  centre_same (insert f maps) (m ∷ langs) are c =
+      items_same (λ (m : LangMap). Accepts m.centre c) (c ≡ []) (IsCentre leaf alphabet maps c) m langs (are.0.0.words c) (centre_same maps langs are.1 c)
   centre_same _ _ are c = absurd are
 
   put_plain : (m : LangMap) (f : Term A) → IsPart leaf alphabet f m.result → m.after ≡ None → (c r : List Sym) → IsPut m.result m.after c r ↔ In leaf alphabet f (inner r)
@@ -99,6 +105,10 @@ module _ {A : Type 0} (leaf : A → List Sym → List Sym → Type 0) (alphabet 
   items_mapped (markup e b a maps) (m ∷ langs) are c r =
       items_same (Does c r) (In leaf alphabet e (inner c) × IsAround (In leaf alphabet b) (In leaf alphabet a) c r) (IsMapped leaf alphabet maps c r) m langs
       (both (Accepts m.centre c) (In leaf alphabet e (inner c)) (IsPut m.result m.after c r) (IsAround (In leaf alphabet b) (In leaf alphabet a) c r) (are.0.1.words c) (put_markup m b a are.0.3 are.0.2 are.0.4 are.0.5 c r))
+      (items_mapped maps langs are.1 c r)
+  items_mapped (insert f maps) (m ∷ langs) are c r =
+      items_same (Does c r) ((c ≡ []) × In leaf alphabet f (inner r)) (IsMapped leaf alphabet maps c r) m langs
+      (both (Accepts m.centre c) (c ≡ []) (IsPut m.result m.after c r) (In leaf alphabet f (inner r)) (are.0.0.words c) (put_plain m f are.0.1 are.0.2 c r))
       (items_mapped maps langs are.1 c r)
   items_mapped _ _ are c r = absurd are
 
@@ -179,6 +189,69 @@ module _ {A : Type 0} (leaf : A → List Sym → List Sym → Type 0) (alphabet 
         (λ before c r behind. (replaces_same groups langs are before c r behind).1) (λ before c behind. (applies_same groups langs are before c behind).0) optional u w,
   )
 
+  -- rules that are one insertion insert what their languages say
+  again : (maps : List LangMap) (f : Term A) (m : LangMap) → AreMaps leaf alphabet (insert f no_mapping) maps → maps ≡ m ∷ [] → IsPart leaf alphabet f m.result × IsLang alphabet (λ c. c ≡ []) m.centre
+  again maps f m are is = let here = subst (λ (z : List LangMap). AreMaps leaf alphabet (insert f no_mapping) z) is are in (here.0.1, here.0.0)
+
+  pub insertion_means : (optional : Bool) (groups : Groups A) (g : LangGroup) (m : LangMap) → IsTrue (is_insertion groups) → AreGroups leaf alphabet groups (g ∷ []) → g.maps.items ≡ m ∷ []
+      → AreSame (IsRewritten alphabet (InsertsBy m.result g.side g.contexts.items) (AsksBy g.side g.contexts.items) optional) (Relates leaf alphabet (rules optional groups))
+  insertion_means optional (then_group (insert f no_mapping) side contexts no_group) g m alone are one u w = (
+    rewritten_same alphabet (InsertsBy m.result g.side g.contexts.items) (Replaces leaf alphabet groups) (AsksBy g.side g.contexts.items) (Applies leaf alphabet groups) does_there asks_back optional u w,
+    rewritten_same alphabet (Replaces leaf alphabet groups) (InsertsBy m.result g.side g.contexts.items) (Applies leaf alphabet groups) (AsksBy g.side g.contexts.items) does_back asks_there optional u w,
+  )
+    where
+      groups : Groups A
+      groups = then_group (insert f no_mapping) side contexts no_group
+
+      part : IsPart leaf alphabet f m.result
+      part = (again g.maps.items f m are.0 one).0
+
+      holds : (before behind : List (Piece Sym)) → AllowsAt g.side g.contexts.items before behind ↔ IsAllowed contexts (InContext leaf alphabet contexts) side before behind
+      holds before behind = allows_same contexts side g are.2 are.1 before behind
+
+      does_there : (before : List (Piece Sym)) (c r : List Sym) (behind : List (Piece Sym)) → InsertsBy m.result g.side g.contexts.items before c r behind → Replaces leaf alphabet groups before c r behind
+      does_there before c r behind (none, words, allows) = inl (inl (none, (part.words r).0 words), (holds before behind).0 allows)
+
+      does_back : (before : List (Piece Sym)) (c r : List Sym) (behind : List (Piece Sym)) → Replaces leaf alphabet groups before c r behind → InsertsBy m.result g.side g.contexts.items before c r behind
+      does_back before c r behind (inl (inl (none, words), allows)) = (none, (part.words r).1 words, (holds before behind).1 allows)
+      does_back before c r behind (inl (inr never, allows)) = absurd never
+      does_back before c r behind (inr never) = absurd never
+
+      asks_there : (before : List (Piece Sym)) (c : List Sym) (behind : List (Piece Sym)) → AsksBy g.side g.contexts.items before c behind → Applies leaf alphabet groups before c behind
+      asks_there before c behind (none, allows) = inl (inl none, (holds before behind).0 allows)
+
+      asks_back : (before : List (Piece Sym)) (c : List Sym) (behind : List (Piece Sym)) → Applies leaf alphabet groups before c behind → AsksBy g.side g.contexts.items before c behind
+      asks_back before c behind (inl (inl none, allows)) = (none, (holds before behind).1 allows)
+      asks_back before c behind (inl (inr never, allows)) = absurd never
+      asks_back before c behind (inr never) = absurd never
+  insertion_means optional no_group g m alone are one u w = let clash : false ≡ true = alone in absurd (cc)
+  insertion_means optional (then_group no_mapping side contexts no_group) g m alone are one u w = let clash : false ≡ true = alone in absurd (cc)
+  insertion_means optional (then_group (plain c r maps) side contexts no_group) g m alone are one u w = let clash : false ≡ true = alone in absurd (cc)
+  insertion_means optional (then_group (markup c b a maps) side contexts no_group) g m alone are one u w = let clash : false ≡ true = alone in absurd (cc)
+  insertion_means optional (then_group (insert f (plain c r maps)) side contexts no_group) g m alone are one u w = let clash : false ≡ true = alone in absurd (cc)
+  insertion_means optional (then_group (insert f (markup c b a maps)) side contexts no_group) g m alone are one u w = let clash : false ≡ true = alone in absurd (cc)
+  insertion_means optional (then_group (insert f (insert r maps)) side contexts no_group) g m alone are one u w = let clash : false ≡ true = alone in absurd (cc)
+  insertion_means optional (then_group maps side contexts (then_group more other_side other_contexts groups)) g m alone are one u w = let clash : false ≡ true = alone in absurd (cc)
+
+  -- the languages of one insertion are one group of one mapping, whose result is over the alphabet
+  pub insertion_rows : (groups : Groups A) (langs : List LangGroup) → IsTrue (is_insertion groups) → AreGroups leaf alphabet groups langs → (g : LangGroup) × (m : LangMap) × (langs ≡ g ∷ []) × (g.maps.items ≡ m ∷ []) × (m.result.letters ≡ alphabet)
+  insertion_rows (then_group (insert f no_mapping) side contexts no_group) (g ∷ []) alone are = let r = rows g.maps.items are.0 in (g, r.0, refl, r.1, r.2)
+    where
+      rows : (maps : List LangMap) → AreMaps leaf alphabet (insert f no_mapping) maps → (m : LangMap) × (maps ≡ m ∷ []) × (m.result.letters ≡ alphabet)
+      rows [] are = absurd are
+      rows (m ∷ []) are = (m, refl, are.0.1.over)
+      rows (m ∷ n ∷ maps) are = absurd are.1
+  insertion_rows (then_group (insert f no_mapping) side contexts no_group) (g ∷ h ∷ langs) alone are = absurd are.3
+  insertion_rows (then_group (insert f no_mapping) side contexts no_group) [] alone are = absurd are
+  insertion_rows no_group langs alone are = let clash : false ≡ true = alone in absurd (cc)
+  insertion_rows (then_group no_mapping side contexts no_group) langs alone are = let clash : false ≡ true = alone in absurd (cc)
+  insertion_rows (then_group (plain c r maps) side contexts no_group) langs alone are = let clash : false ≡ true = alone in absurd (cc)
+  insertion_rows (then_group (markup c b a maps) side contexts no_group) langs alone are = let clash : false ≡ true = alone in absurd (cc)
+  insertion_rows (then_group (insert f (plain c r maps)) side contexts no_group) langs alone are = let clash : false ≡ true = alone in absurd (cc)
+  insertion_rows (then_group (insert f (markup c b a maps)) side contexts no_group) langs alone are = let clash : false ≡ true = alone in absurd (cc)
+  insertion_rows (then_group (insert f (insert r maps)) side contexts no_group) langs alone are = let clash : false ≡ true = alone in absurd (cc)
+  insertion_rows (then_group maps side contexts (then_group more other_side other_contexts groups)) langs alone are = let clash : false ≡ true = alone in absurd (cc)
+
   -- their mappings are over the alphabet, and no centre has the empty word
   itself_over : (letters : List Sym) → letters ≡ alphabet → IsOver alphabet letters
   itself_over letters is = subst (IsOver alphabet) (sym is) (All-contains_itself alphabet)
@@ -202,25 +275,26 @@ module _ {A : Type 0} (leaf : A → List Sym → List Sym → Type 0) (alphabet 
     no_empty = λ h. filled ((centre.words []).0 h);
   }
 
-  maps_over : (maps : Mappings A) (langs : List LangMap) → AreMaps leaf alphabet maps langs → (m : LangMap) → Contains langs m → IsMapOver alphabet m
-  maps_over no_mapping [] are m among = absurd (Contains-nil_cases m among)
-  maps_over (plain c r maps) (l ∷ langs) are m among = elim (Contains-cons_cases l langs m among) as (λ _. IsMapOver alphabet m) [
+  maps_over : (maps : Mappings A) (langs : List LangMap) → IsTrue (not (holds_insertion maps)) → AreMaps leaf alphabet maps langs → (m : LangMap) → Contains langs m → IsMapOver alphabet m
+  maps_over no_mapping [] none are m among = absurd (Contains-nil_cases m among)
+  maps_over (plain c r maps) (l ∷ langs) none are m among = elim (Contains-cons_cases l langs m among) as (λ _. IsMapOver alphabet m) [
     | inl same ↦ subst (IsMapOver alphabet) same (plain_over c r l are.0)
-    | inr later ↦ maps_over maps langs are.1 m later
+    | inr later ↦ maps_over maps langs none are.1 m later
   ]
-  maps_over (markup c b a maps) (l ∷ langs) are m among = elim (Contains-cons_cases l langs m among) as (λ _. IsMapOver alphabet m) [
+  maps_over (markup c b a maps) (l ∷ langs) none are m among = elim (Contains-cons_cases l langs m among) as (λ _. IsMapOver alphabet m) [
     | inl same ↦ subst (IsMapOver alphabet) same (markup_over c b a l are.0)
-    | inr later ↦ maps_over maps langs are.1 m later
+    | inr later ↦ maps_over maps langs none are.1 m later
   ]
-  maps_over _ _ are m among = absurd are
+  maps_over (insert r maps) (l ∷ langs) none are m among = let clash : false ≡ true = none in absurd (cc)
+  maps_over _ _ none are m among = absurd are
 
-  pub groups_over : (groups : Groups A) (langs : List LangGroup) → AreGroups leaf alphabet groups langs → AreMapsOver alphabet langs
-  groups_over no_group [] are g among = absurd (Contains-nil_cases g among)
-  groups_over (then_group maps side contexts groups) (l ∷ langs) are g among = elim (Contains-cons_cases l langs g among) as (λ _. (m : LangMap) → Contains g.maps.items m → IsMapOver alphabet m) [
-    | inl same ↦ subst (λ (z : LangGroup). (m : LangMap) → Contains z.maps.items m → IsMapOver alphabet m) same (maps_over maps l.maps.items are.0)
-    | inr later ↦ groups_over groups langs are.3 g later
+  pub groups_over : (groups : Groups A) (langs : List LangGroup) → IsTrue (has_no_insertion groups) → AreGroups leaf alphabet groups langs → AreMapsOver alphabet langs
+  groups_over no_group [] none are g among = absurd (Contains-nil_cases g among)
+  groups_over (then_group maps side contexts groups) (l ∷ langs) none are g among = elim (Contains-cons_cases l langs g among) as (λ _. (m : LangMap) → Contains g.maps.items m → IsMapOver alphabet m) [
+    | inl same ↦ subst (λ (z : LangGroup). (m : LangMap) → Contains z.maps.items m → IsMapOver alphabet m) same (maps_over maps l.maps.items (and_parts (not (holds_insertion maps)) (has_no_insertion groups) none).0 are.0)
+    | inr later ↦ groups_over groups langs (and_parts (not (holds_insertion maps)) (has_no_insertion groups) none).1 are.3 g later
   ]
-  groups_over _ _ are g among = absurd are
+  groups_over _ _ none are g among = absurd are
 
 -- the letters without the edge of an automaton over an alphabet
 pub inside_over : (alphabet : List Sym) (words : Automaton (Bound Sym)) (m : Automaton Sym) → UsesOnly (all_letters alphabet) words → ((x : Sym) → UsesLetter m x → UsesLetter words (Inner x)) → (x : Sym) → UsesLetter m x → Contains alphabet x

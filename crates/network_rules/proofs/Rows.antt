@@ -1,5 +1,5 @@
 -- Rules one by one: what is so of those so far and of one more is so of them together.
-use Rattle.std.proofs.Common.{◌≡◌, ◌<◌, ◌+◌, ℕ, List, [], ◌∷◌, ◌++◌, length, take, get_or, sym, subst}
+use Rattle.std.proofs.Common.{◌<◌, ◌+◌, ℕ, List, [], ◌∷◌, ◌++◌, length, take, get_or, sym, subst}
 use Rattle.std.proofs.lemmas.List.{take_more}
 use Rattle.fsm_base.specs.declared.letters.Sym.{Sym}
 use Rattle.regex_ast.specs.declared.expr.Context.{Context}
@@ -19,7 +19,8 @@ module _ {A : Type 0} (leaf : A → List Sym → List Sym → Type 0) (alphabet 
   maps_joined (Plain c r ∷ maps) m (k ∷ langs) l are one = (are.0, maps_joined maps m langs l are.1 one)
   maps_joined (Markup c b a ∷ maps) m [] l are one = absurd are
   maps_joined (Markup c b a ∷ maps) m (k ∷ langs) l are one = (are.0, maps_joined maps m langs l are.1 one)
-  maps_joined (Insert r ∷ maps) m langs l are one = absurd are
+  maps_joined (Insert r ∷ maps) m [] l are one = absurd are
+  maps_joined (Insert r ∷ maps) m (k ∷ langs) l are one = (are.0, maps_joined maps m langs l are.1 one)
 
   pub maps_more : (maps : List (Mapping A)) (i : ℕ) (m : Mapping A) (langs : List LangMap) (l : LangMap) → i < length maps → AreMaps leaf alphabet (mappings_of (take i maps)) langs → AreMaps leaf alphabet (mappings_of (get_or maps i m ∷ [])) (l ∷ [])
       → AreMaps leaf alphabet (mappings_of (take (i + 1) maps)) (langs ++ l ∷ [])

@@ -1,3 +1,7 @@
+pub mod Firsts
 pub mod Worded
-pub mod Declared
 pub mod Utf8
+pub mod Saying
+pub mod Refusing
+pub mod Growing
+pub mod Looking

@@ -1,13 +1,13 @@
 -- Lines, words and the texts of words of a text in UTF-8 are in UTF-8.
-use Rattle.std.proofs.Common.{◌≡◌, ◌==◌, ◌+◌, ◌<◌, ℕ, zero, suc, Bool, true, false, not, cond, ◌&&◌, List, [], ◌∷◌, ◌++◌, length, get_or, Vec, Global, refl, sym, ap, subst, append_assoc, append-nil, length-append, arith}
-use Rattle.std.specs.Prelude.{codes}
+use Rattle.std.proofs.Common.{◌≡◌, ◌==◌, ◌+◌, ◌<◌, ℕ, zero, suc, Bool, true, false, not, cond, ◌&&◌, List, [], ◌∷◌, ◌++◌, length, map, get_or, Vec, Global, refl, sym, ap, subst, append_assoc, append-nil, length-append, arith}
 use Rattle.std.specs.Str.{IsUtf8}
 use Rattle.std.proofs.Math.Seq.{take-append_seam, drop-append-add, get_or-append_seam}
 use Rattle.std.proofs.lemmas.Bool.Decides.{nat_tests}
 use Rattle.std.proofs.lemmas.List.Elements.{All-nil, All-cons, All-head, All-tail, All-append}
 use Rattle.std.proofs.lemmas.Str.{IsUtf8-append, IsUtf8-take, IsUtf8-drop, IsCharBoundary-before_ascii, IsCharBoundary-after_ascii}
-use Rattle.project_manifest.specs.Manifests.{IsXfstLine, Saying, some_of, lines_from, lines_of, is_blank, words_from, words_of, is_epsilon, saying, sayings, statements_in, taken_from, text_of}
-use Rattle.project_manifest.specs.Sayings.{as_written, AreTexts, HaveTexts}
+use Rattle.project_manifest.specs.Manifests.{Saying, some_of, lines_from, lines_of, is_blank, words_from, words_of, is_epsilon, saying, sayings, statements_in, taken_from, text_of}
+use Rattle.project_manifest.specs.Sayings.{as_written, AreTexts, HaveTexts, saying_of}
+use Rattle.project_manifest.specs.declared.said.Said.{Said}
 
 -- what stands before and behind a byte of ASCII
 around_ascii : (xs ys : List ℕ) (b : ℕ) → b < 128 → IsUtf8 (xs ++ b ∷ ys) → IsUtf8 xs × IsUtf8 ys
@@ -86,16 +86,12 @@ word_at [] i x below is utf8 = absurd (omega arith)
 word_at (w ∷ words) zero x below is utf8 = subst IsUtf8 (sym (ap (λ (v : Vec ℕ Global). v.items) is)) (All-head IsUtf8 w.items (as_written words) utf8)
 word_at (w ∷ words) (suc i) x below is utf8 = word_at words i x (omega arith) is (All-tail IsUtf8 w.items (as_written words) utf8)
 
--- the words behind the first one, and the file that a line names
-pub other_words : (words : List (List ℕ)) (keyword : List ℕ) (others : List (List ℕ)) → words ≡ keyword ∷ others → AreTexts words → AreTexts others
-other_words words keyword others split utf8 = All-tail IsUtf8 keyword others (subst AreTexts split utf8)
+-- the words behind the first one
+pub other_words : (words : List (List ℕ)) (first : List ℕ) (others : List (List ℕ)) → words ≡ first ∷ others → AreTexts words → AreTexts others
+other_words words first others split utf8 = All-tail IsUtf8 first others (subst AreTexts split utf8)
 
-pub file_text : (words : List (List ℕ)) (file : List ℕ) → IsXfstLine words file → AreTexts words → IsUtf8 file
-file_text words file line utf8 = All-head IsUtf8 file [] (other_words words (codes "xfst") (file ∷ []) line.words_are utf8)
-
--- the first line, and the others
-pub first_words : (said : List Saying) (first : Saying) (others : List Saying) → said ≡ first ∷ others → HaveTexts said → AreTexts first.words
-first_words said first others split utf8 = All-head (λ (s : Saying). AreTexts s.words) first others (subst HaveTexts split utf8)
-
-pub other_lines : (said : List Saying) (first : Saying) (others : List Saying) → said ≡ first ∷ others → HaveTexts said → HaveTexts others
-other_lines said first others split utf8 = All-tail (λ (s : Saying). AreTexts s.words) first others (subst HaveTexts split utf8)
+-- one of the lines that say something
+pub texts_at : (said : List Said) (i : ℕ) (x : Said) → i < length said → x ≡ get_or said i x → HaveTexts (map saying_of said) → AreTexts (saying_of x).words
+texts_at [] i x below is texts = absurd (omega arith)
+texts_at (s ∷ said) zero x below is texts = subst (λ (z : Said). AreTexts (saying_of z).words) (sym is) (All-head (λ (z : Saying). AreTexts z.words) (saying_of s) (map saying_of said) texts)
+texts_at (s ∷ said) (suc i) x below is texts = texts_at said i x (omega arith) is (All-tail (λ (z : Saying). AreTexts z.words) (saying_of s) (map saying_of said) texts)

@@ -1,2 +1,5 @@
+pub mod Rows
 pub mod Manifests
+pub mod Lines
 pub mod Sayings
+pub mod Reading

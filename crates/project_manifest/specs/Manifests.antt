@@ -1,11 +1,6 @@
--- The manifest of a project: a line `xfst FILE`, which names its file of definitions, and behind it at most one line
--- `alphabet SYM ..` of further symbols. Words are apart by blanks, and `%` takes the next character as it is. A line
--- without words, or whose first word begins with `!`, says nothing.
-use Rattle.std.specs.Prelude.{◌≡◌, ◌≢◌, ◌<◌, ◌≤◌, ◌+◌, ◌⊎◌, ◌++◌, ◌==◌, ◌&&◌, ◌||◌, ℕ, Bool, true, false, not, cond, List, [], ◌∷◌, length, map, All, Some, codes, slice_get, ⊤, Result, Ok, Err}
-use Rattle.std.specs.List.{list_all}
-use Rattle.regex_ast.specs.declared.fault.ReadError.{ReadError}
-use Rattle.regex_ast.specs.declared.fault.ReadError.TheVariants.{Fault, Memory}
-use Rattle.regex_ast.specs.declared.fault.Why.TheVariants as why
+-- The words of a manifest. It has one statement a line. Words are apart by blanks, and `%` takes the next character as it is. A line
+-- without words, or whose first word begins with `!`, says nothing. And the form of names of files, and of symbols.
+use Rattle.std.specs.Prelude.{◌≡◌, ◌≢◌, ◌<◌, ◌≤◌, ◌+◌, ◌⊎◌, ◌++◌, ◌==◌, ◌&&◌, ◌||◌, ℕ, Bool, true, false, not, cond, List, [], ◌∷◌, length, All, Some, codes, slice_get}
 use Rattle.regex_tokens.specs.Reading.{is_flag}
 
 -- the name of the manifest's own file
@@ -103,52 +98,3 @@ may_be_symbol text = not (length text == 0) && not (is_known_flag text)
 -- a word that stands for a symbol: each `%` takes something, and its text may be one
 abbrev pub is_symbol_word : List ℕ → Bool
 is_symbol_word word = not (takes_nothing false word) && may_be_symbol (text_of word)
-
--- the files that a manifest names, with the line that names the first of them, and its further symbols
-pub record ManifestView : Type 0 where
-  pub files : List (List ℕ)
-  pub line : ℕ
-  pub symbols : List (List ℕ)
-
--- the words of a line `xfst FILE`, and of a line `alphabet SYM ..` with the texts of these symbols
-pub record IsXfstLine (words : List (List ℕ)) (file : List ℕ) : Type 0 where
-  pub words_are : words ≡ codes "xfst" ∷ file ∷ []
-  pub name_is : IsFileName file
-
-pub record IsAlphabetLine (words texts : List (List ℕ)) : Type 0 where
-  pub word : List ℕ
-  pub further : List (List ℕ)
-  pub words_are : words ≡ codes "alphabet" ∷ word ∷ further
-  pub symbols : list_all is_symbol_word (word ∷ further) ≡ true
-  pub texts_are : texts ≡ map text_of (word ∷ further)
-
--- what is behind the first statement declares these symbols: nothing at all, or one line of symbols
-abbrev pub IsBehind : List Saying → List (List ℕ) → Type 0
-IsBehind [] texts = texts ≡ []
-IsBehind (said ∷ []) texts = IsAlphabetLine said.words texts
-IsBehind (said ∷ other ∷ others) texts = ⊥
-
--- these statements are such a manifest
-pub record Declare (said : List Saying) (manifest : ManifestView) : Type 0 where
-  pub first : Saying
-  pub rest : List Saying
-  pub file : List ℕ
-  pub said_is : said ≡ first ∷ rest
-  pub line_is : IsXfstLine first.words file
-  pub behind : IsBehind rest manifest.symbols
-  pub files_are : manifest.files ≡ file ∷ []
-  pub first_line : manifest.line ≡ first.line
-
--- the text is such a manifest
-abbrev pub IsManifest : List ℕ → ManifestView → Type 0
-IsManifest text manifest = Declare (statements_in text) manifest
-
--- what some text declares
-abbrev pub IsSomeManifest : ManifestView → Type 0
-IsSomeManifest manifest = (text : List ℕ) × IsManifest text manifest
-
--- a manifest, that the text is none, or want of memory
-abbrev pub IsManifestRead : List ℕ → Result ManifestView ReadError → Type 0
-IsManifestRead text (Ok manifest) = IsManifest text manifest
-IsManifestRead text (Err (Fault line reason)) = (line ≡ 0) × (reason ≡ why.NotBuilt) × ((manifest : ManifestView) → IsManifest text manifest → ⊥)
-IsManifestRead text (Err (Memory refused)) = ⊤

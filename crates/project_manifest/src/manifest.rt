@@ -1,216 +1,211 @@
-ghost use Rattle.std.specs.Prelude.{◌≡◌, ◌↔◌, ◌<◌, ◌+◌, ◌++◌, ◌∷◌, List, ℕ, [], IfOk, IsTrue, MatchOption, OnOk, length, map};
-ghost use Rattle.project_manifest.specs.Manifests.{Declare, IsAlphabetLine, IsBehind, IsManifestRead, IsSomeManifest, IsXfstLine, ManifestView, lines_of, sayings, statements_in};
-ghost use Rattle.project_manifest.specs.Sayings.{AreTexts, HaveTexts, as_written, saying_of};
+ghost use Rattle.std.specs.Prelude.{◌≡◌, ◌↔◌, ◌<◌, ◌++◌, List, Contains, IfErr, IfOk, IsTrue, OnOk, length, map};
+ghost use Rattle.regex_ast.specs.declared.fault.ReadError.TheVariants as error;
+ghost use Rattle.project_manifest.specs.Lines.{NamesAgain, NamesTooMany, Placed, SaysLine, files_in, line_in, manifest_of, placed_in};
+ghost use Rattle.project_manifest.specs.Manifests.{lines_of};
+ghost use Rattle.project_manifest.specs.Reading.{HasNoFault, HaveGlosses, IsFaultless, IsLineError, IsManifest, IsManifestError};
+ghost use Rattle.project_manifest.specs.Sayings.{AreTexts, as_written, line_of, placed_of, saying_of};
 
-use crate::file_names::is_file_name;
-use crate::words::{is_epsilon, lines, symbols_of, text_of_bytes, words};
+use crate::declarations::{Declaration, declared};
+use crate::said::{Said, all_said};
 use fsm_base::Text;
 use regex_ast::{ReadError, Why};
-use std::alloc::{AllocError, Global};
+use std::alloc::Global;
 use std::marker::Model;
 
-/// What the manifest of a project says: the file that it names, and the further symbols of its alphabet.
+/// The most files that a manifest names.
+const MOST_FILES: usize = 64;
+
+/// A line of a manifest that declares something.
+#[derive(Debug, Drop)]
+pub struct ManifestLine {
+    /// Its number, counted from 1.
+    pub number: u32,
+    /// What it declares.
+    pub declares: Declaration,
+}
+
+/// What the manifest of a project says. Contracts see it as the list of its lines.
 #[derive(Drop)]
 pub struct Manifest {
-    /// The files that it names, in the order of its lines: one.
+    /// The lines that declare something, in order.
+    lines: Vec<ManifestLine>,
+    /// The files that they name, in order.
     files: Vec<Text>,
-    /// The line that names the first of them, counted from 1.
-    line: u32,
-    /// The symbols of its `alphabet` line, or none.
-    symbols: Vec<Text>,
 }
 
 impl Model for Manifest {
-    ghost use Rattle.project_manifest.specs.Manifests.{ManifestView};
+    ghost use Rattle.std.specs.Prelude.{◌≡◌, List, map};
+    ghost use Rattle.project_manifest.specs.Lines.{Placed, files_in};
+    ghost use Rattle.project_manifest.specs.Reading.{IsManifest};
+    ghost use Rattle.project_manifest.specs.Sayings.{placed_of};
 
-    ghost Value = { ManifestView };
+    ghost Value = { List Placed };
 
-    ghost view = { λ m. record { files = m.files.items; line = m.line; symbols = m.symbols.items } };
+    ghost view = { λ m. map placed_of m.lines.items };
+
+    ghost invariant = { λ m. (m.files.items ≡ files_in (map placed_of m.lines.items)) × IsManifest (map placed_of m.lines.items) };
 }
 
 impl Manifest {
-    /// The files that it names, in the order of its lines.
+    /// The lines that declare something, in order.
+    pub fn lines(&self) -> &[ManifestLine]
+        ensures lines { map placed_of result.now ≡ self.now }
+        ensures formed { IsManifest self.now }
+    {
+        &self.lines
+    }
+
+    /// The files that they name, in order.
     pub fn files(&self) -> &[Text]
-        ensures { result.now ≡ self.now.files }
+        ensures files { result.now ≡ files_in self.now }
+        ensures formed { IsManifest self.now }
     {
         &self.files
     }
-
-    /// The first of them.
-    pub fn file(&self) -> &Text
-        requires { IsSomeManifest self.now }
-        ensures { self.now.files ≡ result.now ∷ [] }
-    {
-        &self.files[0]
-    }
-
-    /// The line that names the first of them, counted from 1.
-    pub fn line(&self) -> u32
-        ensures { result ≡ self.now.line }
-    {
-        self.line
-    }
-
-    /// The symbols of its `alphabet` line.
-    pub fn symbols(&self) -> &[Text]
-        ensures { result.now ≡ self.now.symbols }
-    {
-        &self.symbols
-    }
 }
 
-/// A line that says something: its number, counted from 1, and its words as they are written.
-#[derive(Debug, Drop)]
-pub struct Said {
-    /// The number of the line, counted from 1.
-    line: u32,
-    /// Its words as they are written, at least one.
-    words: Vec<Vec<u8>>,
-}
-
-/// Puts a line, which has this number counted from 0, behind those that say something, where it says something.
-fn add_said(
-    alloc: Global,
-    index: usize,
-    line: &[u8],
-    found: &mut Vec<Said>,
-) -> Result<(), AllocError>
-    requires { index + 1 < 4294967296 }
-    ensures { OnOk result ((rest : List (List ℕ)) → map saying_of found.new.items ++ sayings (index + 1 + 1) rest ≡ map saying_of found.old.items ++ sayings (index + 1) (line.now ∷ rest)) }
+/// Whether a file is one of these.
+fn is_among(file: &Text, files: &[Text]) -> bool
+    ensures { IsTrue result ↔ Contains files.now file.now }
 {
-    let words = words(alloc, line)?;
-    if is_epsilon(&words) {
-        return Ok(());
+    'files: for named in files {
+        if named.as_str() == file.as_str() {
+            return true;
+        }
     }
-    found.push(Said {
-        line: (index + 1) as u32,
-        words,
+    false
+}
+
+/// Whether one of these lines names the table of glosses.
+fn have_glosses(lines: &[ManifestLine]) -> bool
+    ensures { IsTrue result ↔ HaveGlosses (map placed_of lines.now) }
+{
+    'lines: for line in lines {
+        if line.declares.is_glosses() {
+            return true;
+        }
+    }
+    false
+}
+
+/// Whether what is declared was declared before, by lines that name these files: its file is one of them, or it is a second
+/// table of glosses.
+fn names_again(declares: &Declaration, lines: &[ManifestLine], files: &[Text]) -> bool
+    requires { files.now ≡ files_in (map placed_of lines.now) }
+    ensures { IsTrue result ↔ NamesAgain (map placed_of lines.now) (line_of declares.now) }
+{
+    if declares.is_glosses() && have_glosses(lines) {
+        return true;
+    }
+    match declares.file() {
+        Some(file) => is_among(file, files),
+        None => false,
+    }
+}
+
+/// Whether a file is declared behind so many as there may be.
+#[tactic(auto, unfolding(crate::specs::Lines::most_files))]
+fn names_too_many(declares: &Declaration, files: &[Text]) -> bool
+    ensures { (before : List Placed) → files.now ≡ files_in before → IsTrue result ↔ NamesTooMany before (line_of declares.now) }
+{
+    declares.file().is_some() && files.len() >= MOST_FILES
+}
+
+/// That a line is refused.
+fn refused(said: &Said, why: Why) -> ReadError
+    ensures { result ≡ error.Fault said.now.line why }
+{
+    ReadError::Fault {
+        line: said.line,
+        why,
+    }
+}
+
+/// What a line declares behind others, which name these files; or its first fault.
+fn declared_behind(
+    alloc: Global,
+    said: &Said,
+    lines: &[ManifestLine],
+    files: &[Text],
+) -> Result<Declaration, ReadError>
+    requires texts { AreTexts (as_written said.now.words.items) }
+    requires files { files.now ≡ files_in (map placed_of lines.now) }
+    ensures says { IfOk result (λ found. SaysLine (as_written said.now.words.items) (line_of found)) }
+    ensures faultless { OnOk result (IsFaultless (map placed_of lines.now) (saying_of said.now)) }
+    ensures new { IfOk result (λ found. NamesAgain (map placed_of lines.now) (line_of found) → ⊥) }
+    ensures error { IfErr result (IsLineError (map placed_of lines.now) (saying_of said.now)) }
+{
+    let Some(declares) = declared(alloc, &said.words)? else {
+        return Err(refused(said, Why::Statement));
+    };
+    if names_again(&declares, lines, files) {
+        return Err(refused(said, Why::Duplicate));
+    }
+    if declares.is_unread() {
+        return Err(refused(said, Why::NotBuilt));
+    }
+    if names_too_many(&declares, files) {
+        return Err(refused(said, Why::LimitFiles));
+    }
+    Ok(declares)
+}
+
+/// Puts what a line declares behind others, which name these files; or tells its first fault.
+fn add_line(
+    alloc: Global,
+    said: &Said,
+    lines: &mut Vec<ManifestLine>,
+    files: &mut Vec<Text>,
+) -> Result<(), ReadError>
+    requires texts { AreTexts (as_written said.now.words.items) }
+    requires files { files.old.items ≡ files_in (map placed_of lines.old.items) }
+    ensures lines { OnOk result (map placed_of lines.new.items ≡ map placed_of lines.old.items ++ placed_in said.now.line (line_in (as_written said.now.words.items))) }
+    ensures files { OnOk result (files.new.items ≡ files_in (map placed_of lines.new.items)) }
+    ensures formed { OnOk result (IsManifest (map placed_of lines.old.items) → IsManifest (map placed_of lines.new.items)) }
+    ensures faultless { OnOk result (IsFaultless (map placed_of lines.old.items) (saying_of said.now)) }
+    ensures error { IfErr result (IsLineError (map placed_of lines.old.items) (saying_of said.now)) }
+{
+    let declares = match declared_behind(alloc, said, lines, files) {
+        Ok(declares) => declares,
+        Err(error) => return Err(error),
+    };
+    if let Some(file) = declares.file() {
+        files.push(file.clone()?)?;
+    }
+    lines.push(ManifestLine {
+        number: said.line,
+        declares,
     })?;
     Ok(())
 }
 
-/// The lines of a text that say something.
-fn all_said(alloc: Global, text: &[u8]) -> Result<Vec<Said>, AllocError>
-    requires { length (lines_of text.now) < 4294967295 }
-    ensures { IfOk result (λ found. map saying_of found.items ≡ statements_in text.now) }
-{
-    let lines = lines(alloc, text)?;
-    let mut found = Vec::new(alloc);
-    'lines: for (index, line) in lines.iter().enumerate() {
-        add_said(alloc, index, line, &mut found)?;
-    }
-    Ok(found)
-}
-
-/// Whether a word is written so.
-fn is_written(word: &[u8], text: &str) -> bool
-    ensures { IsTrue result ↔ (word.now ≡ text.now) }
-{
-    word == text.as_bytes()
-}
-
-/// The first word of a line and the others, or `None` where there is none.
-fn split_first(words: &[Vec<u8>]) -> Option<(&[u8], &[Vec<u8>])>
-    ensures { MatchOption result (as_written words.now ≡ []) (λ split. as_written words.now ≡ split.0.now ∷ as_written split.1.now) }
-{
-    match words.split_first() {
-        Some((first, others)) => Some((first.as_slice(), others)),
-        None => None,
-    }
-}
-
-/// The file of a line `xfst FILE`, or `None` where it is no such line.
-fn file_in(words: &[Vec<u8>]) -> Option<&[u8]>
-    ensures { MatchOption result ((file : List ℕ) → IsXfstLine (as_written words.now) file → ⊥) (λ file. IsXfstLine (as_written words.now) file.now) }
-{
-    let Some((keyword, others)) = split_first(words) else {
-        return None;
-    };
-    if !is_written(keyword, "xfst") {
-        return None;
-    }
-    let Some((file, behind)) = split_first(others) else {
-        return None;
-    };
-    if !behind.is_empty() {
-        return None;
-    }
-    if !is_file_name(file) {
-        return None;
-    }
-    Some(file)
-}
-
-/// The symbols of a line `alphabet SYM ..`, or `None` where it is no such line.
-fn symbols_in(alloc: Global, words: &[Vec<u8>]) -> Result<Option<Vec<Text>>, AllocError>
-    requires { AreTexts (as_written words.now) }
-    ensures { IfOk result (λ symbols. MatchOption symbols ((texts : List (List ℕ)) → IsAlphabetLine (as_written words.now) texts → ⊥) (λ texts. IsAlphabetLine (as_written words.now) texts.items)) }
-{
-    let Some((keyword, symbols)) = split_first(words) else {
-        return Ok(None);
-    };
-    if !is_written(keyword, "alphabet") {
-        return Ok(None);
-    }
-    if symbols.is_empty() {
-        return Ok(None);
-    }
-    symbols_of(alloc, symbols)
-}
-
-/// The symbols that lines behind the first one declare, or `None` where they declare something else.
-fn symbols_behind(alloc: Global, said: &[Said]) -> Result<Option<Vec<Text>>, AllocError>
-    requires { HaveTexts (map saying_of said.now) }
-    ensures { IfOk result (λ symbols. MatchOption symbols ((texts : List (List ℕ)) → IsBehind (map saying_of said.now) texts → ⊥) (λ texts. IsBehind (map saying_of said.now) texts.items)) }
-{
-    let Some((first, others)) = said.split_first() else {
-        return Ok(Some(Vec::new(alloc)));
-    };
-    if !others.is_empty() {
-        return Ok(None);
-    }
-    symbols_in(alloc, &first.words)
-}
-
-/// What the lines of a manifest that say something declare, or `None` where they declare nothing.
-fn declared(alloc: Global, said: &[Said]) -> Result<Option<Manifest>, AllocError>
-    requires { HaveTexts (map saying_of said.now) }
-    ensures { IfOk result (λ manifest. MatchOption manifest ((m : ManifestView) → Declare (map saying_of said.now) m → ⊥) (Declare (map saying_of said.now))) }
-{
-    let Some((first, others)) = said.split_first() else {
-        return Ok(None);
-    };
-    let Some(file) = file_in(&first.words) else {
-        return Ok(None);
-    };
-    let Some(symbols) = symbols_behind(alloc, others)? else {
-        return Ok(None);
-    };
-    let mut files = Vec::new(alloc);
-    files.push(text_of_bytes(alloc, file)?)?;
-    Ok(Some(Manifest {
-        files,
-        line: first.line,
-        symbols,
-    }))
-}
-
-/// What the text of a manifest says.
+/// What the text of a manifest says: its lines, one statement each.
 ///
 /// # Errors
 ///
-/// `NotBuilt` with line 0, where it is not one line `xfst FILE` and then at most one line `alphabet SYM ..`, beside lines
-/// that say nothing. `Memory` where there was no memory.
+/// The first line with a fault, by the first that it has of these:
+///
+/// - `Statement`, where it is none of `lexc NAME FILE`, `twolc NAME FILE`, `xfst FILE`, `alphabet SYM ..`, `require NAME ..` and
+///   `gloss FILE`;
+/// - `Duplicate`, where it names a file again, or a second table of glosses;
+/// - `NotBuilt`, where it names a lexicon, a grammar or a table of glosses, which aren't read yet;
+/// - `LimitFiles`, where it names the 65th file.
+///
+/// `Memory` where there was no memory.
 pub fn read_manifest(alloc: Global, text: &str) -> Result<Manifest, ReadError>
     requires { length (lines_of text.now) < 4294967295 }
-    ensures { IsManifestRead text.now result }
+    ensures lines { IfOk result (λ manifest. manifest ≡ manifest_of text.now) }
+    ensures faultless { OnOk result (HasNoFault text.now) }
+    ensures error { IfErr result (IsManifestError text.now) }
 {
     let said = all_said(alloc, text.as_bytes())?;
-    let Some(manifest) = declared(alloc, &said)? else {
-        return Err(ReadError::Fault {
-            line: 0,
-            why: Why::NotBuilt,
-        });
-    };
-    Ok(manifest)
+    let mut lines = Vec::new(alloc);
+    let mut files = Vec::new(alloc);
+    'all: for one in &said {
+        match add_line(alloc, one, &mut lines, &mut files) {
+            Ok(()) => {}
+            Err(error) => return Err(error),
+        }
+    }
+    Ok(Manifest { lines, files })
 }

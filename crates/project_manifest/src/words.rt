@@ -1,10 +1,12 @@
 ghost use Rattle.std.specs.Prelude.{◌≡◌, ◌==◌, ◌&&◌, ◌++◌, ◌∷◌, List, ℕ, [], not, map, IfOk, OnOk, MatchOption, false, true};
 ghost use Rattle.std.specs.List.{list_all};
 ghost use Rattle.std.specs.Str.{IsUtf8};
+ghost use Rattle.regex_reader.specs.Files.{is_name};
 ghost use Rattle.project_manifest.specs.Sayings.{AreTexts, as_written};
 ghost use Rattle.project_manifest.specs.Manifests.{begins_with_mark, is_blank, is_known_flag, is_epsilon, is_symbol_word, may_be_symbol, lines_from, lines_of, some_of, takes_nothing, taken_from, text_of, words_from, words_of};
 
 use fsm_base::Text;
+use regex_reader::is_name;
 use regex_tokens::is_flag;
 use std::alloc::{AllocError, Global};
 
@@ -231,4 +233,19 @@ pub fn symbols_of(alloc: Global, words: &[Vec<u8>]) -> Result<Option<Vec<Text>>,
         symbols.push(symbol)?;
     }
     Ok(Some(symbols))
+}
+
+/// The texts of words that are names, or `None` where one isn't.
+pub fn names_of(alloc: Global, words: &[Vec<u8>]) -> Result<Option<Vec<Text>>, AllocError>
+    requires { AreTexts (as_written words.now) }
+    ensures { IfOk result (λ names. MatchOption names (list_all is_name (as_written words.now) ≡ false) (λ names. (list_all is_name (as_written words.now) ≡ true) × (names.items ≡ as_written words.now))) }
+{
+    let mut names = Vec::new(alloc);
+    'words: for word in words {
+        if !is_name(word) {
+            return Ok(None);
+        }
+        names.push(text_of_bytes(alloc, word)?)?;
+    }
+    Ok(Some(names))
 }

@@ -1,9 +1,9 @@
 -- Whether an expression is built, before and after its leaves are replaced by others.
-use Rattle.std.proofs.Common.{Bool, true, false, ◌&&◌, IsTrue, List, [], ◌∷◌, ◌++◌, map, All, refl}
+use Rattle.std.proofs.Common.{◌≡◌, Bool, true, false, not, ◌&&◌, ◌||◌, IsTrue, List, [], ◌∷◌, ◌++◌, map, All, refl, sym, ◌∙◌}
 use Rattle.std.proofs.lemmas.List.Elements.{All-nil, All-cons, All-head, All-tail}
 use Rattle.std.specs.List.{flat_map, list_all}
 use Rattle.regex_ast.specs.Terms.{Term, Terms, Links, Contexts, Steps, Mappings, Groups, empty, any, edge, atom, letters, group, maybe, not_one, cross, suffixed, prefixed, ignore, concat, chain, only, rules, steps, no_term, then_term, no_link, or, and, less, no_context, between, no_step, cross_with, then, no_mapping, plain, markup, insert, no_group, then_group}
-use Rattle.expr_kinds.specs.Built.{IsBuiltBy, AreBuiltBy, LinksAreBuiltBy, ContextsAreBuiltBy, StepsAreBuiltBy, MappingsAreBuiltBy, GroupsAreBuiltBy}
+use Rattle.expr_kinds.specs.Built.{holds_insertion, has_no_insertion, is_insertion_alone, is_insertion, inserts_alone, IsBuiltBy, AreBuiltBy, LinksAreBuiltBy, ContextsAreBuiltBy, StepsAreBuiltBy, MappingsAreBuiltBy, GroupsAreBuiltBy}
 use Rattle.expr_leaves.specs.Leaves.{listed, listed_each, listed_links, listed_contexts, listed_steps, listed_mappings, listed_groups}
 use Rattle.expr_leaves.specs.Mapped.{mapped, mapped_each, mapped_links, mapped_contexts, mapped_steps, mapped_mappings, mapped_groups}
 
@@ -29,6 +29,34 @@ second_holds false b h = absurd (never h)
   where
     never : IsTrue false → ⊥
     never e = cc
+
+-- leaves that are replaced leave insertions where they are
+alone_mapped : {A B : Type 0} (f : A → B) (maps : Mappings A) → is_insertion_alone (mapped_mappings f maps) ≡ is_insertion_alone maps
+alone_mapped f no_mapping = refl
+alone_mapped f (plain c r maps) = refl
+alone_mapped f (markup c b a maps) = refl
+alone_mapped f (insert r no_mapping) = refl
+alone_mapped f (insert r (plain c d maps)) = refl
+alone_mapped f (insert r (markup c b a maps)) = refl
+alone_mapped f (insert r (insert d maps)) = refl
+
+holds_mapped : {A B : Type 0} (f : A → B) (maps : Mappings A) → holds_insertion (mapped_mappings f maps) ≡ holds_insertion maps
+holds_mapped f no_mapping = refl
+holds_mapped f (plain c r maps) = holds_mapped f maps
+holds_mapped f (markup c b a maps) = holds_mapped f maps
+holds_mapped f (insert r maps) = refl
+
+none_mapped : {A B : Type 0} (f : A → B) (groups : Groups A) → has_no_insertion (mapped_groups f groups) ≡ has_no_insertion groups
+none_mapped f no_group = refl
+none_mapped f (then_group maps side contexts groups) = let a = holds_mapped f maps in let b = none_mapped f groups in λ i. not (a i) && b i
+
+one_mapped : {A B : Type 0} (f : A → B) (groups : Groups A) → is_insertion (mapped_groups f groups) ≡ is_insertion groups
+one_mapped f no_group = refl
+one_mapped f (then_group maps side contexts no_group) = alone_mapped f maps
+one_mapped f (then_group maps side contexts (then_group more other contexts' groups)) = refl
+
+pub inserts_mapped : {A B : Type 0} (f : A → B) (groups : Groups A) → inserts_alone (mapped_groups f groups) ≡ inserts_alone groups
+inserts_mapped f groups = let a = one_mapped f groups in let b = none_mapped f groups in λ i. a i || b i
 
 -- where each leaf, and each symbol in braces, that passes one test passes the other once it is replaced, the whole is built once it is
 module _ {A B : Type 0} (f : A → B) (here letter_here : A → Bool) (there letter_there : B → Bool)
@@ -56,7 +84,7 @@ module _ {A B : Type 0} (f : A → B) (here letter_here : A → Bool) (there let
     built_there (concat es) h = each_there es h
     built_there (chain e links) h = (built_there e h.0, links_there links h.1)
     built_there (only e contexts) h = (built_there e h.0, contexts_there contexts h.1)
-    built_there (rules optional groups) h = groups_there groups h
+    built_there (rules optional groups) h = (inserts_mapped f groups ∙ h.0, groups_there groups h.1)
     built_there (steps e more) h = (built_there e h.0, steps_there more h.1)
 
     each_there : (es : Terms A) → AreBuiltBy here letter_here es → AreBuiltBy there letter_there (mapped_each f es)
@@ -82,7 +110,7 @@ module _ {A B : Type 0} (f : A → B) (here letter_here : A → Bool) (there let
     mappings_there no_mapping h = tt
     mappings_there (plain c r maps) h = (tt, built_there c h.1, built_there r h.2, mappings_there maps h.3)
     mappings_there (markup c b a maps) h = (tt, built_there c h.1, built_there b h.2, built_there a h.3, mappings_there maps h.4)
-    mappings_there (insert r maps) h = h
+    mappings_there (insert r maps) h = (built_there r h.0, mappings_there maps h.1)
 
     groups_there : (groups : Groups A) → GroupsAreBuiltBy here letter_here groups → GroupsAreBuiltBy there letter_there (mapped_groups f groups)
     groups_there no_group h = tt
@@ -118,7 +146,7 @@ module _ {A B C : Type 0} (f : A → B) (here letter_here : A → Bool) (there l
         (built_here e (All-front P (listed of e) (listed_links of links) held) h.0, links_here links (All-back P (listed of e) (listed_links of links) held) h.1)
     built_here (only e contexts) held h =
         (built_here e (All-front P (listed of e) (listed_contexts of contexts) held) h.0, contexts_here contexts (All-back P (listed of e) (listed_contexts of contexts) held) h.1)
-    built_here (rules optional groups) held h = groups_here groups held h
+    built_here (rules optional groups) held h = (sym (inserts_mapped f groups) ∙ h.0, groups_here groups held h.1)
     built_here (steps e more) held h =
         (built_here e (All-front P (listed of e) (listed_steps of more) held) h.0, steps_here more (All-back P (listed of e) (listed_steps of more) held) h.1)
 
@@ -172,7 +200,7 @@ module _ {A B C : Type 0} (f : A → B) (here letter_here : A → Bool) (there l
           built_here a (All-back P (listed of c ++ listed of b) (listed of a) parts) h.3,
           mappings_here maps (All-back P (listed of c ++ listed of b ++ listed of a) (listed_mappings of maps) held) h.4,
         )
-    mappings_here (insert r maps) held h = h
+    mappings_here (insert r maps) held h = (built_here r (All-front P (listed of r) (listed_mappings of maps) held) h.0, mappings_here maps (All-back P (listed of r) (listed_mappings of maps) held) h.1)
 
     groups_here : (groups : Groups A) → All P (listed_groups of groups) → GroupsAreBuiltBy there letter_there (mapped_groups f groups) → GroupsAreBuiltBy here letter_here groups
     groups_here no_group held h = tt

@@ -20,10 +20,10 @@ use Rattle.project_meaning.specs.Trees.{Body, xfst, lexc, twolc}
 use Rattle.project_meaning.specs.Forms.{body_weight, weight_in}
 use Rattle.project_meaning.specs.Leaves.{Leaf, symbol, named, leaf_of, names_in, resolved, symbols_in, written as text_of}
 use Rattle.project_meaning.specs.Projects.{Definition as Meant, Written, Project, definition_in, names_of}
-use Rattle.project_sources.specs.Rows.{First, Where}
+use Rattle.project_manifest.specs.Rows.{First, Where}
 use Rattle.project_sources.specs.Sources.{Said, project_in, resolved_in}
 use Rattle.project_sources.specs.Faults.{fault, fault_of, is_built_leaf, is_built_letter, BodyIsBuilt, DoesNotFit, IsHeavy, SaidRow, no_language, heavy, unbuilt, SaidFault}
-use Rattle.project_sources.proofs.Firsts.{first_alike}
+use Rattle.project_manifest.proofs.Firsts.{first_alike}
 use Rattle.project_model.specs.Answers.{DemandFault, DoesMeet, Meets, demands, why_not}
 use Rattle.project_model.specs.Forms.{AreDefined, AreForms}
 use Rattle.project_model.specs.Numbered.{numbered}

@@ -23,7 +23,7 @@ use Rattle.project_meaning.specs.Leaves.{names_in, resolved, symbols_in}
 use Rattle.project_meaning.specs.Projects.{Definition as Meant, Written, Refers, definition_in, names_of}
 use Rattle.project_meaning.proofs.Closed.{closed}
 use Rattle.project_meaning.proofs.Forms.{kinds_unfold, weights_unfold}
-use Rattle.project_sources.specs.Manifests.{symbols_of}
+use Rattle.project_manifest.specs.Lines.{symbols_of}
 use Rattle.project_sources.specs.Sources.{Said, project_in}
 use Rattle.project_model.specs.Forms.{AreDefined, AreForms}
 use Rattle.project_model.specs.Plans.{body_term}

@@ -14,5 +14,7 @@ pub mod Referring
 mod Demanded
 mod Forming
 mod Sound
+mod Requiring
 mod Projecting
-mod Reading
+pub mod Reading
+mod FileSteps

@@ -14,7 +14,7 @@ use Rattle.expr_kinds.specs.declared.form.Kind.{Kind}
 use Rattle.expr_kinds.specs.declared.form.Kind.TheVariants.{Language, Relation}
 use Rattle.expr_leaves.specs.Leaves.{listed, listed_each, listed_links, listed_contexts, listed_steps, listed_mappings, listed_groups}
 use Rattle.expr_leaves.specs.Mapped.{mapped, mapped_each, mapped_links, mapped_contexts, mapped_steps, mapped_mappings, mapped_groups}
-use Rattle.project_model.proofs.Built.{All-front, All-back}
+use Rattle.project_model.proofs.Built.{All-front, All-back, inserts_mapped}
 
 -- leaves that are replaced twice
 module _ {A B C : Type 0} (g : B → C) (f : A → B) where
@@ -206,7 +206,7 @@ module _ {A B : Type 0} (leaf letter : B → Bool) (f : A → B) where
     mapped_built (concat es) = each_built es
     mapped_built (chain e links) = let a = mapped_built e in let b = links_built links in λ i. a i × b i
     mapped_built (only e contexts) = let a = mapped_built e in let b = contexts_built contexts in λ i. a i × b i
-    mapped_built (rules optional groups) = groups_built groups
+    mapped_built (rules optional groups) = let a = inserts_mapped f groups in let b = groups_built groups in λ i. IsTrue (a i) × b i
     mapped_built (steps e more) = let a = mapped_built e in let b = steps_built more in λ i. a i × b i
 
     each_built : (es : Terms A) → AreBuiltBy leaf letter (mapped_each f es) ≡ AreBuiltBy (λ a. leaf (f a)) (λ a. letter (f a)) es
@@ -232,7 +232,7 @@ module _ {A B : Type 0} (leaf letter : B → Bool) (f : A → B) where
     mappings_built no_mapping = refl
     mappings_built (plain c r maps) = let a = mapped_built c in let b = mapped_built r in let d = mappings_built maps in λ i. Unit {0} × a i × b i × d i
     mappings_built (markup c b a maps) = let x = mapped_built c in let y = mapped_built b in let z = mapped_built a in let d = mappings_built maps in λ i. Unit {0} × x i × y i × z i × d i
-    mappings_built (insert r maps) = refl
+    mappings_built (insert r maps) = let a = mapped_built r in let d = mappings_built maps in λ i. a i × d i
 
     groups_built : (groups : Groups A) → GroupsAreBuiltBy leaf letter (mapped_groups f groups) ≡ GroupsAreBuiltBy (λ a. leaf (f a)) (λ a. letter (f a)) groups
     groups_built no_group = refl

@@ -4,20 +4,17 @@ use Rattle.std.proofs.lemmas.List.{take_more, map-append, take-append-drop, leng
 use Rattle.std.specs.List.{Contains, list_any}
 use Rattle.std.specs.Str.{bytes_eq}
 use Rattle.word_relations.proofs.Behind.{left_behind}
-use Rattle.regex_ast.specs.declared.expr.Raw.{Raw}
-use Rattle.regex_ast.specs.declared.expr.Define.{Define}
 use Rattle.regex_ast.specs.declared.fault.Fault.{Fault}
 use Rattle.regex_ast.specs.declared.fault.Why.TheVariants as why
-use Rattle.regex_reader.specs.Files.{statement_of}
 use Rattle.project_meaning.specs.Projects.{Written, names_of}
 use Rattle.project_sources.specs.Limits.{most_names}
-use Rattle.project_sources.specs.Rows.{At, First, HaveNone, places, places_from}
-use Rattle.project_sources.specs.Sources.{stated}
+use Rattle.project_manifest.specs.Rows.{At, First, HaveNone, places, places_from}
 use Rattle.project_sources.specs.Faults.{fault, NameFault, name_rows, NamesFault}
-use Rattle.project_sources.proofs.Firsts.{first_past, none_append, none_more, places_append}
-use Rattle.project_model.specs.Answers.{IsRefusal, IsRefusedBy, definitions_in}
+use Rattle.project_manifest.proofs.Firsts.{first_past, none_append, none_more, places_append}
+use Rattle.project_model.specs.Answers.{IsRefusal, IsRefusedBy, written_of}
 use Rattle.project_model.specs.declared.plan_error.PlanError.{PlanError}
 use Rattle.project_model.specs.declared.plan_error.PlanError.TheVariants.{Refused, Memory}
+use Rattle.project_model.specs.declared.written.WrittenDefine.{WrittenDefine}
 use Rattle.project_model.proofs.Texts.{has_from_any, not_had}
 
 pub not_false : (b : Bool) → false ≡ not b → b ≡ true
@@ -40,36 +37,36 @@ Has place found = First (NameFault place) name_rows found
 pub none_at_start : HaveNone Has (places [])
 none_at_start found h = h
 
-module _ (file : List ℕ) (xs : List (Define Raw)) (i : ℕ) (d : Define Raw) (below : i < length xs) (is : d ≡ get_or xs i d) where
+module _ (xs : List WrittenDefine) (i : ℕ) (d : WrittenDefine) (below : i < length xs) (is : d ≡ get_or xs i d) where
   abbrev pub front : List Written
-  front = definitions_in file (map statement_of (take i xs))
+  front = map written_of (take i xs)
 
   abbrev rest : List Written
-  rest = definitions_in file (map statement_of (drop (i + 1) xs))
+  rest = map written_of (drop (i + 1) xs)
 
   abbrev here : Written
-  here = stated file (statement_of d)
+  here = written_of d
 
   abbrev place : At Written
   place = record { before = front; item = here }
 
-  abbrev step : List (Define Raw) → List Written
-  step ys = definitions_in file (map statement_of ys)
+  abbrev step : List WrittenDefine → List Written
+  step ys = map written_of ys
 
-  step_append : (ys zs : List (Define Raw)) → step (ys ++ zs) ≡ step ys ++ step zs
-  step_append ys zs = ap (map (stated file)) (map-append statement_of ys zs) ∙ map-append (stated file) (map statement_of ys) (map statement_of zs)
+  step_append : (ys zs : List WrittenDefine) → step (ys ++ zs) ≡ step ys ++ step zs
+  step_append ys zs = map-append written_of ys zs
 
   whole : step xs ≡ front ++ here ∷ rest
-  whole = ap step (sym (take-append-drop i xs)) ∙ step_append (take i xs) (drop i xs) ∙ ap (λ (z : List (Define Raw)). front ++ step z) (left_behind xs i d below is)
+  whole = ap step (sym (take-append-drop i xs)) ∙ step_append (take i xs) (drop i xs) ∙ ap (λ (z : List WrittenDefine). front ++ step z) (left_behind xs i d below is)
 
   one_more : step (take (i + 1) xs) ≡ front ++ here ∷ []
-  one_more = ap step (take_more xs i d below ∙ ap (λ (e : Define Raw). take i xs ++ e ∷ []) (sym is)) ∙ step_append (take i xs) (d ∷ [])
+  one_more = ap step (take_more xs i d below ∙ ap (λ (e : WrittenDefine). take i xs ++ e ∷ []) (sym is)) ∙ step_append (take i xs) (d ∷ [])
 
-  pub names_more : names_of (step (take (i + 1) xs)) ≡ names_of front ++ d.name ∷ []
+  pub names_more : names_of (step (take (i + 1) xs)) ≡ names_of front ++ d.define.name ∷ []
   names_more = ap names_of one_more ∙ map-append (λ (w : Written). w.name) front (here ∷ [])
 
   length_front : length front ≡ i
-  length_front = omega (arith, length-map (map statement_of (take i xs)) (stated file), length-map (take i xs) statement_of, length-take i xs)
+  length_front = omega (arith, length-map (take i xs) written_of, length-take i xs)
 
   -- the fault of this definition is the first where there is none before
   fault_here : HaveNone Has (places front) → (found : Fault) → Has place found → NamesFault (step xs) found
@@ -80,30 +77,30 @@ module _ (file : List ℕ) (xs : List (Define Raw)) (i : ℕ) (d : Define Raw) (
 
   module _ (had : List (List ℕ)) (had_is : had ≡ names_of front) (none : HaveNone Has (places front)) where
     -- an earlier one has the name
-    pub why_again : (error : PlanError) → list_any (bytes_eq d.name) had ≡ true → IsRefusal (fault file d.line why.Duplicate) error → IsRefusedBy (NamesFault (step xs)) error
+    pub why_again : (error : PlanError) → list_any (bytes_eq d.define.name) had ≡ true → IsRefusal (fault d.file d.define.line why.Duplicate) error → IsRefusedBy (NamesFault (step xs)) error
     why_again error any refusal =
-        let among : Contains (names_of front) d.name = subst (λ (z : List (List ℕ)). Contains z d.name) had_is (has_from_any d.name had any) in
-        refused_by (NamesFault (step xs)) (fault file d.line why.Duplicate) error (fault_here none (fault file d.line why.Duplicate) (inl (among, refl))) refusal
+        let among : Contains (names_of front) d.define.name = subst (λ (z : List (List ℕ)). Contains z d.define.name) had_is (has_from_any d.define.name had any) in
+        refused_by (NamesFault (step xs)) (fault d.file d.define.line why.Duplicate) error (fault_here none (fault d.file d.define.line why.Duplicate) (inl (among, refl))) refusal
 
-    new : list_any (bytes_eq d.name) had ≡ false → ¬ (Contains (names_of front) d.name)
-    new fails = subst (λ (z : List (List ℕ)). ¬ (Contains z d.name)) had_is (not_had d.name had fails)
+    new : list_any (bytes_eq d.define.name) had ≡ false → ¬ (Contains (names_of front) d.define.name)
+    new fails = subst (λ (z : List (List ℕ)). ¬ (Contains z d.define.name)) had_is (not_had d.define.name had fails)
 
     -- it comes behind as many as there may be
-    pub why_too_many : (error : PlanError) → list_any (bytes_eq d.name) had ≡ false → 512 < length (had ++ d.name ∷ []) → IsRefusal (fault file d.line why.LimitNames) error
+    pub why_too_many : (error : PlanError) → list_any (bytes_eq d.define.name) had ≡ false → 512 < length (had ++ d.define.name ∷ []) → IsRefusal (fault d.file d.define.line why.LimitNames) error
         → IsRefusedBy (NamesFault (step xs)) error
     unfolding most_names
     why_too_many error fails many refusal =
-        let full : most_names ≤ length front = omega (arith, many, length-append had (d.name ∷ []), ap length had_is, length-map front (λ (w : Written). w.name)) in
-        refused_by (NamesFault (step xs)) (fault file d.line why.LimitNames) error
-        (fault_here none (fault file d.line why.LimitNames) (inr ((λ other again. new fails again.0), inl (full, refl)))) refusal
+        let full : most_names ≤ length front = omega (arith, many, length-append had (d.define.name ∷ []), ap length had_is, length-map front (λ (w : Written). w.name)) in
+        refused_by (NamesFault (step xs)) (fault d.file d.define.line why.LimitNames) error
+        (fault_here none (fault d.file d.define.line why.LimitNames) (inr ((λ other again. new fails again.0), inl (full, refl)))) refusal
 
-    pub still_none : list_any (bytes_eq d.name) had ≡ false → length (had ++ d.name ∷ []) ≤ 512 → HaveNone Has (places (step (take (i + 1) xs)))
+    pub still_none : list_any (bytes_eq d.define.name) had ≡ false → length (had ++ d.define.name ∷ []) ≤ 512 → HaveNone Has (places (step (take (i + 1) xs)))
     unfolding most_names
     still_none fails few =
         let free : (found : Fault) → Has place found → ⊥ = λ found h. elim h as (λ _. ⊥) [
           | inl again ↦ new fails again.0
           | inr more ↦ elim more.1 as (λ _. ⊥) [
-            | inl full ↦ let many = full.0 in omega (arith, many, few, length-append had (d.name ∷ []), ap length had_is, length-map front (λ (w : Written). w.name))
+            | inl full ↦ let many = full.0 in omega (arith, many, few, length-append had (d.define.name ∷ []), ap length had_is, length-map front (λ (w : Written). w.name))
             | inr never ↦ never.1
           ]
         ] in

@@ -1,8 +1,7 @@
--- The plan of the statements of a file: loops over definitions and over the symbols of an alphabet.
+-- The plan of what is written: loops over definitions and over the symbols of an alphabet.
 use Rattle.std.proofs.Common.{◌≡◌, ◌↔◌, ◌+◌, ◌<◌, ◌≤◌, ℕ, List, [], ◌∷◌, ◌++◌, length, map, take, drop, get_or, Option, Some, None, slice_get, refl, sym, ap, subst, ◌∙◌, inl, inr, arith, All, Contains, Result, Ok, Err}
 use Rattle.std.proofs.lemmas.List.{take_more, map-append, take-append-drop, take_all, take-append-le, length-take}
 use Rattle.std.proofs.lemmas.List.Elements.{All-append, All-cons, All-nil, All-head, All-tail, All-weaker, All-contains}
-use Rattle.std.proofs.lemmas.Simd.{map-map}
 use Rattle.std.proofs.lemmas.Option.{slice_get-get_or, get_or_from_slice_get, slice_get_within}
 use Rattle.std.specs.List.{flat_map}
 use Rattle.std.specs.Option.{option_map}
@@ -15,21 +14,19 @@ use Rattle.expr_leaves.specs.Mapped.{mapped}
 use Rattle.name_order.specs.Orders.{HasNoCycle as HasNoRound}
 use Rattle.regex_ast.specs.Terms.{Term}
 use Rattle.regex_ast.specs.declared.expr.Atom.{Atom}
-use Rattle.regex_ast.specs.declared.expr.Define.{Define}
-use Rattle.regex_ast.specs.declared.expr.Raw.{Raw}
 use Rattle.regex_ast.specs.declared.fault.Fault.{Fault}
 use Rattle.regex_ast.specs.declared.fault.Why.TheVariants as why
-use Rattle.regex_reader.specs.Files.{Statement, statement_of}
+use Rattle.regex_reader.specs.Files.{Statement}
+use Rattle.project_manifest.specs.Lines.{Placed, symbols_of}
 use Rattle.project_manifest.specs.Manifests.{project_name}
+use Rattle.project_manifest.specs.Rows.{First, HaveNone, Where}
 use Rattle.project_meaning.specs.Leaves.{leaf_of, symbols_in}
 use Rattle.project_meaning.specs.Projects.{Definition as Meant, Written, definition_in, names_of, with_texts}
 use Rattle.project_sources.specs.Limits.{most_symbols}
-use Rattle.project_sources.specs.Manifests.{Placed, symbols_of}
-use Rattle.project_sources.specs.Rows.{First, HaveNone, Where}
 use Rattle.project_sources.specs.Sources.{Said, project_in, stated}
-use Rattle.project_sources.specs.Faults.{fault, in_names, many_symbols, cyclic, no_language, heavy, unbuilt, SaidFault, NamesFault, definitions_so_far, said_so_far}
-use Rattle.project_sources.proofs.Firsts.{first_past, none_more}
-use Rattle.project_model.specs.Answers.{DemandFault, DoesMeet, IsPlanBy, IsRefusal, IsRefusedBy, definitions_in, demands, said_by, why_not}
+use Rattle.project_sources.specs.Faults.{fault, in_names, many_symbols, unknown, cyclic, no_language, heavy, unbuilt, SaidFault, NamesFault, definitions_so_far, said_so_far}
+use Rattle.project_manifest.proofs.Firsts.{first_past, none_more}
+use Rattle.project_model.specs.Answers.{DemandFault, DoesMeet, IsPlanBy, IsRefusal, IsRefusedBy, UnknownFault, demands, said_of, why_not}
 use Rattle.project_model.specs.Forms.{AreDefined, AreForms}
 use Rattle.project_model.specs.Gathered.{gathered, symbols_beside, symbols_of_all}
 use Rattle.project_model.specs.Numbered.{IsBodyOver, numbered, numbers_in}
@@ -50,6 +47,7 @@ use Rattle.project_model.proofs.Mapped.{mapped_twice}
 use Rattle.project_model.proofs.NameSteps.{refused_by}
 use Rattle.project_model.proofs.Forming.{kind_there}
 use Rattle.project_model.proofs.Referring.{count, cycle_fault, none_cyclic}
+use Rattle.project_model.proofs.Requiring.{unknown_fault}
 use Rattle.project_model.proofs.Expressions.{names_said}
 use Rattle.project_model.proofs.Sound.{definitions_over, sound_definitions}
 use Rattle.project_model.proofs.Texts.{one_longer}
@@ -94,14 +92,6 @@ pub made_both : {X Y Z W : Type 0} (f : Y → W) (g : Z → W) (h : X → Z) (xs
 made_both {W = W} f g h xs i x found new y below is new_is same so_far =
     ap (map f) new_is ∙ map-append f found (y ∷ []) ∙ ap (λ (z : List W). z ++ f y ∷ []) so_far ∙ ap (λ (w : W). map g (map h (take i xs)) ++ w ∷ []) same
     ∙ sym (ap (map g) (made_more h xs i x below is) ∙ map-append g (map h (take i xs)) (h x ∷ []))
-
--- the same of a list that is made by three
-pub made_each : {X Y Z V W : Type 0} (f : Y → W) (g : V → W) (k : Z → V) (h : X → Z) (xs : List X) (i : ℕ) (x : X) (found new : List Y) (y : Y) → i < length xs
-    → x ≡ get_or xs i x → new ≡ found ++ y ∷ [] → f y ≡ g (k (h x))
-    → map f found ≡ map g (map k (map h (take i xs))) → map f new ≡ map g (map k (map h (take (i + 1) xs)))
-made_each {X = X} f g k h xs i x found new y below is new_is same so_far =
-    let at = λ (z : List X). map-map k h z in
-    made_both f g (λ z. k (h z)) xs i x found new y below is new_is same (so_far ∙ ap (map g) (at (take i xs))) ∙ ap (map g) (sym (at (take (i + 1) xs)))
 
 -- the definition of a statement
 pub entry_is : (names table : List (List ℕ)) (file : List ℕ) (s : Statement) (name other : List ℕ) (t : Term Atom) → name ≡ s.name → other ≡ file → t ≡ mapped (atom_of names table) s.term
@@ -151,57 +141,53 @@ begins_with old now texts now_is =
     let more = with_texts_behind texts old in
     ap (take (length old)) (now_is ∙ more.1) ∙ take-append-le (length old) old more.0 (omega arith) ∙ take_all (length old) old (omega arith)
 
--- the symbols of statements are those of their definitions
-symbols_said : (names : List (List ℕ)) (file : List ℕ) (statements : List Statement)
-    → flat_map (λ (d : Meant). symbols_in d.body) (map (definition_in names) (definitions_in file statements)) ≡ symbols_of_all names statements
-symbols_said names file [] = refl
-symbols_said names file (s ∷ statements) = ap (λ (z : List (List ℕ)). symbols_beside names s ++ z) (symbols_said names file statements)
+-- the symbols of what is written are those of the definitions
+symbols_said : (names : List (List ℕ)) (written : List Written) → flat_map (λ (d : Meant). symbols_in d.body) (map (definition_in names) written) ≡ symbols_of_all names written
+symbols_said names [] = refl
+symbols_said names (w ∷ written) = ap (λ (z : List (List ℕ)). symbols_beside names w ++ z) (symbols_said names written)
 
--- a plan of what one file's statements say, over an alphabet whose symbols are in the table
-module _ (file : List ℕ) (statements : List Statement) (names alphabet old new : List (List ℕ)) (definitions : List Definition) (names_are : names ≡ names_of (definitions_in file statements))
-    (new_is : new ≡ with_texts old alphabet) (are : map entry_of definitions ≡ map (entry_in names new) (definitions_in file statements)) (held : All (Contains alphabet) (symbols_of_all names statements)) where
-  abbrev written : List Written
-  written = definitions_in file statements
-
+-- a plan of what is written, over an alphabet whose symbols are in the table
+module _ (written : List Written) (names alphabet old new : List (List ℕ)) (definitions : List Definition) (names_are : names ≡ names_of written)
+    (new_is : new ≡ with_texts old alphabet) (are : map entry_of definitions ≡ map (entry_in names new) written) (held : All (Contains alphabet) (symbols_of_all names written)) where
   said_are : map entry_of definitions ≡ map (entry_in (names_of written) new) written
   said_are = are ∙ ap (λ ns. map (entry_in ns new) written) names_are
 
   symbols_are : All (Contains alphabet) (flat_map (λ (d : Meant). symbols_in d.body) (map (definition_in (names_of written)) written))
-  symbols_are = subst (All (Contains alphabet)) (sym (symbols_said (names_of written) file statements)) (subst (λ ns. All (Contains alphabet) (symbols_of_all ns statements)) names_are held)
+  symbols_are = subst (All (Contains alphabet)) (sym (symbols_said (names_of written) written)) (subst (λ ns. All (Contains alphabet) (symbols_of_all ns written)) names_are held)
 
   in_table : All (Contains new) (flat_map (λ (d : Meant). symbols_in d.body) (map (definition_in (names_of written)) written))
   in_table = All-weaker (Contains alphabet) (Contains new) (λ text among. All-contains (Contains new) alphabet text (subst (λ (t : List (List ℕ)). All (Contains t) alphabet) (sym new_is) (put alphabet old)) among) _ symbols_are
 
   module _ (apart : IsDistinct names) where
-    defined : (manifest : List Placed) → AreDefined (said_by manifest file statements) new definitions
+    defined : (manifest : List Placed) → AreDefined (said_of manifest written) new definitions
     defined manifest = record { entries = said_are; symbols = in_table; apart = subst IsDistinct names_are apart }
 
     -- why there is no order
     pub why_no_order : (manifest : List Placed) (error : PlanError) → IsRefusedBy (CycleFault definitions) error
-        → IsPlanBy definitions_so_far (said_by manifest file statements) old new (Err error)
-    why_no_order manifest (Refused found) h = inl (cycle_fault (said_by manifest file statements) new definitions (defined manifest) found h)
+        → IsPlanBy definitions_so_far (said_of manifest written) old new (Err error)
+    why_no_order manifest (Refused found) h = inl (cycle_fault (said_of manifest written) new definitions (defined manifest) found h)
     why_no_order manifest (Memory refused) h = tt
 
     module _ (rounds : HasNoRound (references_of definitions)) (forms : List Form) (few : length forms ≡ length definitions)
         (told : (said : Said) (table : List (List ℕ)) → AreDefined said table definitions → AreForms (names_of said.written) (project_in said) forms) where
-      no_cycle : (manifest : List Placed) (found : Fault) → SaidFault (said_by manifest file statements) cyclic found → ⊥
-      no_cycle manifest found h = none_cyclic (said_by manifest file statements) new definitions (defined manifest) rounds found h
+      no_cycle : (manifest : List Placed) (found : Fault) → SaidFault (said_of manifest written) cyclic found → ⊥
+      no_cycle manifest found h = none_cyclic (said_of manifest written) new definitions (defined manifest) rounds found h
 
       alike : (manifest : List Placed) (found : Fault)
-          → First (DemandFault definitions forms) demands found ↔ First (SaidFault (said_by manifest file statements)) (no_language ∷ heavy ∷ unbuilt ∷ []) found
+          → First (DemandFault definitions forms) demands found ↔ First (SaidFault (said_of manifest written)) (no_language ∷ heavy ∷ unbuilt ∷ []) found
       alike manifest found =
-          demand_fault (said_by manifest file statements) new definitions (defined manifest) forms few (told (said_by manifest file statements) new (defined manifest)) found
+          demand_fault (said_of manifest written) new definitions (defined manifest) forms few (told (said_of manifest written) new (defined manifest)) found
 
       -- why there is no plan
       pub why_no_plan : (manifest : List Placed) (error : PlanError) → IsRefusedBy (First (DemandFault definitions forms) demands) error
-          → IsPlanBy definitions_so_far (said_by manifest file statements) old new (Err error)
+          → IsPlanBy definitions_so_far (said_of manifest written) old new (Err error)
       why_no_plan manifest (Refused found) h = inr (no_cycle manifest, (alike manifest found).0 h)
       why_no_plan manifest (Memory refused) h = tt
 
       module _ (symbols : List Sym) (numbers_are : symbols ≡ numbers_in new alphabet) (distinct : IsDistinct alphabet) (fits : All (DoesMeet forms demand.Fits) definitions)
           (light : All (DoesMeet forms demand.Light) definitions) (built : All (DoesMeet forms demand.Built) definitions) where
         many : length forms ≡ length (names_of written)
-        many = few ∙ count (said_by [] file statements) new definitions (defined [])
+        many = few ∙ count (said_of [] written) new definitions (defined [])
 
         over : All (λ (d : Meant). IsBodyOver alphabet d.body) (map (definition_in (names_of written)) written)
         over = definitions_over (names_of written) alphabet new forms many definitions written said_are symbols_are built
@@ -213,19 +199,19 @@ module _ (file : List ℕ) (statements : List Statement) (names alphabet old new
         is_plan = record {
           distinct = subst IsDistinct (sym numbers_are) (numbers_distinct new alphabet (subst (λ (t : List (List ℕ)). All (Contains t) alphabet) (sym new_is) (put alphabet old)) distinct);
           names = subst IsDistinct (names_are ∙ sym (names_said (names_of written) new definitions written said_are)) apart;
-          forms = record { count = few; kinds = kind_there (said_by [] file statements) new definitions (defined []) rounds forms few (told (said_by [] file statements) new (defined [])) };
+          forms = record { count = few; kinds = kind_there (said_of [] written) new definitions (defined []) rounds forms few (told (said_of [] written) new (defined [])) };
           sound = subst (λ (z : List Sym). All (IsSoundOver forms z) definitions) (sym numbers_are) (sound_definitions (names_of written) alphabet new forms many definitions written said_are fits over);
         }
 
-        none_fails : (manifest : List Placed) → HaveNone (SaidFault (said_by manifest file statements)) definitions_so_far
+        none_fails : (manifest : List Placed) → HaveNone (SaidFault (said_of manifest written)) definitions_so_far
         none_fails manifest =
             let none = none_more (DemandFault definitions forms) demand.Fits (demand.Light ∷ demand.Built ∷ []) (all_pass forms demand.Fits definitions fits)
             (none_more (DemandFault definitions forms) demand.Light (demand.Built ∷ []) (all_pass forms demand.Light definitions light)
             (none_more (DemandFault definitions forms) demand.Built [] (all_pass forms demand.Built definitions built) (λ f p. p))) in
-            none_more (SaidFault (said_by manifest file statements)) cyclic (no_language ∷ heavy ∷ unbuilt ∷ []) (no_cycle manifest) (λ found h. none found ((alike manifest found).1 h))
+            none_more (SaidFault (said_of manifest written)) cyclic (no_language ∷ heavy ∷ unbuilt ∷ []) (no_cycle manifest) (λ found h. none found ((alike manifest found).1 h))
 
-        pub is_planned : (manifest : List Placed) → (project_in (said_by manifest file statements)).alphabet ≡ alphabet
-            → IsPlanBy definitions_so_far (said_by manifest file statements) old new (Ok plan)
+        pub is_planned : (manifest : List Placed) → (project_in (said_of manifest written)).alphabet ≡ alphabet
+            → IsPlanBy definitions_so_far (said_of manifest written) old new (Ok plan)
         is_planned manifest is = (
           none_fails manifest,
           record {
@@ -237,19 +223,19 @@ module _ (file : List ℕ) (statements : List Statement) (names alphabet old new
           },
         )
 
--- the alphabet of statements and of the further symbols that a manifest has
-module _ (file : List ℕ) (xs : List (Define Raw)) (further names alphabet : List (List ℕ)) (names_is : names ≡ names_of (definitions_in file (map statement_of xs)))
-    (alphabet_is : alphabet ≡ gathered [] (symbols_of_all names (map statement_of xs) ++ further)) where
-  abbrev said : List Placed → Said
-  said manifest = said_by manifest file (map statement_of xs)
+-- the alphabet of what is written, and of the further symbols that lines of a manifest have
+module _ (written : List Written) (lines : List Placed) (names alphabet : List (List ℕ)) (names_is : names ≡ names_of written)
+    (alphabet_is : alphabet ≡ gathered [] (symbols_of_all names written ++ symbols_of lines)) where
+  abbrev said : Said
+  said = said_of lines written
 
   abbrev whole : List (List ℕ)
-  whole = with_texts [] (symbols_of_all names (map statement_of xs) ++ further)
+  whole = with_texts [] (symbols_of_all names written ++ symbols_of lines)
 
-  said_whole : (manifest : List Placed) → symbols_of manifest ≡ further → (project_in (said manifest)).alphabet ≡ whole
-  said_whole manifest is =
-      let same = symbols_said (names_of (definitions_in file (map statement_of xs))) file (map statement_of xs) ∙ ap (λ ns. symbols_of_all ns (map statement_of xs)) (sym names_is) in
-      λ i. with_texts [] (same i ++ is i)
+  said_whole : (project_in said).alphabet ≡ whole
+  said_whole =
+      let same = symbols_said (names_of written) written ∙ ap (λ ns. symbols_of_all ns written) (sym names_is) in
+      ap (λ (z : List (List ℕ)). with_texts [] (z ++ symbols_of lines)) same
 
   -- an alphabet beyond the limit, and one within it
   too_large : 1024 < length alphabet → most_symbols < length whole
@@ -264,34 +250,51 @@ module _ (file : List ℕ) (xs : List (Define Raw)) (further names alphabet : Li
   whole_is few = alphabet_is ∙ take_all (most_symbols + 1) whole (omega (arith, not_large few))
 
   -- it has the symbols of the definitions
-  pub symbols_held : length alphabet ≤ 1024 → All (Contains alphabet) (symbols_of_all names (map statement_of xs))
+  pub symbols_held : length alphabet ≤ 1024 → All (Contains alphabet) (symbols_of_all names written)
   symbols_held few =
-      subst (λ (t : List (List ℕ)). All (Contains t) (symbols_of_all names (map statement_of xs))) (sym (whole_is few))
-      (All-front (Contains whole) (symbols_of_all names (map statement_of xs)) further (put (symbols_of_all names (map statement_of xs) ++ further) []))
+      subst (λ (t : List (List ℕ)). All (Contains t) (symbols_of_all names written)) (sym (whole_is few))
+      (All-front (Contains whole) (symbols_of_all names written) (symbols_of lines) (put (symbols_of_all names written ++ symbols_of lines) []))
 
-  module _ (none : (found : Fault) → NamesFault (definitions_in file (map statement_of xs)) found → ⊥) (manifest : List Placed) (symbols_is : symbols_of manifest ≡ further) (old new : List (List ℕ)) where
+  -- the fault of a line that requires a name is one of what is said
+  unknown_alike : (found : Fault) → UnknownFault names lines found ↔ SaidFault said unknown found
+  unknown_alike = unknown_fault written lines names names_is
+
+  module _ (none : (found : Fault) → NamesFault written found → ⊥) (old new : List (List ℕ)) where
     -- symbols that are too many
-    pub why_large : (error : PlanError) → 1024 < length alphabet → IsRefusal (fault project_name 0 why.LimitSymbols) error → IsPlanBy said_so_far (said manifest) old new (Err error)
+    pub why_large : (error : PlanError) → 1024 < length alphabet → IsRefusal (fault project_name 0 why.LimitSymbols) error → IsPlanBy said_so_far said old new (Err error)
     why_large error many refusal =
-        let much : most_symbols < length (project_in (said manifest)).alphabet = omega (arith, ap length (said_whole manifest symbols_is), too_large many) in
-        refused_by (First (SaidFault (said manifest)) said_so_far) (fault project_name 0 why.LimitSymbols) error (inr (none, inl (much, refl))) refusal
+        let much : most_symbols < length (project_in said).alphabet = omega (arith, ap length said_whole, too_large many) in
+        refused_by (First (SaidFault said) said_so_far) (fault project_name 0 why.LimitSymbols) error (inr (none, inl (much, refl))) refusal
 
-    none_large : length alphabet ≤ 1024 → (found : Fault) → SaidFault (said manifest) many_symbols found → ⊥
-    none_large few found (much, is) = omega (arith, much, ap length (said_whole manifest symbols_is), not_large few)
+    none_large : length alphabet ≤ 1024 → (found : Fault) → SaidFault said many_symbols found → ⊥
+    none_large few found (much, is) = omega (arith, much, ap length said_whole, not_large few)
+
+    -- a name that is required and isn't defined
+    pub why_unknown : length alphabet ≤ 1024 → (line : ℕ) (error : PlanError) → UnknownFault names lines (fault project_name line why.UnknownName)
+        → IsRefusal (fault project_name line why.UnknownName) error → IsPlanBy said_so_far said old new (Err error)
+    why_unknown few line error is refusal =
+        refused_by (First (SaidFault said) said_so_far) (fault project_name line why.UnknownName) error
+        (inr (none, inr (none_large few, inl ((unknown_alike (fault project_name line why.UnknownName)).0 is)))) refusal
+
+    none_unknown : ((found : Fault) → UnknownFault names lines found → ⊥) → (found : Fault) → SaidFault said unknown found → ⊥
+    none_unknown known found h = known found ((unknown_alike found).1 h)
 
     -- what the definitions answer, all that is said does
-    pub planned_whole : length alphabet ≤ 1024 → (answer : Result PlanView PlanError)
-        → ((lines : List Placed) → (project_in (said lines)).alphabet ≡ alphabet → IsPlanBy definitions_so_far (said lines) old new answer) → IsPlanBy said_so_far (said manifest) old new answer
-    planned_whole few answer by_definitions = by answer (by_definitions manifest (said_whole manifest symbols_is ∙ sym (whole_is few)))
+    pub planned_whole : length alphabet ≤ 1024 → ((found : Fault) → UnknownFault names lines found → ⊥) → (answer : Result PlanView PlanError)
+        → ((manifest : List Placed) → (project_in (said_of manifest written)).alphabet ≡ alphabet → IsPlanBy definitions_so_far (said_of manifest written) old new answer) → IsPlanBy said_so_far said old new answer
+    planned_whole few known answer by_definitions = by answer (by_definitions lines (said_whole ∙ sym (whole_is few)))
       where
-        by : (answer : Result PlanView PlanError) → IsPlanBy definitions_so_far (said manifest) old new answer → IsPlanBy said_so_far (said manifest) old new answer
-        by (Ok plan) (free, stands) =
-            (none_more (SaidFault (said manifest)) in_names (many_symbols ∷ definitions_so_far) none (none_more (SaidFault (said manifest)) many_symbols definitions_so_far (none_large few) free), stands)
-        by (Err (Refused found)) h = inr (none, inr (none_large few, h))
+        by : (answer : Result PlanView PlanError) → IsPlanBy definitions_so_far said old new answer → IsPlanBy said_so_far said old new answer
+        by (Ok made) (free, stands) = (
+          none_more (SaidFault said) in_names (many_symbols ∷ unknown ∷ definitions_so_far) none
+              (none_more (SaidFault said) many_symbols (unknown ∷ definitions_so_far) (none_large few) (none_more (SaidFault said) unknown definitions_so_far (none_unknown known) free)),
+          stands,
+        )
+        by (Err (Refused found)) h = inr (none, inr (none_large few, inr (none_unknown known, h)))
         by (Err (Memory refused)) h = tt
 
 -- why there are no names, as why there is no plan
-pub from_names : (file : List ℕ) (statements : List Statement) (manifest : List Placed) (old new : List (List ℕ)) (error : PlanError) → IsRefusedBy (NamesFault (definitions_in file statements)) error
-    → IsPlanBy said_so_far (said_by manifest file statements) old new (Err error)
-from_names file statements manifest old new (Refused found) h = inl h
-from_names file statements manifest old new (Memory refused) h = tt
+pub from_names : (written : List Written) (lines : List Placed) (old new : List (List ℕ)) (error : PlanError) → IsRefusedBy (NamesFault written) error
+    → IsPlanBy said_so_far (said_of lines written) old new (Err error)
+from_names written lines old new (Refused found) h = inl h
+from_names written lines old new (Memory refused) h = tt

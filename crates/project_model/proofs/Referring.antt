@@ -25,8 +25,8 @@ use Rattle.project_meaning.specs.Projects.{Definition as Meant, Written, Project
 use Rattle.project_meaning.specs.Trees.{Body, xfst, lexc, twolc}
 use Rattle.project_meaning.proofs.Closed.{closed}
 use Rattle.project_sources.specs.Faults.{fault, fault_of, cyclic, SaidFault}
-use Rattle.project_sources.specs.Manifests.{symbols_of}
-use Rattle.project_sources.specs.Rows.{First, Where}
+use Rattle.project_manifest.specs.Lines.{symbols_of}
+use Rattle.project_manifest.specs.Rows.{First, Where}
 use Rattle.project_sources.specs.Sources.{Said, project_in}
 use Rattle.project_model.specs.Forms.{AreDefined}
 use Rattle.project_model.specs.Numbered.{numbered}

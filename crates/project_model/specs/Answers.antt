@@ -1,21 +1,22 @@
 -- What calls answer of sources: by the first fault that these have.
-use Rattle.std.specs.Prelude.{◌≡◌, ◌≤◌, ◌⊎◌, ⊤, ℕ, List, [], ◌∷◌, map, Result, Ok, Err}
+use Rattle.std.specs.Prelude.{◌≡◌, ◌≤◌, ◌⊎◌, ⊤, ℕ, List, [], ◌∷◌, Contains, Result, Ok, Err}
 use Rattle.fsm_io.specs.Folders.{Files}
 use Rattle.regex_ast.specs.declared.fault.Fault.{Fault}
 use Rattle.regex_ast.specs.declared.fault.Why.{Why}
 use Rattle.regex_ast.specs.declared.fault.Why.TheVariants as why
 use Rattle.regex_ast.specs.declared.expr.Atom.{Atom}
 use Rattle.regex_ast.specs.Terms.{Term}
-use Rattle.regex_reader.specs.Files.{Statement, FaultAt, ReadsAs}
+use Rattle.regex_reader.specs.Files.{FaultAt, statement_of}
 use Rattle.expr_kinds.specs.Atoms.{is_known_at, is_symbol, leaves_at, weights_at}
 use Rattle.expr_kinds.specs.Built.{IsBuiltBy}
 use Rattle.expr_kinds.specs.Kinds.{Fits}
 use Rattle.expr_kinds.specs.Weights.{most_weight, weight_of}
 use Rattle.expr_kinds.specs.declared.form.Form.{Form}
-use Rattle.project_manifest.specs.Manifests.{ManifestView, IsManifest, project_name}
+use Rattle.project_manifest.specs.Lines.{ManifestFault, Placed, line_rows_so_far, manifest_of, names_required}
+use Rattle.project_manifest.specs.Manifests.{project_name}
+use Rattle.project_manifest.specs.Reading.{HasNoFault}
+use Rattle.project_manifest.specs.Rows.{First, HaveNone, Where}
 use Rattle.project_meaning.specs.Projects.{Written}
-use Rattle.project_sources.specs.Rows.{First, HaveNone, Where}
-use Rattle.project_sources.specs.Manifests.{Placed}
 use Rattle.project_sources.specs.Sources.{HasText, Said, FilesSay, stated}
 use Rattle.project_sources.specs.Faults.{fault, HasNoText, SaidRow, SaidFault, read_so_far, FirstFault}
 use Rattle.project_sources.specs.Laws.{unbuilt}
@@ -26,6 +27,7 @@ use Rattle.project_model.specs.declared.demands.Demand.{Demand}
 use Rattle.project_model.specs.declared.demands.Demand.TheVariants as demand
 use Rattle.project_model.specs.declared.plan_error.PlanError.{PlanError}
 use Rattle.project_model.specs.declared.plan_error.PlanError.TheVariants.{Refused, Memory}
+use Rattle.project_model.specs.declared.written.WrittenDefine.{WrittenDefine}
 
 -- the files have no fault by the rows that are told so far, and the plan stands for what they say
 pub record IsPlanOf (files : Files) (old new : List (List ℕ)) (plan : PlanView) : Type 0 where
@@ -49,32 +51,34 @@ IsRefusedBy IsFault (Memory refused) = ⊤
 abbrev pub IsRefusal : Fault → PlanError → Type 0
 IsRefusal fault error = IsRefusedBy (λ found. found ≡ fault) error
 
--- the content is a file's with this manifest, and it is none
-pub record IsManifestFile (content : List ℕ) (manifest : ManifestView) : Type 0 where
+-- the content of the manifest's file has a text without fault, with these lines
+pub record IsManifestFile (content : List ℕ) (lines : List Placed) : Type 0 where
   pub text : List ℕ
   pub has_text : HasText content text
-  pub says : IsManifest text manifest
+  pub faultless : HasNoFault text
+  pub says : lines ≡ manifest_of text
 
+-- a text is no manifest
+abbrev pub IsTextFault : List ℕ → Fault → Type 0
+IsTextFault text found = (at : FaultAt) × ManifestFault line_rows_so_far text at × (found ≡ fault project_name at.line at.why)
+
+-- the content of the manifest's file has no text, or its text is no manifest
 abbrev pub IsNoManifest : List ℕ → Fault → Type 0
-IsNoManifest content found = ((manifest : ManifestView) → IsManifestFile content manifest → ⊥) × (found ≡ fault project_name 0 why.NotBuilt)
+IsNoManifest content found = HasNoText project_name content found ⊎ ((text : List ℕ) × HasText content text × IsTextFault text found)
 
--- what the text of a file's content is read as
-pub record IsReadAs (content : List ℕ) (answer : Result (List Statement) FaultAt) : Type 0 where
-  pub text : List ℕ
-  pub has_text : HasText content text
-  pub reads : ReadsAs text answer
+-- the definition that a file writes, and what a manifest of these lines says with definitions
+abbrev pub written_of : WrittenDefine → Written
+written_of w = stated w.file (statement_of w.define)
 
--- the content of this file has no text, or its text isn't read
-abbrev pub IsUnread : List ℕ → List ℕ → Fault → Type 0
-IsUnread file content found = HasNoText file content found ⊎ ((at : FaultAt) × IsReadAs content (Err at) × (found ≡ fault file at.line at.why))
+abbrev pub said_of : List Placed → List Written → Said
+said_of manifest written = record { manifest = manifest; written = written }
 
--- the definitions of a file's statements
-abbrev pub definitions_in : List ℕ → List Statement → List Written
-definitions_in file statements = map (stated file) statements
+-- the first of these lines that requires a name other than these
+abbrev pub IsUnknown : List (List ℕ) → Placed → Type 0
+IsUnknown names l = (name : List ℕ) × Contains (names_required l.said) name × (Contains names name → ⊥)
 
--- what a manifest of these lines says with one file's statements
-abbrev pub said_by : List Placed → List ℕ → List Statement → Said
-said_by manifest file statements = record { manifest = manifest; written = definitions_in file statements }
+abbrev pub UnknownFault : List (List ℕ) → List Placed → Fault → Type 0
+UnknownFault names lines found = First (λ l. Where (IsUnknown names l) (fault project_name l.line why.UnknownName)) lines found
 
 -- what is asked of a definition where names have these forms: that each operand that must be a language is one, that it isn't
 -- too heavy, and that its network can be built

@@ -2,10 +2,8 @@
 use Rattle.std.specs.Prelude.{ℕ, ◌+◌, List, take}
 use Rattle.std.specs.List.{flat_map}
 use Rattle.regex_ast.specs.declared.expr.Raw.{Raw}
-use Rattle.regex_reader.specs.Files.{Statement}
-use Rattle.project_meaning.specs.Trees.{xfst}
 use Rattle.project_meaning.specs.Leaves.{leaf_of, resolved, symbol_in, symbols_in}
-use Rattle.project_meaning.specs.Projects.{with_texts}
+use Rattle.project_meaning.specs.Projects.{Written, with_texts}
 use Rattle.project_sources.specs.Limits.{most_symbols}
 
 -- the table with these texts, but no more texts than that
@@ -16,9 +14,9 @@ gathered table texts = take (most_symbols + 1) (with_texts table texts)
 abbrev pub symbol_beside : List (List ℕ) → Raw → List (List ℕ)
 symbol_beside names leaf = symbol_in (leaf_of names leaf)
 
--- the symbols of statements where these names are defined
-abbrev pub symbols_beside : List (List ℕ) → Statement → List (List ℕ)
-symbols_beside names s = symbols_in (resolved names (xfst s.term))
+-- the symbols of definitions where these names are defined
+abbrev pub symbols_beside : List (List ℕ) → Written → List (List ℕ)
+symbols_beside names w = symbols_in (resolved names w.body)
 
-abbrev pub symbols_of_all : List (List ℕ) → List Statement → List (List ℕ)
-symbols_of_all names statements = flat_map (symbols_beside names) statements
+abbrev pub symbols_of_all : List (List ℕ) → List Written → List (List ℕ)
+symbols_of_all names written = flat_map (symbols_beside names) written

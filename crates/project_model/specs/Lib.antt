@@ -1,4 +1,5 @@
 pub mod Answers
+pub mod Files
 pub mod Forms
 pub mod Gathered
 pub mod Names

@@ -32,7 +32,7 @@ abbrev pub is_leaf_over : List (List ℕ) → Leaf → Bool
 is_leaf_over alphabet (symbol text) = is_symbol_over alphabet (symbol text)
 is_leaf_over alphabet (named name) = true
 
--- an expression whose leaves are such symbols and names, without sets of rules
+-- an expression whose leaves are such symbols and names, and whose insertions stand alone in their rules
 abbrev pub IsBodyOver : List (List ℕ) → Body Leaf → Type 0
 IsBodyOver alphabet (xfst e) = IsBuiltBy (is_leaf_over alphabet) (is_symbol_over alphabet) e
 IsBodyOver alphabet (lexc lexicons) = ⊥

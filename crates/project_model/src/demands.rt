@@ -13,7 +13,7 @@ pub enum Demand {
     Fits,
     /// It weighs 4,000,000 at most.
     Light,
-    /// Its network can be built: it has no set of rules.
+    /// Its network can be built: each insertion stands alone in its rules.
     Built,
 }
 

@@ -1,13 +1,15 @@
 //! A project's plan: its definitions and its alphabet, or its first fault.
 //!
 //! - [`Sources`]: the files of a project. [`read_project`]: their plan, a [`Plan`] of [`Definition`]s.
-//! - [`Manifest`], [`read_manifest`]: the file that a project names, and further symbols. [`manifest_of`]: the same by the
-//!   content of a file.
+//! - [`Manifest`], [`read_manifest`]: the files that a project names, further symbols, and names that must be defined.
+//!   [`manifest_of`]: the same by the content of a file.
 //! - [`PlanError`]: why there is no plan.
 #![tactic(auto)]
 
+mod content;
 mod definition;
 mod demands;
+mod files;
 mod forms;
 mod names;
 mod plan;
@@ -17,6 +19,8 @@ mod references;
 mod resolve;
 mod sources;
 mod symbols;
+mod unknown;
+mod written;
 
 pub use definition::{Body, Definition};
 pub use demands::Demand;
@@ -25,3 +29,4 @@ pub use plan_error::PlanError;
 pub use project_manifest::{Manifest, read_manifest};
 pub use read::{manifest_of, read_project};
 pub use sources::Sources;
+pub use written::WrittenDefine;

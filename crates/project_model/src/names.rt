@@ -4,19 +4,19 @@ ghost use Rattle.std.specs.Str.{bytes_eq};
 ghost use Rattle.fsm_base.specs.Symbols.{number_of, with_text};
 ghost use Rattle.word_relations.specs.Words.{IsDistinct};
 ghost use Rattle.regex_ast.specs.declared.fault.Fault.{Fault};
-ghost use Rattle.regex_reader.specs.Files.{statement_of};
 ghost use Rattle.project_meaning.specs.Leaves.{leaf_of};
 ghost use Rattle.project_meaning.specs.Projects.{names_of};
-ghost use Rattle.project_sources.specs.Faults.{NamesFault};
+ghost use Rattle.project_sources.specs.Faults.{NamesFault, fault};
 ghost use Rattle.project_sources.specs.Limits.{most_names};
-ghost use Rattle.project_model.specs.Answers.{IsRefusedBy, definitions_in};
+ghost use Rattle.project_model.specs.Answers.{IsRefusal, IsRefusedBy, written_of};
 ghost use Rattle.project_model.specs.Names.{is_named, is_symbol_leaf};
 
 use crate::plan_error::{PlanError, refused};
 use crate::symbols::symbol_text;
+use crate::written::WrittenDefine;
 use indexmap::IndexSet;
 use project_sources::MOST_NAMES;
-use regex_ast::{Define, Raw, Why};
+use regex_ast::{Raw, Why};
 use std::alloc::{AllocError, Global};
 use std::marker::Model;
 
@@ -115,22 +115,29 @@ impl Names {
     }
 }
 
-/// The names of the definitions of a file, in their order. They are refused at the first definition whose name an
-/// earlier one has, or that comes behind 512.
-pub fn names_of(alloc: Global, file: &str, defines: &[Define<Raw>]) -> Result<Names, PlanError>
-    ensures names { IfOk result (λ names. names ≡ names_of (definitions_in file.now (map statement_of defines.now))) }
+/// The names of definitions, in their order. They are refused at the first definition whose name an earlier one has, or that
+/// comes behind 512.
+pub fn names_of(alloc: Global, written: &[WrittenDefine]) -> Result<Names, PlanError>
+    ensures names { IfOk result (λ names. names ≡ names_of (map written_of written.now)) }
     ensures distinct { IfOk result IsDistinct }
-    ensures faultless { OnOk result ((found : Fault) → NamesFault (definitions_in file.now (map statement_of defines.now)) found → ⊥) }
-    ensures error { IfErr result (IsRefusedBy (NamesFault (definitions_in file.now (map statement_of defines.now)))) }
+    ensures faultless { OnOk result ((found : Fault) → NamesFault (map written_of written.now) found → ⊥) }
+    ensures error { IfErr result (IsRefusedBy (NamesFault (map written_of written.now))) }
 {
     let mut names = Names::new(alloc);
-    'defines: for define in defines {
-        if !names.add(define.name.as_str())? {
-            return Err(refused(alloc, file, define.line, Why::Duplicate));
+    'written: for one in written {
+        if !names.add(one.define.name.as_str())? {
+            return Err(refused_at(alloc, one, Why::Duplicate));
         }
         if names.len() > MOST_NAMES {
-            return Err(refused(alloc, file, define.line, Why::LimitNames));
+            return Err(refused_at(alloc, one, Why::LimitNames));
         }
     }
     Ok(names)
+}
+
+/// Refuses a definition.
+fn refused_at(alloc: Global, one: &WrittenDefine, why: Why) -> PlanError
+    ensures { IsRefusal (fault one.now.file one.now.define.line why) result }
+{
+    refused(alloc, one.file.as_str(), one.define.line, why)
 }

@@ -2,14 +2,14 @@ ghost use Rattle.std.specs.Prelude.{◌≡◌, ◌≤◌, ◌+◌, ◌++◌, ◌
 ghost use Rattle.fsm_base.specs.Symbols.{IsSymbol};
 ghost use Rattle.word_relations.specs.Words.{IsDistinct};
 ghost use Rattle.name_order.specs.Orders.{IsOrder};
-ghost use Rattle.regex_reader.specs.Files.{statement_of};
+ghost use Rattle.project_manifest.specs.Lines.{Placed, symbols_of};
+ghost use Rattle.project_manifest.specs.Rows.{First};
+ghost use Rattle.project_manifest.specs.Sayings.{placed_of};
 ghost use Rattle.project_meaning.specs.Projects.{names_of, with_texts};
 ghost use Rattle.project_sources.specs.Faults.{definitions_so_far, fault, said_so_far};
 ghost use Rattle.project_sources.specs.Limits.{most_before, most_symbols};
-ghost use Rattle.project_sources.specs.Manifests.{Placed, symbols_of};
-ghost use Rattle.project_sources.specs.Rows.{First};
-ghost use Rattle.project_sources.specs.Sources.{project_in, stated};
-ghost use Rattle.project_model.specs.Answers.{DemandFault, DoesMeet, IsPlanBy, IsRefusal, IsRefusedBy, definitions_in, demands, said_by};
+ghost use Rattle.project_sources.specs.Sources.{project_in};
+ghost use Rattle.project_model.specs.Answers.{DemandFault, DoesMeet, IsPlanBy, IsRefusal, IsRefusedBy, demands, said_of, written_of};
 ghost use Rattle.project_model.specs.Gathered.{gathered, symbols_of_all};
 ghost use Rattle.project_model.specs.Numbered.{numbers_in};
 ghost use Rattle.project_model.specs.Plans.{IsPlan};
@@ -25,10 +25,13 @@ use crate::plan_error::{PlanError, refused};
 use crate::references::order_in;
 use crate::resolve::resolve;
 use crate::symbols::symbols_of;
+use crate::unknown::first_unknown;
+use crate::written::WrittenDefine;
 use expr_kinds::Form;
 use fsm_base::{Sym, SymbolTable, Text};
+use project_manifest::ManifestLine;
 use project_sources::MOST_SYMBOLS;
-use regex_ast::{Define, Raw, Why};
+use regex_ast::Why;
 use std::alloc::{AllocError, Global};
 use std::marker::Model;
 
@@ -119,19 +122,21 @@ fn add_text(text: &Text, table: &mut SymbolTable) -> Result<(), AllocError>
     Ok(())
 }
 
-/// The symbols that stand in definitions where these names are defined, and further ones, in the order of their first
-/// places. Where they are more than a project may have, it's one more than that.
+/// The symbols that stand in definitions where these names are defined, and further ones that lines of a manifest declare, in
+/// the order of their first places. Where they are more than a project may have, it's one more than that.
 fn alphabet_of(
     alloc: Global,
     names: &Names,
-    defines: &[Define<Raw>],
-    further: &[Text],
+    written: &[WrittenDefine],
+    lines: &[ManifestLine],
 ) -> Result<SymbolTable, AllocError>
-    requires { All IsSymbol further.now }
-    ensures { IfOk result (λ table. table ≡ gathered [] (symbols_of_all names.now (map statement_of defines.now) ++ further.now)) }
+    requires { All IsSymbol (symbols_of (map placed_of lines.now)) }
+    ensures { IfOk result (λ table. table ≡ gathered [] (symbols_of_all names.now (map written_of written.now) ++ symbols_of (map placed_of lines.now))) }
 {
-    let mut alphabet = symbols_of(alloc, names, defines)?;
-    add_texts(further, &mut alphabet)?;
+    let mut alphabet = symbols_of(alloc, names, written)?;
+    'lines: for line in lines {
+        add_texts(line.declares.symbols(), &mut alphabet)?;
+    }
     Ok(alphabet)
 }
 
@@ -168,38 +173,36 @@ fn numbers_of(
     Ok(symbols)
 }
 
-/// The definition of a statement of a file, its leaves resolved.
+/// A definition that a file writes, its leaves resolved.
 fn define(
     alloc: Global,
-    file: &str,
     names: &Names,
     table: &SymbolTable,
-    define: &Define<Raw>,
+    one: &WrittenDefine,
 ) -> Result<Definition, AllocError>
-    ensures { IfOk result (λ definition. entry_of definition ≡ entry_in names.now table.now (stated file.now (statement_of define.now))) }
+    ensures { IfOk result (λ definition. entry_of definition ≡ entry_in names.now table.now (written_of one.now)) }
 {
-    let expr = resolve(alloc, names, table, &define.expr)?;
+    let expr = resolve(alloc, names, table, &one.define.expr)?;
     Ok(Definition {
-        name: define.name.clone()?,
-        line: define.line,
-        file: Text::of(alloc, file)?,
+        name: one.define.name.clone()?,
+        line: one.define.line,
+        file: one.file.clone()?,
         body: Body::Xfst(expr),
     })
 }
 
-/// The definitions of the statements of a file, their leaves resolved.
+/// The definitions that files write, their leaves resolved.
 fn define_each(
     alloc: Global,
-    file: &str,
     names: &Names,
     table: &SymbolTable,
-    defines: &[Define<Raw>],
+    written: &[WrittenDefine],
 ) -> Result<Vec<Definition>, AllocError>
-    ensures { IfOk result (λ definitions. map entry_of definitions.items ≡ map (entry_in names.now table.now) (definitions_in file.now (map statement_of defines.now))) }
+    ensures { IfOk result (λ definitions. map entry_of definitions.items ≡ map (entry_in names.now table.now) (map written_of written.now)) }
 {
     let mut definitions = Vec::new(alloc);
-    'defines: for one in defines {
-        definitions.push(define(alloc, file, names, table, one)?)?;
+    'written: for one in written {
+        definitions.push(define(alloc, names, table, one)?)?;
     }
     Ok(definitions)
 }
@@ -235,22 +238,21 @@ fn check(alloc: Global, definitions: &[Definition], forms: &[Form]) -> Result<()
 /// heavy, or one that can't be built yet. Whatever it answers, the table begins with what it was.
 fn plan_over(
     alloc: Global,
-    file: &str,
     names: &Names,
     alphabet: &SymbolTable,
-    defines: &[Define<Raw>],
+    written: &[WrittenDefine],
     table: &mut SymbolTable,
 ) -> Result<Plan, PlanError>
-    requires names { names.now ≡ names_of (definitions_in file.now (map statement_of defines.now)) }
+    requires names { names.now ≡ names_of (map written_of written.now) }
     requires apart { IsDistinct names.now }
-    requires symbols { All (Contains alphabet.now) (symbols_of_all names.now (map statement_of defines.now)) }
+    requires symbols { All (Contains alphabet.now) (symbols_of_all names.now (map written_of written.now)) }
     requires distinct { IsDistinct alphabet.now }
     requires room { length table.old + length alphabet.now ≤ 16777216 }
-    ensures plan { (manifest : List Placed) → (project_in (said_by manifest file.now (map statement_of defines.now))).alphabet ≡ alphabet.now → IsPlanBy definitions_so_far (said_by manifest file.now (map statement_of defines.now)) table.old table.new result }
+    ensures plan { (manifest : List Placed) → (project_in (said_of manifest (map written_of written.now))).alphabet ≡ alphabet.now → IsPlanBy definitions_so_far (said_of manifest (map written_of written.now)) table.old table.new result }
     ensures front { take (length table.old) table.new ≡ table.old }
 {
     intern_all(alphabet, table)?;
-    let definitions = define_each(alloc, file, names, table, defines)?;
+    let definitions = define_each(alloc, names, table, written)?;
     let order = match order_in(alloc, &definitions) {
         Ok(order) => order,
         Err(error) => return Err(error),
@@ -269,28 +271,31 @@ fn plan_over(
     })
 }
 
-/// The plan of the statements of a file of this name and of further symbols, whose symbols are put into the table. They
-/// are refused for their first fault: a name that stands twice or names that are too many, symbols that are too many,
-/// or one of their definitions. Whatever it answers, the table begins with what it was.
-pub fn plan_of_statements(
+/// The plan of the definitions that the files of a manifest with these lines write, whose symbols are put into the table. They
+/// are refused for their first fault: a name that stands twice or names that are too many, symbols that are too many, a name
+/// that a line requires and that isn't defined, or one of their definitions. Whatever it answers, the table begins with what
+/// it was.
+pub fn plan_of(
     alloc: Global,
-    file: &str,
-    defines: &[Define<Raw>],
-    further: &[Text],
+    lines: &[ManifestLine],
+    written: &[WrittenDefine],
     table: &mut SymbolTable,
 ) -> Result<Plan, PlanError>
-    requires symbols { All IsSymbol further.now }
+    requires symbols { All IsSymbol (symbols_of (map placed_of lines.now)) }
     requires room { length table.old ≤ most_before }
-    ensures plan { (manifest : List Placed) → symbols_of manifest ≡ further.now → IsPlanBy said_so_far (said_by manifest file.now (map statement_of defines.now)) table.old table.new result }
+    ensures plan { IsPlanBy said_so_far (said_of (map placed_of lines.now) (map written_of written.now)) table.old table.new result }
     ensures front { take (length table.old) table.new ≡ table.old }
 {
-    let names = match names_of(alloc, file, defines) {
+    let names = match names_of(alloc, written) {
         Ok(names) => names,
         Err(error) => return Err(error),
     };
-    let alphabet = alphabet_of(alloc, &names, defines, further)?;
+    let alphabet = alphabet_of(alloc, &names, written, lines)?;
     if alphabet.len() > MOST_SYMBOLS {
         return Err(refused(alloc, "project", 0, Why::LimitSymbols));
     }
-    plan_over(alloc, file, &names, &alphabet, defines, table)
+    if let Some(line) = first_unknown(&names, lines) {
+        return Err(refused(alloc, "project", line.number, Why::UnknownName));
+    }
+    plan_over(alloc, &names, &alphabet, written, table)
 }

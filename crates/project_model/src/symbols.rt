@@ -1,16 +1,17 @@
 ghost use Rattle.std.specs.Prelude.{◌≡◌, ◌≤◌, ◌+◌, [], length, map, IfOk, OnOk};
 ghost use Rattle.std.specs.List.{flat_map};
-ghost use Rattle.regex_reader.specs.Files.{statement_of};
 ghost use Rattle.expr_leaves.specs.Leaves.{seen};
 ghost use Rattle.project_meaning.specs.Leaves.{written};
 ghost use Rattle.project_sources.specs.Limits.{most_symbols};
+ghost use Rattle.project_model.specs.Answers.{written_of};
 ghost use Rattle.project_model.specs.Gathered.{gathered, symbol_beside, symbols_of_all};
 
 use crate::names::Names;
+use crate::written::WrittenDefine;
 use expr_leaves::leaves;
 use fsm_base::SymbolTable;
 use project_sources::MOST_SYMBOLS;
-use regex_ast::{Define, Raw};
+use regex_ast::Raw;
 use std::alloc::{AllocError, Global};
 
 /// The text of the symbol that a leaf stands for.
@@ -50,13 +51,13 @@ fn add_symbols(leaves: &[&Raw], names: &Names, table: &mut SymbolTable) -> Resul
 pub fn symbols_of(
     alloc: Global,
     names: &Names,
-    defines: &[Define<Raw>],
+    written: &[WrittenDefine],
 ) -> Result<SymbolTable, AllocError>
-    ensures { IfOk result (λ table. table ≡ gathered [] (symbols_of_all names.now (map statement_of defines.now))) }
+    ensures { IfOk result (λ table. table ≡ gathered [] (symbols_of_all names.now (map written_of written.now))) }
 {
     let mut table = SymbolTable::new(alloc);
-    'defines: for define in defines {
-        add_symbols(&leaves(alloc, &define.expr)?, names, &mut table)?;
+    'written: for one in written {
+        add_symbols(&leaves(alloc, &one.define.expr)?, names, &mut table)?;
     }
     Ok(table)
 }

@@ -1,6 +1,6 @@
 -- Edits have one outcome, by the form of their rows.
 use Rattle.std.proofs.Common.{[], ◌∷◌, Ok, Err, sym, ap, ◌∙◌, inl, inr}
-use Rattle.project_sources.specs.Rows.{IsOne}
+use Rattle.project_manifest.specs.Rows.{IsOne}
 use Rattle.project_sources.specs.Edits.{Edit, put, splice, drops, Holding, EditRow, absent, bad_splice, too_many, too_large, edit_rows, EditFault, IsRefused, after}
 use Rattle.project_sources.specs.Laws.{OneOutcome}
 use Rattle.project_sources.proofs.Once.{first_one}

@@ -1,10 +1,6 @@
 -- The limits of a project.
 use Rattle.std.specs.Prelude.{ℕ}
 
--- the most files besides the manifest
-unfoldable pub most_files : ℕ
-most_files = 64
-
 -- the most bytes of a file
 unfoldable pub most_bytes : ℕ
 most_bytes = 1048576

@@ -1,6 +1,6 @@
 //! What sources say: the lines of a manifest, the definitions of the files that it names, and the first fault; and edits of
-//! sources. Definitions, which the contracts of the crates above cite, and their laws. Read `specs/Manifests.antt`,
-//! `Sources.antt`, `Rows.antt` and `Faults.antt`, in this order; then `Edits.antt`.
+//! sources. Definitions, which the contracts of the crates above cite, and their laws. Read `specs/Rows.antt` and `Lines.antt` of
+//! project_manifest, then `specs/Sources.antt` and `Faults.antt` here, in this order; then `Edits.antt`.
 //!
 //! [`MOST_BYTES`], [`MOST_NAMES`] and [`MOST_SYMBOLS`] are the limits of a project. The functions do nothing when they run: each
 //! names a law, which its contract states.

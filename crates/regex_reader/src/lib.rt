@@ -3,6 +3,7 @@
 //!
 //! - [`read_xfst`]: the definitions of a file of `define` commands.
 //! - [`read_expr`]: an expression alone, as an entry of a lexicon has one.
+//! - [`is_name`]: whether a text may be defined.
 //! - [`one_reading`], [`one_expression`]: the laws that a text says one thing only.
 #![tactic(auto)]
 
@@ -17,4 +18,5 @@ mod xfst;
 
 pub use entry::read_expr;
 pub use laws::{one_expression, one_reading};
+pub use name::is_name;
 pub use xfst::read_xfst;

@@ -33,13 +33,13 @@ use std::rt::Files;
 /// What came of a row whose value is a text.
 fn said_of_text(alloc: Global, field: &str, text: &str) -> Result<Option<String>, AllocError> {
     let said = match field {
-        "nfc" => texts::said_of_form(alloc, text)?,
-        "order" => texts::said_of_order(alloc, text)?,
-        "intern" => texts::said_of_symbols(alloc, text)?,
-        "cut" => texts::said_of_cut(alloc, text)?,
-        "tokens" => tokens::said_of_tokens(alloc, text)?,
+        "nfc" => texts::said_of_form(alloc, text),
+        "order" => texts::said_of_order(alloc, text),
+        "intern" => texts::said_of_symbols(alloc, text),
+        "cut" => texts::said_of_cut(alloc, text),
+        "tokens" => tokens::said_of_tokens(alloc, text),
         _ => return Ok(None),
-    };
+    }?;
     Ok(Some(said))
 }
 
@@ -59,17 +59,17 @@ fn said_of_stream(alloc: Global, field: &str, value: &str) -> Result<Option<Stri
     let text = text.trim_start();
     let bytes = undone(alloc, text)?;
     let said = match field {
-        "lines" => sources::said_of_lines(alloc, &numbers, &bytes)?,
-        "reader" => sources::said_of_reader(alloc, &numbers, Some(&bytes))?,
-        "no_reader" => sources::said_of_reader(alloc, &numbers, None)?,
-        "write" => sinks::said_of_writes(alloc, &numbers, &bytes)?,
-        "write_all" => sinks::said_of_write_all(alloc, &numbers, &bytes)?,
-        "writer" => sinks::said_of_writer(alloc, &bytes)?,
-        "no_writer" => sinks::said_of_no_writer(alloc, &bytes)?,
-        "outbox" => sinks::said_of_outbox(alloc, &numbers, text)?,
-        "read" => files::said_of_memory(alloc, &numbers, text)?,
+        "lines" => sources::said_of_lines(alloc, &numbers, &bytes),
+        "reader" => sources::said_of_reader(alloc, &numbers, Some(&bytes)),
+        "no_reader" => sources::said_of_reader(alloc, &numbers, None),
+        "write" => sinks::said_of_writes(alloc, &numbers, &bytes),
+        "write_all" => sinks::said_of_write_all(alloc, &numbers, &bytes),
+        "writer" => sinks::said_of_writer(alloc, &bytes),
+        "no_writer" => sinks::said_of_no_writer(alloc, &bytes),
+        "outbox" => sinks::said_of_outbox(alloc, &numbers, text),
+        "read" => files::said_of_memory(alloc, &numbers, text),
         _ => return Ok(None),
-    };
+    }?;
     Ok(Some(said))
 }
 

@@ -7,7 +7,6 @@
 mod brackets;
 mod definition;
 mod list;
-mod name;
 mod split;
 
 pub use brackets::is_too_deep;

@@ -3,8 +3,8 @@ ghost use Rattle.std.specs.Option.{option_map};
 ghost use Rattle.twolc_grammar.specs.Sections.{is_semicolon, tokens_of};
 ghost use Rattle.twolc_statements.specs.Reading.{IsAtomSplit, IsEndSplit, IsEqualsSplit, IsNameSplit, is_equals};
 
-use crate::name::is_name;
 use fsm_base::Text;
+use regex_reader::is_name;
 use twolc_tokens::{Operator, Placed, Token};
 
 /// The tokens before the `;` at the end.

@@ -1,8 +1,11 @@
 use Rattle.std.proofs.Common.{◌≡◌, ◌-◌, map, sym, ap, ◌∙◌, arith}
-use Rattle.regex_ast.specs.Terms.{term, terms_of, links_of, contexts_of, steps_by}
+use Rattle.regex_ast.specs.Terms.{term, terms_of, links_of, contexts_of, steps_by, groups_of}
+use Rattle.regex_ast.specs.declared.expr.Atom.{Atom}
+use Rattle.regex_ast.specs.declared.expr.Expr.TheViews.{out-RuleSet}
 use Rattle.regex_ast.proofs.Rows.{term-Concat, term-Chain, term-Ignore, term-Only, term-Steps}
 use Rattle.expr_kinds.specs.Atoms.{is_known_at, is_symbol, leaves_at, weights_at}
-use Rattle.expr_kinds.specs.Forms.{as_language, form_in, form_in_contexts, form_in_each, form_in_links, form_in_steps, heavier, nothing, with_kind}
+use Rattle.expr_kinds.specs.Built.{inserts_alone}
+use Rattle.expr_kinds.specs.Forms.{as_language, built_if, form_in, form_in_contexts, form_in_each, form_in_links, form_in_steps, heavier, nothing, with_kind}
 use Rattle.expr_kinds.specs.Weights.{count_of}
 use Rattle.expr_kinds.specs.declared.form.Kind.TheVariants.{Relation}
 use Rattle.expr_kinds.proofs.Sets.{term_rules}
@@ -45,7 +48,9 @@ pub in_expression-returns-in-Rules : goal.in_expression-returns-in-Rules
 in_expression-returns-in-Rules t c =
     let is = ap term c.in-Rules.is ∙ term_rules c.in-Rules.rules in
     let all = rw c.deref-in-Rules.ensures.value at c.in_groups.ensures in
-    c.with_kind.ensures ∙ ap (λ f. with_kind f Relation) (c.heavier-in-Rules.ensures ∙ ap (λ f. heavier f 1) (c.as_language-in-Rules.ensures ∙ ap as_language all)) ∙ ap (form_in (leaves_at c.args.names.now) (weights_at c.args.names.now) (is_known_at c.args.names.now) is_symbol) (sym is)
+    let alone = rw c.deref-in-Rules-2.ensures.value at c.inserts_alone.ensures in
+    c.built_if-in-Rules.ensures ∙ ap (λ b. built_if c.with_kind.result b) alone
+    ∙ ap (λ f. built_if f (inserts_alone (groups_of (out-RuleSet Atom c.in-Rules.rules).groups.items))) (c.with_kind.ensures ∙ ap (λ f. with_kind f Relation) (c.heavier-in-Rules.ensures ∙ ap (λ f. heavier f 1) (c.as_language-in-Rules.ensures ∙ ap as_language all))) ∙ ap (form_in (leaves_at c.args.names.now) (weights_at c.args.names.now) (is_known_at c.args.names.now) is_symbol) (sym is)
 
 pub in_expression-returns-in-Steps : goal.in_expression-returns-in-Steps
 in_expression-returns-in-Steps t c =

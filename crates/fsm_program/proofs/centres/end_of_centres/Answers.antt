@@ -1,4 +1,4 @@
-use Rattle.std.proofs.Common.{◌≡◌, ◌≤◌, ◌+◌, [], arith, get_or, refl, subst, sym}
+use Rattle.std.proofs.Common.{◌≡◌, ◌+◌, [], arith, get_or, refl, subst, sym}
 use Rattle.std.proofs.lemmas.Option.{slice_get-get_or, slice_get_read, slice_get_within}
 use Rattle.project_meaning.specs.Centres.{centres_in}
 use Rattle.project_model.specs.Plans.{body_term}

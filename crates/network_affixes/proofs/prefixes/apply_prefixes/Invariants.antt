@@ -1,6 +1,6 @@
 use Rattle.std.proofs.Common.{◌≡◌, Some, length}
 use Rattle.fsa.specs.Language.{Accepts}
-use Rattle.regex_ast.specs.declared.expr.Prefix.TheVariants.{Contains as Part}
+use Rattle.regex_ast.specs.declared.expr.Prefix.TheVariants.{Not, Contains as Part}
 use Rattle.expr_meaning.specs.Operators.{IsPrefixed}
 use Rattle.network_algebra.specs.Networks.{UsesOnly, all_letters}
 use Rattle.network_affixes.proofs.Alike.{SameWords}
@@ -13,6 +13,7 @@ invariant-prefixes l = record {
   only : UsesOnly (all_letters l.alphabet) l.words;
   done : ArePrefixedBehind l.alphabet l.fn.prefixes l.rest (Accepts l.fn.words) (Accepts l.words);
   settled : l.last ≡ Some Part → SameWords (IsPrefixed l.alphabet Part (Accepts l.words)) (Accepts l.words);
+  turned : l.last ≡ Some Not → SameWords (IsPrefixed l.alphabet Not (IsPrefixed l.alphabet Not (Accepts l.words))) (Accepts l.words);
 }
 
 abbrev pub decreases-prefixes : goal.decreases-prefixes

@@ -11,8 +11,9 @@ use Rattle.regex_ast.specs.declared.expr.Context.{Context}
 use Rattle.regex_ast.specs.declared.expr.Expr.TheViews.{out-Group}
 use Rattle.regex_ast.specs.declared.expr.Group.{Group}
 use Rattle.regex_ast.specs.declared.expr.Mapping.{Mapping}
-use Rattle.regex_ast.specs.Terms.{term, terms_of, links_of, contexts_of, steps_by, mappings_of, groups_of, concat, ignore, maybe, no_term, no_link, or}
+use Rattle.regex_ast.specs.Terms.{term, terms_of, links_of, contexts_of, steps_by, mappings_of, groups_of, concat, ignore, maybe, no_term}
 use Rattle.regex_ast.proofs.Rows.{term-Concat, term-Ignore, term-Chain, term-Only, term-Steps}
+use Rattle.expr_kinds.specs.Built.{has_no_insertion, is_insertion}
 use Rattle.expr_kinds.specs.Kinds.{ChainFits, ContextsFit, EachFits, EachFitsAsLanguage, Fits, MappingsFit, StepsFit, kind_of, kind_of_chain}
 use Rattle.expr_kinds.specs.declared.form.Kind.TheVariants.{Language}
 use Rattle.expr_meaning.specs.Meaning.{In, InChain, InIgnoring, Relates, RelatesChain}
@@ -26,14 +27,14 @@ use Rattle.network_expr.specs.Parts.{kinds, stands}
 use Rattle.network_expr.specs.Built.{AreBuiltOver, ContextsAreBuiltOver, IsBuiltOver, IsChoice, IsMeant, IsNarrowing, LinksAreBuiltOver, MappingsAreBuiltOver, StepsAreBuiltOver}
 use Rattle.network_expr.proofs.Weights.{weight, weight_contexts, weight_mappings, weight_groups, each_halves, links_halves, contexts_halves, steps_halves as steps_lighter}
 use Rattle.network_expr.proofs.Rows.{each_built, each_fits, each_language, chain_built, chain_fits, choice_fits, contexts_built, contexts_fit, steps_built, steps_fit, no_item, one_item, halves_joined, terms_joined, some_terms}
-use Rattle.network_expr.proofs.Meant.{IsChosen, IsChained, IsStepped, AreIn, reduced_for, alone_chosen, chain_for, chain_halves, chain_choice, choice_halves, none_chosen, none_accepted, steps_for, steps_halves, then_stepped, context_one, context_halves, no_contexts, only_meant, words_meant, meant_words, letters_meant, colon_language, maybe_meant, same_meant, turn_alone, turns_meant, prefixed_meant, not_one_meant, ignore_row, ignore_one, ignore_halves, each_kind_language, language_meant, empty_only, given_one, given_two}
+use Rattle.network_expr.proofs.Meant.{IsChosen, IsStepped, AreIn, reduced_for, alone_chosen, chain_for, chain_halves, chain_choice, choice_halves, none_chosen, none_accepted, steps_for, steps_halves, then_stepped, context_one, context_halves, no_contexts, only_meant, words_meant, meant_words, letters_meant, colon_language, maybe_meant, same_meant, turn_alone, turns_meant, prefixed_meant, not_one_meant, ignore_row, ignore_one, ignore_halves, each_kind_language, language_meant, empty_only, given_one, given_two}
 use Rattle.network_affixes.proofs.Suffixed.{suffixed_for}
 use Rattle.network_expr.proofs.Narrowed.{fails, two_links, before_narrowing, halves_fit, narrowed_halves, narrowed_meant, narrowed_only}
 use Rattle.expr_kinds.proofs.Sets.{term_rules, maps_of_is, contexts_in_is}
-use Rattle.network_expr.proofs.Ruled.{MapsReady, ContextsReady, GroupsReady, map_ready, context_ready, group_ready, side_of_is, take_whole, rules_meant}
+use Rattle.network_expr.proofs.Ruled.{MapsReady, ContextsReady, GroupsReady, map_ready, context_ready, group_ready, side_of_is, take_whole, rules_meant, insertion_meant, else_second}
 use Rattle.network_rules.specs.Rules.{AreMaps, AreContexts, AreGroups}
 use Rattle.network_rules.proofs.Rows.{maps_more, contexts_more, groups_more}
-use Rattle.network_rules.proofs.Meaning.{groups_over}
+use Rattle.network_rules.proofs.Meaning.{groups_over, insertion_rows}
 use Rattle.replace_rules.specs.declared.rules.LangMap.{LangMap}
 use Rattle.replace_rules.specs.declared.rules.LangContext.{LangContext}
 use Rattle.replace_rules.specs.declared.rules.LangGroup.{LangGroup}
@@ -466,7 +467,8 @@ pub network_of-replaced-requires : goal.network_of-replaced-requires
 network_of-replaced-requires t c =
     let is = ap term c.in-Rules.is ∙ term_rules c.in-Rules.rules in
     let slice = c.deref-in-Rules.ensures.value in
-    (rw slice (omega (arith, c.decreases, ap weight is)), (c.requires.ground, (rw slice (subst (λ e. IsBuiltOver c.args.parts.now c.args.alphabet.now e) is c.requires.built), rw slice (subst (λ e. Fits (kinds c.args.parts.now) e) is c.requires.fits))))
+    let built = subst (λ e. IsBuiltOver c.args.parts.now c.args.alphabet.now e) is c.requires.built in
+    (rw slice (omega (arith, c.decreases, ap weight is)), (c.requires.ground, (rw slice built.0, (rw slice built.1, rw slice (subst (λ e. Fits (kinds c.args.parts.now) e) is c.requires.fits)))))
 
 pub network_of-returns-in-Rules-clause-meaning : goal.network_of-returns-in-Rules-clause-meaning
 network_of-returns-in-Rules-clause-meaning t c =
@@ -691,6 +693,14 @@ lang_map-part_language-requires-in-Markup-3 t c =
     let weighs = ap (λ (z : Mapping Atom). weight_mappings (mappings_of (z ∷ []))) is in
     (omega (arith, c.decreases, weighs), (c.requires.ground, (built.3, (fits.5, fits.4))))
 
+pub lang_map-part_language-requires-in-Insert : goal.lang_map-part_language-requires-in-Insert
+lang_map-part_language-requires-in-Insert t c =
+    let is = c.in-Insert.is in
+    let built = subst (λ (z : Mapping Atom). MappingsAreBuiltOver c.args.parts.now c.args.alphabet.now (mappings_of (z ∷ []))) is c.requires.built in
+    let fits = subst (λ (z : Mapping Atom). MappingsFit (kinds c.args.parts.now) (mappings_of (z ∷ []))) is c.requires.fits in
+    let weighs = ap (λ (z : Mapping Atom). weight_mappings (mappings_of (z ∷ []))) is in
+    (omega (arith, c.decreases, weighs), (c.requires.ground, (built.0, (fits.1, fits.0))))
+
 pub lang_maps-lang_map-requires : goal.lang_maps-lang_map-requires
 lang_maps-lang_map-requires t c =
     let P = c.args.parts.now in
@@ -763,7 +773,7 @@ replaced-replace-requires-clause-over t c =
     let whole = c.args.groups.now in
     let so_far = subst (λ (z : List (Group Atom)). AreGroups (stands P) A (groups_of z) c.groups.langs.items) (take_whole whole c.groups.group-index c.groups-test.false) c.groups.invariant in
     let are = subst (λ (z : List LangGroup). AreGroups (stands P) A (groups_of whole) z) (sym c.deref-2.ensures.value) so_far in
-    groups_over (stands P) A (groups_of whole) c.deref-2.result.now are
+    groups_over (stands P) A (groups_of whole) c.deref-2.result.now (else_second (is_insertion (groups_of whole)) (has_no_insertion (groups_of whole)) c.requires.alone (sym c.is_insertion.ensures ∙ c.if-is_insertion.false)) are
 
 pub replaced-returns-clause-meaning : goal.replaced-returns-clause-meaning
 replaced-returns-clause-meaning t c =
@@ -773,3 +783,21 @@ replaced-returns-clause-meaning t c =
     let so_far = subst (λ (z : List (Group Atom)). AreGroups (stands P) A (groups_of z) c.groups.langs.items) (take_whole whole c.groups.group-index c.groups-test.false) c.groups.invariant in
     let are = subst (λ (z : List LangGroup). AreGroups (stands P) A (groups_of whole) z) (sym c.deref-2.ensures.value) so_far in
     rules_meant P A c.args.optional whole c.deref-2.result.now c.in_ok-replace.field-0 are c.in_ok-replace.ensures.relation
+
+pub replaced-insertion-requires-clause-one : goal.replaced-insertion-requires-clause-one
+replaced-insertion-requires-clause-one t c =
+    let P = c.args.parts.now in
+    let A = c.args.alphabet.now in
+    let whole = c.args.groups.now in
+    let so_far = subst (λ (z : List (Group Atom)). AreGroups (stands P) A (groups_of z) c.groups.langs.items) (take_whole whole c.groups.group-index c.groups-test.false) c.groups.invariant in
+    let are = subst (λ (z : List LangGroup). AreGroups (stands P) A (groups_of whole) z) (sym c.deref-then-is_insertion.ensures.value) so_far in
+    insertion_rows (stands P) A (groups_of whole) c.deref-then-is_insertion.result.now (sym c.is_insertion.ensures ∙ c.if-is_insertion.true) are
+
+pub replaced-returns-then-is_insertion-clause-meaning : goal.replaced-returns-then-is_insertion-clause-meaning
+replaced-returns-then-is_insertion-clause-meaning t c =
+    let P = c.args.parts.now in
+    let A = c.args.alphabet.now in
+    let whole = c.args.groups.now in
+    let so_far = subst (λ (z : List (Group Atom)). AreGroups (stands P) A (groups_of z) c.groups.langs.items) (take_whole whole c.groups.group-index c.groups-test.false) c.groups.invariant in
+    let are = subst (λ (z : List LangGroup). AreGroups (stands P) A (groups_of whole) z) (sym c.deref-then-is_insertion.ensures.value) so_far in
+    insertion_meant P A c.args.optional whole c.deref-then-is_insertion.result.now c.in_ok-insertion.field-0 (sym c.is_insertion.ensures ∙ c.if-is_insertion.true) are c.in_ok-insertion.ensures.relation

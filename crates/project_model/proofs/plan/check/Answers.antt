@@ -1,6 +1,6 @@
 use Rattle.std.proofs.Common.{inl, inr}
 use Rattle.regex_ast.specs.declared.fault.Why.TheVariants as why
-use Rattle.project_sources.specs.Rows.{First}
+use Rattle.project_manifest.specs.Rows.{First}
 use Rattle.project_sources.specs.Faults.{fault}
 use Rattle.project_model.specs.Answers.{DemandFault, demands}
 use Rattle.project_model.specs.declared.demands.Demand.TheVariants as demand

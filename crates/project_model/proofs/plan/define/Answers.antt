@@ -4,4 +4,5 @@ use Rattle.project_model.proofs.Projecting.{entry_is}
 use Rattle.project_model.proofs.plan.define.Goals as goal
 
 pub returns : goal.returns
-returns c = entry_is c.args.names.now c.args.table.now c.args.file.now (statement_of c.args.define.now) _ _ (term c.in_ok-expr.expr) c.in_ok-clone.ensures.cases c.in_ok-of.ensures c.in_ok-expr.ensures
+returns c =
+    entry_is c.args.names.now c.args.table.now c.args.one.now.file (statement_of c.args.one.now.define) _ _ (term c.in_ok-expr.expr) c.in_ok-clone.ensures.cases c.in_ok-clone-2.ensures.cases c.in_ok-expr.ensures

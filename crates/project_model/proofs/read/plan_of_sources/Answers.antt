@@ -6,9 +6,7 @@ pub returns-in_default-clause-plan : goal.returns-in_default-clause-plan
 returns-in_default-clause-plan c = without_project c.args.sources.now c.args.table.now c.args.table.now c.refused.result (sym c.in_default.ensures) c.refused.ensures
 
 pub returns-in-Ok-clause-plan : goal.returns-in-Ok-clause-plan
-returns-in-Ok-clause-plan c =
-    let manifest = c.in-Ok.ensures.manifest in
-    c.plan_by.ensures.plan manifest.text (c.in-Some.bytes.now, sym c.in-Some.ensures, manifest.has_text) manifest.says
+returns-in-Ok-clause-plan c = c.plan_by.ensures.plan c.in-Some.bytes.now (sym c.in-Some.ensures) c.in-Ok.ensures.manifest
 
 pub returns-in-Err-clause-plan : goal.returns-in-Err-clause-plan
-returns-in-Err-clause-plan c = without_manifest c.args.sources.now c.in-Some.bytes.now c.args.table.now c.args.table.now c.in-Err.error (sym c.in-Some.ensures) c.in-Err.ensures.error
+returns-in-Err-clause-plan c = without_manifest c.args.sources.now c.in-Some.bytes.now (sym c.in-Some.ensures) c.args.table.now c.args.table.now c.in-Err.error c.in-Err.ensures.error

@@ -1,0 +1,6 @@
+pub mod Newlines
+pub mod Steps
+pub mod Features
+pub mod Closings
+pub mod Reading
+pub mod Sound

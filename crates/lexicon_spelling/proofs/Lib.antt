@@ -1,0 +1,5 @@
+mod Sides
+mod Paths
+pub mod Spelling
+mod Resolved
+pub mod Alphabets

@@ -1,0 +1,133 @@
+ghost use Rattle.std.specs.Prelude.{◌≡◌, ◌*◌, ◌≤◌, ◌++◌, ◌∷◌, [], Err, Ok, IfErr, IfOk, OnOk, length, map};
+ghost use Rattle.fsm_base.specs.Normal.{most_growth};
+ghost use Rattle.project_manifest.specs.Lines.{file_in};
+ghost use Rattle.project_manifest.specs.Rows.{First};
+ghost use Rattle.project_manifest.specs.Sayings.{line_of, placed_of};
+ghost use Rattle.project_sources.specs.Faults.{NamedFault, fault};
+ghost use Rattle.project_sources.specs.Laws.{unbuilt};
+ghost use Rattle.project_sources.specs.Limits.{most_bytes};
+ghost use Rattle.project_sources.specs.Sources.{FilesDefine, stated};
+ghost use Rattle.project_model.specs.Answers.{IsRefusedBy, written_of};
+ghost use Rattle.project_model.specs.Files.{HasDefined, HasPut, IsUnread};
+ghost use Rattle.regex_ast.specs.declared.fault.Fault.{Fault};
+ghost use Rattle.regex_reader.specs.Files.{FaultAt, ReadsAs, statement_of};
+
+use crate::content::text_of_file;
+use crate::plan_error::{PlanError, refused};
+use crate::sources::Sources;
+use crate::written::WrittenDefine;
+use fsm_base::Text;
+use project_manifest::{Declaration, ManifestLine};
+use regex_ast::{Define, Raw, ReadError, Why};
+use regex_reader::read_xfst;
+use std::alloc::{AllocError, Global};
+
+/// The statements of a text of this file.
+fn statements_in(alloc: Global, file: &str, text: &str) -> Result<Vec<Define<Raw>>, PlanError>
+    requires { length text.now ≤ most_growth * most_bytes }
+    ensures read { IfOk result (λ defines. ReadsAs text.now (Ok (map statement_of defines.items))) }
+    ensures error { IfErr result (IsRefusedBy (λ found. (at : FaultAt) × ReadsAs text.now (Err at) × (found ≡ fault file.now at.line at.why))) }
+{
+    match read_xfst(alloc, text) {
+        Ok(defines) => Ok(defines),
+        Err(ReadError::Fault { line, why }) => Err(refused(alloc, file, line, why)),
+        Err(ReadError::Memory(error)) => Err(PlanError::Memory(error)),
+    }
+}
+
+/// Puts definitions of a file behind others.
+fn add_defines(
+    file: &Text,
+    defines: Vec<Define<Raw>>,
+    written: &mut Vec<WrittenDefine>,
+) -> Result<(), AllocError>
+    ensures { OnOk result (map written_of written.new.items ≡ map written_of written.old.items ++ map (stated file.now) (map statement_of defines.items)) }
+{
+    'defines: for define in defines {
+        let file = file.clone()?;
+        written.push(WrittenDefine { file, define })?;
+    }
+    Ok(())
+}
+
+/// Puts the definitions of a text of the file that a line names behind others.
+fn add_text(
+    alloc: Global,
+    line: &ManifestLine,
+    file: &Text,
+    text: &str,
+    written: &mut Vec<WrittenDefine>,
+) -> Result<(), PlanError>
+    requires file { file_in (line_of line.now.declares) ≡ file.now ∷ [] }
+    requires short { length text.now ≤ most_growth * most_bytes }
+    ensures written { OnOk result (HasPut (placed_of line.now) text.now (map written_of written.old.items) (map written_of written.new.items)) }
+    ensures error { IfErr result (IsRefusedBy (IsUnread (placed_of line.now) file.now text.now)) }
+{
+    let Declaration::Definitions { .. } = &line.declares else {
+        return Err(refused(alloc, file.as_str(), 0, Why::NotBuilt));
+    };
+    match statements_in(alloc, file.as_str(), text) {
+        Ok(defines) => {
+            add_defines(file, defines, written)?;
+            Ok(())
+        }
+        Err(error) => Err(error),
+    }
+}
+
+/// Puts the definitions of the file that a line names behind others; or tells its first fault.
+fn add_file(
+    alloc: Global,
+    sources: &Sources,
+    line: &ManifestLine,
+    file: &Text,
+    written: &mut Vec<WrittenDefine>,
+) -> Result<(), PlanError>
+    requires { file_in (line_of line.now.declares) ≡ file.now ∷ [] }
+    ensures written { OnOk result (HasDefined sources.now (placed_of line.now) (map written_of written.old.items) (map written_of written.new.items)) }
+    ensures error { IfErr result (IsRefusedBy (NamedFault unbuilt sources.now (placed_of line.now))) }
+{
+    let Some(content) = sources.get(file.as_str()) else {
+        return Err(refused(alloc, "project", line.number, Why::NoFile));
+    };
+    match text_of_file(alloc, file.as_str(), content) {
+        Ok(text) => add_text(alloc, line, file, text.as_str(), written),
+        Err(error) => Err(error),
+    }
+}
+
+/// Puts the definitions of the file that a line names, if it names one, behind others; or tells its first fault.
+fn add_line(
+    alloc: Global,
+    sources: &Sources,
+    line: &ManifestLine,
+    written: &mut Vec<WrittenDefine>,
+) -> Result<(), PlanError>
+    ensures written { OnOk result (HasDefined sources.now (placed_of line.now) (map written_of written.old.items) (map written_of written.new.items)) }
+    ensures error { IfErr result (IsRefusedBy (NamedFault unbuilt sources.now (placed_of line.now))) }
+{
+    match line.declares.file() {
+        Some(file) => add_file(alloc, sources, line, file, written),
+        None => Ok(()),
+    }
+}
+
+/// The definitions of the files that these lines name, in order; or their first fault.
+pub fn written_in(
+    alloc: Global,
+    sources: &Sources,
+    lines: &[ManifestLine],
+) -> Result<Vec<WrittenDefine>, PlanError>
+    ensures written { IfOk result (λ written. FilesDefine unbuilt sources.now (map placed_of lines.now) (map written_of written.items)) }
+    ensures faultless { OnOk result ((found : Fault) → First (NamedFault unbuilt sources.now) (map placed_of lines.now) found → ⊥) }
+    ensures error { IfErr result (IsRefusedBy (First (NamedFault unbuilt sources.now) (map placed_of lines.now))) }
+{
+    let mut written = Vec::new(alloc);
+    'lines: for line in lines {
+        match add_line(alloc, sources, line, &mut written) {
+            Ok(()) => {}
+            Err(error) => return Err(error),
+        }
+    }
+    Ok(written)
+}

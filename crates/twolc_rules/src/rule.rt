@@ -1,0 +1,69 @@
+ghost use Rattle.std.specs.Prelude.{◌≡◌, IfOk, IfSome};
+ghost use Rattle.std.specs.Option.{option_map};
+ghost use Rattle.twolc_expressions.specs.Reading.{IsFound};
+ghost use Rattle.twolc_grammar.specs.Sections.{tokens_of};
+ghost use Rattle.twolc_grammar.specs.Statements.{IsStatement, in_rules, kind_of, rule};
+ghost use Rattle.twolc_rules.specs.Reading.{rule_view};
+
+use crate::contexts::contexts_in;
+use crate::head::{split_atom, split_operator, split_quoted};
+use fsm_base::Text;
+use regex_ast::{Raw, RuleKind, TwoLevelRule};
+use std::alloc::{AllocError, Global};
+use twolc_atoms::{KnownNames, centre_in};
+use twolc_tokens::{Operator, Placed};
+
+/// The rule that the tokens are where these names are known; `None` where they are none. It keeps the line that is passed, in
+/// which the first of them begins.
+pub fn rule_in(
+    alloc: Global,
+    names: &KnownNames,
+    line: u32,
+    tokens: &[Placed],
+) -> Result<Option<TwoLevelRule<Raw>>, AllocError>
+    ensures says { IfOk result (λ found. IsFound (λ r. IsStatement names.now in_rules (tokens_of tokens.now) (rule r)) (option_map rule_view found)) }
+    ensures at { IfOk result (λ found. IfSome found (λ r. r.line ≡ line)) }
+{
+    let Some((name, behind_name)) = split_quoted(tokens) else {
+        return Ok(None);
+    };
+    let Some((centre, behind_centre)) = split_atom(behind_name) else {
+        return Ok(None);
+    };
+    let Some((arrow, rest)) = split_operator(behind_centre) else {
+        return Ok(None);
+    };
+    let Some(kind) = kind_of(arrow) else {
+        return Ok(None);
+    };
+    let Some(pair) = centre_in(alloc, names, centre.as_str())? else {
+        return Ok(None);
+    };
+    if rest.is_empty() {
+        return Ok(None);
+    }
+    let Some(contexts) = contexts_in(alloc, names, rest)? else {
+        return Ok(None);
+    };
+    let name = Text::of(alloc, name.as_str())?;
+    Ok(Some(TwoLevelRule {
+        name,
+        line,
+        pair,
+        kind,
+        contexts,
+    }))
+}
+
+/// The kind of rule that an arrow is.
+fn kind_of(arrow: Operator) -> Option<RuleKind>
+    ensures { result ≡ kind_of arrow }
+{
+    match arrow {
+        Operator::Only => Some(RuleKind::Only),
+        Operator::Must => Some(RuleKind::Must),
+        Operator::Both => Some(RuleKind::Both),
+        Operator::Never => Some(RuleKind::Never),
+        _ => None,
+    }
+}
