@@ -19,8 +19,8 @@ SECONDS = 300
 WORDS = 4_000
 SEED = 11
 SYLLABLES = [consonant + vowel for consonant in 'bdfgklmnpr' for vowel in 'aeiou']
-# classes of nouns, each with a feature and two values; one more feature counts the parts of a compound
-CLASSES = 22
+# classes of nouns, each with a feature and two values; one more feature counts the parts of a compound. foma reads no `0` in a flag
+CLASSES = 'ABCDEFGHIJKLMNOPQRSTUV'
 
 
 def stem(number):
@@ -42,16 +42,17 @@ def ending(group, value):
 def flagged(entries):
     """The text of a lexicon of compounds, with so many entries, and the words that it has. A noun sets the value of its class; behind it stands the
     ending of this value, which sets the class back. Between two nouns stands a seam."""
-    flags = ['@%s.K%d.%s@' % (kind, group, value) for kind in 'PR' for group in range(CLASSES) for value in 'ab'] + ['@C.K%d@' % group for group in range(CLASSES)]
+    flags = ['@%s.%s.%s@' % (kind, group, value) for kind in 'PR' for group in CLASSES for value in 'ab'] + ['@C.%s@' % group for group in CLASSES]
     flags += ['@D.PARTS@', '@R.PARTS.1@', '@R.PARTS.2@', '@P.PARTS.1@', '@P.PARTS.2@', '@P.PARTS.3@']
-    nouns = [(stem(7 * number % 125_000), number % CLASSES, number // CLASSES % 2) for number in range(entries - 3 - 2 * CLASSES - 2)]
+    groups = len(CLASSES)
+    nouns = [(stem(7 * number % 125_000), number % groups, number // groups % 2) for number in range(entries - 3 - 2 * groups - 2)]
     lines = ['Multichar_Symbols +N +Sg ' + ' '.join(flags), 'LEXICON Root']
     lines += ['@D.PARTS@@P.PARTS.1@ Noun;', '@R.PARTS.1@@P.PARTS.2@ Noun;', '@R.PARTS.2@@P.PARTS.3@ Noun;', 'LEXICON Noun']
-    lines += ['%s@P.K%d.%s@ End;' % (part, group, 'ab'[value]) for part, group, value in nouns]
+    lines += ['%s@P.%s.%s@ End;' % (part, CLASSES[group], 'ab'[value]) for part, group, value in nouns]
     lines += ['LEXICON End']
-    for group in range(CLASSES):
+    for group, feature in enumerate(CLASSES):
         for value in (0, 1):
-            flag = '@R.K%d.%s@@C.K%d@' % (group, 'ab'[value], group)
+            flag = '@R.%s.%s@@C.%s@' % (feature, 'ab'[value], feature)
             lines.append('+Sg%s:%s%s Rest;' % (flag, ending(group, value), flag))
     lines += ['LEXICON Rest', '+N:0 #;', '-:0 Root;', 'END', '']
 
