@@ -386,10 +386,15 @@ class Expression:
 
 def undone(text):
     """The text that a row's text with escapes stands for."""
-    parts = {'n': b'\n', 't': b'\t', 'r': b'\r'}
-    found = b''
-    for plain_part, hexes, letter in re.findall(r'([^\\]+)|\\x(..)|\\(.)', text):
-        found += plain_part.encode() or (bytes([int(hexes, 16)]) if hexes else parts.get(letter, letter.encode()))
+    letters, found = {'n': '\n', 't': '\t', 'r': '\r'}, b''
+    escapes = r'([^\\]+)|\\\{(\d+)\}(.*?)\\\}|\\\((\d+)\)(.)|\\x(..)|\\(.)'
+    for bare, times, part, count, letter, byte, other in re.findall(escapes, text):
+        if byte:
+            found += bytes([int(byte, 16)])
+        elif times:
+            found += undone(part).encode() * int(times)
+        else:
+            found += (bare or letter * int(count or 0) or letters.get(other, other)).encode()
     return found.decode()
 
 
