@@ -40,25 +40,28 @@ def ending(group, value):
 
 
 def flagged(entries):
-    """The text of a lexicon of compounds, with so many entries, and the words that it has. A noun sets the value of its class; behind it stands the
-    ending of this value, which sets the class back. Between two nouns stands a seam."""
+    """The text of a lexicon of compounds, with so many entries, and the words that it has. A noun sets the value of its class, in front or behind its
+    stem, of which some have other vowels in the word; behind it stands the ending of this value, which sets the class back. Between two nouns stands a seam."""
     flags = ['@%s.%s.%s@' % (kind, group, value) for kind in 'PR' for group in CLASSES for value in 'ab'] + ['@C.%s@' % group for group in CLASSES]
     flags += ['@D.PARTS@', '@R.PARTS.1@', '@R.PARTS.2@', '@P.PARTS.1@', '@P.PARTS.2@', '@P.PARTS.3@']
-    groups = len(CLASSES)
-    nouns = [(stem(7 * number % 125_000), number % groups, number // groups % 2) for number in range(entries - 3 - 2 * groups - 2)]
     lines = ['Multichar_Symbols +N +Sg ' + ' '.join(flags), 'LEXICON Root']
     lines += ['@D.PARTS@@P.PARTS.1@ Noun;', '@R.PARTS.1@@P.PARTS.2@ Noun;', '@R.PARTS.2@@P.PARTS.3@ Noun;', 'LEXICON Noun']
-    lines += ['%s@P.%s.%s@ End;' % (part, CLASSES[group], 'ab'[value]) for part, group, value in nouns]
-    lines += ['LEXICON End']
+    groups, dice, endings = len(CLASSES), random.Random(SEED), []
+    for number in range(entries - 3 - 2 * groups - 2):
+        group, value = number % groups, number // groups % 2
+        upper = stem(7 * number % 125_000) + ''.join(dice.choices(SYLLABLES, k=2))
+        lower = upper.replace('a', 'e') if dice.random() < 0.3 else upper
+        flag = '@P.%s.%s@' % (CLASSES[group], 'ab'[value])
+        sides = [side + flag if number % 4 < 2 else flag + side for side in (upper, lower)]
+        lines.append('%s:%s End;' % tuple(sides))
+        endings.append(lower + ending(group, value))
+    lines.append('LEXICON End')
     for group, feature in enumerate(CLASSES):
         for value in (0, 1):
             flag = '@R.%s.%s@@C.%s@' % (feature, 'ab'[value], feature)
             lines.append('+Sg%s:%s%s Rest;' % (flag, ending(group, value), flag))
     lines += ['LEXICON Rest', '+N:0 #;', '-:0 Root;', 'END', '']
-
-    def word(dice):
-        return ''.join(part + ending(group, value) for part, group, value in dice.choices(nouns, k=dice.choice([1, 1, 2, 3])))
-    return '\n'.join(lines), word
+    return '\n'.join(lines), lambda dice: ''.join(dice.choices(endings, k=dice.choice([1, 1, 2, 3])))
 
 
 def told(name, seconds, memory, ours=None):
