@@ -12,11 +12,12 @@ use Rattle.project_sources.specs.Sources.{Said, project_in}
 use Rattle.project_sources.specs.Faults.{rows_so_far}
 use Rattle.project_sources.specs.Laws.{unbuilt as no_readers}
 use Rattle.project_sources.proofs.Once.{one_answer, unbuilt_exact}
-use Rattle.fsm_program.specs.Loaded.{AreNames, IsLoadedFrom, LoadedView}
+use Rattle.project_store.specs.Loaded.{AreNames, IsLoadedFrom, LoadedView}
 use Rattle.reply_text.specs.Projects.{accepted_line, refused_line}
 use Rattle.fsm_program.specs.Ends.{Ends, Asked, for_check, for_look, for_help, Loads, Query, no_words, helped, refused, folder_failed, no_memory, checked, answered, IsAnswered, IsNotLoaded, IsWhyUnread, usage_text, status_of}
 use Rattle.fsm_program.specs.Outside.{Outside, ReadNothing, WroteNothing, Wrote, FolderFailed, IsSaid}
-use Rattle.fsm_program.specs.Files.{Reads, IsLoaded, IsLoadError, most_read}
+use Rattle.fsm_program.specs.Files.{IsLoaded, IsLoadError, most_read}
+use Rattle.project_store.specs.Projects.{Reads}
 use Rattle.project_sources.specs.Limits.{most_bytes}
 use Rattle.fsm_program.specs.Running.{most_taken}
 use Rattle.fsm_program.specs.declared.load.LoadError.{LoadError}

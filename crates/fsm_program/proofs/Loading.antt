@@ -20,9 +20,11 @@ use Rattle.project_sources.specs.Limits.{most_bytes}
 use Rattle.project_sources.specs.Sources.{FileDefines, FilesDefine, FilesSay, HasText, HaveText, Said, project_in}
 use Rattle.project_sources.specs.Faults.{fault, TextFault, text_rows, ContentFault, FileRow, missing, no_text, unread, file_rows, FileFault, NamedFault, Row, no_project, manifest_text, manifest_lines, in_files, in_said, empty_centre, HasFault, FirstFault, rows_so_far, said_so_far}
 use Rattle.project_sources.specs.Laws.{unbuilt as no_readers}
-use Rattle.fsm_program.specs.Files.{IsLoaded, IsLoadError, Reads, most_read}
-use Rattle.fsm_program.specs.Gathered.{IsGathered, IsOfSources, IsSeen, IsWhyNot}
-use Rattle.fsm_program.specs.Loaded.{LoadedView}
+use Rattle.fsm_program.specs.Files.{IsLoaded, IsLoadError, most_read}
+use Rattle.project_store.specs.Projects.{Reads}
+use Rattle.fsm_program.specs.Gathered.{IsGathered, IsSeen}
+use Rattle.project_store.specs.Projects.{IsOfSources, IsWhyNot}
+use Rattle.project_store.specs.Loaded.{LoadedView}
 use Rattle.fsm_program.specs.declared.load.LoadError.{LoadError}
 use Rattle.fsm_program.specs.declared.load.LoadError.TheVariants.{Failed, Memory, Refused}
 
@@ -284,8 +286,7 @@ loaded_from : (sources : Files) (files : Option Files) (loaded : LoadedView) →
 loaded_from sources files loaded told (said, from, reads) =
     (said, from, told_so (IsGathered sources) (λ fs. Reads fs (Ok (project_in said))) files (λ fs gathered. gathered_says sources fs gathered (Ok (project_in said)) reads) told)
 
-why_from : (sources : Files) (files : Option Files) (before now : ℕ) (error : LoadError) → Told files (IsGathered sources) → ¬ (Rose before now) → IsWhyNot sources error → IsLoadError error files before now
-why_from sources files before now Failed told held why = absurd why
+why_from : (sources : Files) (files : Option Files) (before now : ℕ) (error : StoreError) → Told files (IsGathered sources) → ¬ (Rose before now) → IsWhyNot sources error → IsLoadError (load_error error) files before now
 why_from sources files before now (Memory refused) told held why = tt
 why_from sources files before now (Refused fault) told held why = (told_so (IsGathered sources) (λ fs. Reads fs (Err fault)) files (λ fs gathered. gathered_says sources fs gathered (Err fault) why) told, held)
 
