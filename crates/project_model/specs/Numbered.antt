@@ -6,9 +6,9 @@ use Rattle.fsm_base.specs.declared.letters.Sym.{Sym as Symbol}
 use Rattle.fsm_base.specs.Symbols.{number_of}
 use Rattle.regex_ast.specs.declared.expr.Atom.{Atom}
 use Rattle.regex_ast.specs.declared.expr.Atom.TheVariants.{Sym, Name}
-use Rattle.expr_kinds.specs.Built.{IsBuiltBy}
-use Rattle.project_meaning.specs.Trees.{Body, xfst, lexc, twolc}
+use Rattle.project_meaning.specs.Trees.{Body}
 use Rattle.project_meaning.specs.Leaves.{Leaf, symbol, named}
+use Rattle.project_sources.specs.Built.{BodyIsBuiltBy}
 
 -- a symbol by its number in the table, and a name by its place among the names. An empty text is no symbol: its place is behind
 -- all names
@@ -32,8 +32,6 @@ abbrev pub is_leaf_over : List (List ℕ) → Leaf → Bool
 is_leaf_over alphabet (symbol text) = is_symbol_over alphabet (symbol text)
 is_leaf_over alphabet (named name) = true
 
--- an expression whose leaves are such symbols and names, and whose insertions stand alone in their rules
+-- a body whose leaves are such symbols and names, and whose insertions stand alone in their rules
 abbrev pub IsBodyOver : List (List ℕ) → Body Leaf → Type 0
-IsBodyOver alphabet (xfst e) = IsBuiltBy (is_leaf_over alphabet) (is_symbol_over alphabet) e
-IsBodyOver alphabet (lexc lexicons) = ⊥
-IsBodyOver alphabet (twolc grammar) = ⊥
+IsBodyOver alphabet body = BodyIsBuiltBy (is_leaf_over alphabet) (is_symbol_over alphabet) body
