@@ -2,11 +2,9 @@ pub mod Answers
 pub mod Files
 pub mod Forms
 pub mod Gathered
-pub mod Names
 pub mod Numbered
 pub mod Plans
 pub mod Referring
-pub mod Resolved
 pub mod Sound
 pub mod Sources
 pub mod Stands

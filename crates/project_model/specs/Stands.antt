@@ -9,7 +9,8 @@ use Rattle.project_meaning.specs.Trees.{Body, xfst}
 use Rattle.project_meaning.specs.Leaves.{resolved}
 use Rattle.project_meaning.specs.Projects.{Written, names_of, with_texts}
 use Rattle.project_sources.specs.Sources.{Said, project_in}
-use Rattle.project_model.specs.Numbered.{numbered, numbers_in, IsBodyOver}
+use Rattle.name_resolution.specs.Numbered.{numbered}
+use Rattle.project_model.specs.Numbered.{numbers_in, IsBodyOver}
 use Rattle.project_model.specs.Plans.{PlanView, body_term}
 use Rattle.project_model.specs.declared.definition.Definition.{Definition}
 
