@@ -6,8 +6,9 @@ use Rattle.project_meaning.specs.Trees.{Body}
 use Rattle.project_meaning.specs.Leaves.{resolved}
 use Rattle.project_meaning.specs.Projects.{Written, names_of, with_texts}
 use Rattle.project_sources.specs.Sources.{Said, project_in}
+use Rattle.name_resolution.specs.Numbered.{numbered}
 use Rattle.project_model.specs.Bodies.{mapped_body}
-use Rattle.project_model.specs.Numbered.{numbered, numbers_in, IsBodyOver}
+use Rattle.project_model.specs.Numbered.{numbers_in, IsBodyOver}
 use Rattle.project_model.specs.Plain.{body_of}
 use Rattle.project_model.specs.Plans.{PlanView}
 use Rattle.project_model.specs.declared.definition.Definition.{Definition}

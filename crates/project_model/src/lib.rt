@@ -16,7 +16,6 @@ mod plan;
 mod plan_error;
 mod read;
 mod references;
-mod resolve;
 mod sources;
 mod symbols;
 mod unknown;

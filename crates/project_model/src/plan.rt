@@ -20,15 +20,15 @@ ghost use Rattle.project_model.specs.declared.demands.Demand.TheVariants as dema
 use crate::definition::{Body, Definition};
 use crate::demands::{Demand, first_failing};
 use crate::forms::forms_of;
-use crate::names::{Names, names_of};
+use crate::names::names_of;
 use crate::plan_error::{PlanError, refused};
 use crate::references::order_in;
-use crate::resolve::resolve;
 use crate::symbols::symbols_of;
 use crate::unknown::first_unknown;
 use crate::written::WrittenDefine;
 use expr_kinds::Form;
 use fsm_base::{Sym, SymbolTable, Text};
+use name_resolution::{Names, resolve};
 use project_manifest::ManifestLine;
 use project_sources::MOST_SYMBOLS;
 use regex_ast::Why;

@@ -1,28 +1,17 @@
 ghost use Rattle.std.specs.Prelude.{◌≡◌, ◌≤◌, ◌+◌, [], length, map, IfOk, OnOk};
 ghost use Rattle.std.specs.List.{flat_map};
 ghost use Rattle.expr_leaves.specs.Leaves.{seen};
-ghost use Rattle.project_meaning.specs.Leaves.{written};
 ghost use Rattle.project_sources.specs.Limits.{most_symbols};
 ghost use Rattle.project_model.specs.Answers.{written_of};
 ghost use Rattle.project_model.specs.Gathered.{gathered, symbol_beside, symbols_of_all};
 
-use crate::names::Names;
 use crate::written::WrittenDefine;
 use expr_leaves::leaves;
 use fsm_base::SymbolTable;
+use name_resolution::{Names, symbol_text};
 use project_sources::MOST_SYMBOLS;
 use regex_ast::Raw;
 use std::alloc::{AllocError, Global};
-
-/// The text of the symbol that a leaf stands for.
-pub fn symbol_text(leaf: &Raw) -> &str
-    ensures { result.now ≡ written leaf.now }
-{
-    match leaf {
-        Raw::Run(text) => text.as_str(),
-        Raw::Quoted(text) => text.as_str(),
-    }
-}
 
 /// Puts the symbol of a leaf into a table, where it's new and the table has room for it.
 fn add_symbol(leaf: &Raw, names: &Names, table: &mut SymbolTable) -> Result<(), AllocError>

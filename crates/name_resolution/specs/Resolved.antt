@@ -10,7 +10,7 @@ use Rattle.regex_ast.specs.declared.expr.Step.{Step, CrossWith, Then}
 use Rattle.regex_ast.specs.Terms.{Links, Contexts, Steps, Mappings, Groups, term, maps_of, side_of, contexts_in, mappings_of, contexts_of, or, and, less, between, cross_with, then, plain, markup, insert, then_group}
 use Rattle.expr_leaves.specs.Mapped.{mapped_contexts, mapped_groups, mapped_links, mapped_mappings, mapped_steps}
 use Rattle.project_meaning.specs.Leaves.{leaf_of}
-use Rattle.project_model.specs.Numbered.{numbered}
+use Rattle.name_resolution.specs.Numbered.{numbered}
 
 -- what a leaf is where these names are defined and this table has the symbols
 abbrev pub atom_of : List (List ℕ) → List (List ℕ) → Raw → Atom

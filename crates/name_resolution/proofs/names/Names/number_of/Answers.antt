@@ -1,6 +1,6 @@
 use Rattle.std.proofs.Common.{◌∙◌}
-use Rattle.project_model.proofs.Texts.{numbered, not_numbered}
-use Rattle.project_model.proofs.names.Names.number_of.Goals as goal
+use Rattle.name_resolution.proofs.Texts.{numbered, not_numbered}
+use Rattle.name_resolution.proofs.names.Names.number_of.Goals as goal
 
 pub returns-in-Some : goal.returns-in-Some
 returns-in-Some c = rw (← c.self.view_is) (numbered c.args.name.now c.self.inside.texts.keys c.in-Some.place c.in-Some.ensures.index)

@@ -1,10 +1,9 @@
-use Rattle.std.proofs.Common.{◌≡◌, ◌≤◌, ◌+◌, ℕ, List, length, not, map, sym, ap, subst, ◌∙◌}
+use Rattle.std.proofs.Common.{◌≡◌, ◌<◌, ◌+◌, ◌^◌, ℕ, List, length, not, map, sym, ap, subst, ◌∙◌, arith}
 use Rattle.std.specs.String.{string_bytes}
 use Rattle.fsm_base.proofs.TableLemmas.{list_any-strings, with_text-held, with_text-strings, IsDistinct-strings}
 use Rattle.fsm_base.specs.Symbols.{with_text}
-use Rattle.project_sources.specs.Limits.{most_names}
-use Rattle.project_model.proofs.Texts.{one_longer}
-use Rattle.project_model.proofs.names.Names.add.Goals as goal
+use Rattle.name_resolution.proofs.Texts.{one_longer}
+use Rattle.name_resolution.proofs.names.Names.add.Goals as goal
 
 pub returns-then-contains-clause-new : goal.returns-then-contains-clause-new
 returns-then-contains-clause-new c =
@@ -18,10 +17,10 @@ pub invariant_of-self-2 : goal.invariant_of-self-2
 invariant_of-self-2 c =
     let texts = map string_bytes c.self.inside.texts.keys in
     let now : map string_bytes c.insert_full.new.self.keys ≡ with_text c.args.name.now texts = ap (λ ks. map string_bytes ks) c.in_ok-insert_full.ensures.keys ∙ with_text-strings c.args.name.now c.self.inside.texts.keys _ c.in_ok-owned.ensures.ok in
-    let few : length texts ≤ most_names = subst (λ (v : List (List ℕ)). length v ≤ most_names) (sym c.self.view_is) c.requires in
+    let few : length texts + 1 < 2 ^ 32 = subst (λ (v : List (List ℕ)). length v + 1 < 2 ^ 32) (sym c.self.view_is) c.requires in
     record {
       distinct = IsDistinct-strings c.insert_full.new.self.keys c.in_ok-insert_full.ensures.unique;
-      few = subst (λ (v : List (List ℕ)). length v ≤ most_names + 1) (sym now) (one_longer c.args.name.now texts most_names few);
+      few = subst (λ (v : List (List ℕ)). length v < 2 ^ 32) (sym now) (omega (arith, few, one_longer c.args.name.now texts (length texts) (omega arith)));
     }
 
 pub returns-clause-new : goal.returns-clause-new

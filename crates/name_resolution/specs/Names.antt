@@ -1,13 +1,12 @@
 -- Names in the order in which they came.
-use Rattle.std.specs.Prelude.{◌≤◌, ◌+◌, ℕ, Bool, true, false, List, [], ◌∷◌, length}
+use Rattle.std.specs.Prelude.{◌<◌, ◌^◌, ℕ, Bool, true, false, List, [], ◌∷◌, length}
 use Rattle.word_relations.specs.Words.{IsDistinct}
 use Rattle.project_meaning.specs.Leaves.{Leaf, symbol, named}
-use Rattle.project_sources.specs.Limits.{most_names}
 
--- different names, and at most one more than a project may have
+-- different names, few enough for their places to be numbers of 32 bits
 pub record IsNames (names : List (List ℕ)) : Type 0 where
   pub distinct : IsDistinct names
-  pub few : length names ≤ most_names + 1
+  pub few : length names < 2 ^ 32
 
 abbrev pub is_named : Leaf → Bool
 is_named (named name) = true
