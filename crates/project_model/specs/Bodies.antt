@@ -1,5 +1,5 @@
 -- What bodies are by what is known of their leaves: their kind and weight, whether they fit, and with other leaves.
-use Rattle.std.specs.Prelude.{◌+◌, ℕ, List, [], ◌∷◌, codes, Contains, length, map, sum_by}
+use Rattle.std.specs.Prelude.{◌+◌, ℕ, List, [], ◌∷◌, codes, All, Contains, length, map, sum_by}
 use Rattle.word_relations.specs.Words.{IsDistinct}
 use Rattle.regex_ast.specs.Terms.{Term}
 use Rattle.expr_kinds.specs.Kinds.{Leaves, kind_of, Fits}
@@ -18,7 +18,7 @@ kind_of_body leaves _ = Relation
 
 -- in each expression each operand that must be a language is one
 abbrev pub BodyFitsBy : {A : Type 0} → Leaves A → Body A → Type 0
-BodyFitsBy {A} leaves body = (e : Term A) → Contains (expressions_of body) e → Fits leaves e
+BodyFitsBy leaves body = All (Fits leaves) (expressions_of body)
 
 -- lexicons have names of their own, and one is `Root`
 pub record AreRooted {A : Type 0} (lexicons : List (Lexicon A)) : Type 0 where
@@ -29,16 +29,17 @@ abbrev pub IsFormed : {A : Type 0} → Body A → Type 0
 IsFormed (lexc lexicons) = AreRooted lexicons
 IsFormed _ = Unit {0}
 
--- An entry weighs the pieces of both its sides, or its expression, and one more. Declared symbols, which are a lexicon with the empty
--- name, weigh nothing.
+-- the entries of a lexicon that weigh something: declared symbols, which are a lexicon with the empty name, weigh nothing
+abbrev pub weighty : {A : Type 0} → List ℕ → List (Entry A) → List (Entry A)
+weighty [] entries = []
+weighty (b ∷ bs) entries = entries
+
+-- by the weight of each leaf
 module _ {A : Type 0} (leaf : A → ℕ) where
+  -- the pieces of both sides of an entry, or its expression, and one more
   abbrev pub form_weight : Form A → ℕ
   form_weight (sides upper lower) = length upper + length lower + 1
   form_weight (pairs e) = weight_of leaf e + 1
-
-  abbrev pub weighty : List ℕ → List (Entry A) → List (Entry A)
-  weighty [] entries = []
-  weighty (b ∷ bs) entries = entries
 
   abbrev pub lexicon_weight : Lexicon A → ℕ
   lexicon_weight lexicon = sum_by (λ entry. form_weight entry.form) (weighty lexicon.name lexicon.entries)

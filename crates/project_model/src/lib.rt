@@ -9,8 +9,10 @@
 mod content;
 mod definition;
 mod demands;
+mod entries;
 mod files;
 mod forms;
+mod lexicons;
 mod names;
 mod plan;
 mod plan_error;

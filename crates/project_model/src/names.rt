@@ -22,7 +22,7 @@ pub fn names_of(alloc: Global, written: &[WrittenDefine]) -> Result<Names, PlanE
 {
     let mut names = Names::new(alloc);
     'written: for one in written {
-        if !names.add(one.define.name.as_str())? {
+        if !names.add(one.name.as_str())? {
             return Err(refused_at(alloc, one, Why::Duplicate));
         }
         if names.len() > MOST_NAMES {
@@ -34,7 +34,7 @@ pub fn names_of(alloc: Global, written: &[WrittenDefine]) -> Result<Names, PlanE
 
 /// Refuses a definition.
 fn refused_at(alloc: Global, one: &WrittenDefine, why: Why) -> PlanError
-    ensures { IsRefusal (fault one.now.file one.now.define.line why) result }
+    ensures { IsRefusal (fault one.now.file one.now.line why) result }
 {
-    refused(alloc, one.file.as_str(), one.define.line, why)
+    refused(alloc, one.file.as_str(), one.line, why)
 }

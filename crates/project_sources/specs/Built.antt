@@ -1,17 +1,16 @@
 -- The bodies that are compiled, by two tests: one of the leaves of expressions, where names may stand, and one of the symbols in braces
 -- and on the sides of entries, where none may.
 use Rattle.std.specs.Prelude.{Bool, List, All, IsTrue}
-use Rattle.regex_ast.specs.Terms.{Term}
 use Rattle.expr_kinds.specs.Built.{IsBuiltBy}
 use Rattle.project_meaning.specs.Trees.{Piece, letter, flag, Form, sides, pairs, Lexicon, Body, xfst, lexc, twolc}
 
-module _ {A : Type 0} (is_leaf is_letter : A → Bool) where
-  abbrev pub PieceIsBuiltBy : Piece A → Type 0
-  PieceIsBuiltBy (letter a) = IsTrue (is_letter a)
-  PieceIsBuiltBy (flag f) = Unit {0}
+abbrev pub PieceIsBuiltBy : {A : Type 0} → (A → Bool) → Piece A → Type 0
+PieceIsBuiltBy is_letter (letter a) = IsTrue (is_letter a)
+PieceIsBuiltBy is_letter (flag f) = Unit {0}
 
+module _ {A : Type 0} (is_leaf is_letter : A → Bool) where
   abbrev pub FormIsBuiltBy : Form A → Type 0
-  FormIsBuiltBy (sides upper lower) = All PieceIsBuiltBy upper × All PieceIsBuiltBy lower
+  FormIsBuiltBy (sides upper lower) = All (PieceIsBuiltBy is_letter) upper × All (PieceIsBuiltBy is_letter) lower
   FormIsBuiltBy (pairs e) = IsBuiltBy is_leaf is_letter e
 
   abbrev pub LexiconIsBuiltBy : Lexicon A → Type 0
