@@ -8,7 +8,7 @@ use Rattle.expr_kinds.specs.declared.form.Kind.{Kind}
 use Rattle.expr_kinds.specs.declared.form.Kind.TheVariants.{Relation}
 use Rattle.expr_leaves.specs.Mapped.{mapped, mapped_contexts}
 use Rattle.project_meaning.specs.Trees.{Form, sides, pairs, Entry, Lexicon, Side, nothing, anything, one, member, Pair, Part, pair, called, Set, PairDefinition, Rule, Grammar, Body, xfst, lexc, twolc}
-use Rattle.project_meaning.specs.Leaves.{expressions_of}
+use Rattle.project_meaning.specs.Leaves.{expressions_in, expressions_of}
 use Rattle.lexicon_spelling.specs.Mapped.{mapped_lexicon}
 
 -- an expression has its own kind, lexicons and grammars are relations
@@ -17,6 +17,12 @@ kind_of_body leaves (xfst e) = kind_of leaves e
 kind_of_body leaves _ = Relation
 
 -- in each expression each operand that must be a language is one
+abbrev pub FormFitsBy : {A : Type 0} → Leaves A → Form A → Type 0
+FormFitsBy leaves form = All (Fits leaves) (expressions_in form)
+
+abbrev pub LexiconFitsBy : {A : Type 0} → Leaves A → Lexicon A → Type 0
+LexiconFitsBy leaves lexicon = All (λ entry. FormFitsBy leaves entry.form) lexicon.entries
+
 abbrev pub BodyFitsBy : {A : Type 0} → Leaves A → Body A → Type 0
 BodyFitsBy leaves body = All (Fits leaves) (expressions_of body)
 
