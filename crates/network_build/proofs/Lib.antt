@@ -1,3 +1,4 @@
+mod Bodies
 pub mod Built
 mod Free
 mod Sounds
