@@ -40,14 +40,16 @@ use Rattle.project_meaning.specs.Meaning.{InExpression, Word, BodyRelates, Meani
 use Rattle.project_meaning.proofs.Depths.{names_unfold}
 use Rattle.lookup.specs.Answering.{IsOverAlphabet}
 use Rattle.project_sources.specs.Sources.{Said, project_in}
-use Rattle.project_model.specs.Numbered.{IsBodyOver, is_leaf_over, is_symbol_over, numbered}
+use Rattle.name_resolution.specs.Numbered.{numbered}
+use Rattle.project_model.specs.Numbered.{IsBodyOver, is_leaf_over, is_symbol_over}
 use Rattle.project_model.specs.Plans.{body_term}
-use Rattle.project_model.specs.Resolved.{atom_of}
+use Rattle.name_resolution.specs.Resolved.{atom_of}
 use Rattle.project_model.specs.Stands.{Entry, entry_in, entry_of}
 use Rattle.project_model.proofs.Alphabets.{at_number}
 use Rattle.project_model.proofs.Expressions.{OfExpression, expression_of, names_said}
-use Rattle.project_model.proofs.Leaves.{leaf_cases}
-use Rattle.project_model.proofs.Mapped.{mapped_built, mapped_twice}
+use Rattle.name_resolution.proofs.Leaves.{leaf_cases}
+use Rattle.name_resolution.proofs.Mapped.{mapped_twice}
+use Rattle.project_model.proofs.Mapped.{mapped_built}
 use Rattle.project_model.proofs.Referring.{at_map}
 use Rattle.project_model.specs.declared.definition.Definition.{Definition}
 use Rattle.fsm_program.specs.Building.{IsBuiltAt}

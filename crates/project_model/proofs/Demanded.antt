@@ -26,9 +26,9 @@ use Rattle.project_sources.specs.Faults.{fault, fault_of, is_built_leaf, is_buil
 use Rattle.project_manifest.proofs.Firsts.{first_alike}
 use Rattle.project_model.specs.Answers.{DemandFault, DoesMeet, Meets, demands, why_not}
 use Rattle.project_model.specs.Forms.{AreDefined, AreForms}
-use Rattle.project_model.specs.Numbered.{numbered}
+use Rattle.name_resolution.specs.Numbered.{numbered}
 use Rattle.project_model.specs.Plans.{body_term}
-use Rattle.project_model.specs.Resolved.{atom_of}
+use Rattle.name_resolution.specs.Resolved.{atom_of}
 use Rattle.project_model.specs.Stands.{Entry, entry_of, entry_in, expression_in}
 use Rattle.project_model.specs.declared.definition.Definition.{Definition}
 use Rattle.project_model.specs.declared.demands.Demand.{Demand}
@@ -36,8 +36,9 @@ use Rattle.project_model.specs.declared.demands.Demand.TheVariants as demand
 use Rattle.project_model.proofs.Built.{All-front, All-back}
 use Rattle.project_model.proofs.Alphabets.{number_within}
 use Rattle.project_model.proofs.Expressions.{same_some}
-use Rattle.project_model.proofs.Leaves.{leaf_cases}
-use Rattle.project_model.proofs.Mapped.{mapped_built, mapped_twice}
+use Rattle.name_resolution.proofs.Leaves.{leaf_cases}
+use Rattle.name_resolution.proofs.Mapped.{mapped_twice}
+use Rattle.project_model.proofs.Mapped.{mapped_built}
 use Rattle.project_model.proofs.Referring.{count, referred_among}
 use Rattle.project_model.proofs.Told.{IsTold, told_fits, told_weight}
 

@@ -9,7 +9,7 @@ use Rattle.expr_leaves.specs.Mapped.{mapped}
 use Rattle.project_meaning.specs.Trees.{Body, xfst, lexc, twolc}
 use Rattle.project_meaning.specs.Leaves.{leaf_of, resolved}
 use Rattle.project_meaning.specs.Projects.{Written}
-use Rattle.project_model.specs.Numbered.{numbered}
+use Rattle.name_resolution.specs.Numbered.{numbered}
 use Rattle.project_model.specs.Stands.{Entry, entry_of, entry_in, expression_in}
 use Rattle.project_model.specs.declared.definition.Definition.{Definition}
 

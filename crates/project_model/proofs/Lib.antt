@@ -1,6 +1,4 @@
 mod Filed
-mod Rowed
-mod Texts
 mod NameSteps
 pub mod Gathering
 mod Built

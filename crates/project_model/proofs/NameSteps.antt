@@ -15,7 +15,7 @@ use Rattle.project_model.specs.Answers.{IsRefusal, IsRefusedBy, written_of}
 use Rattle.project_model.specs.declared.plan_error.PlanError.{PlanError}
 use Rattle.project_model.specs.declared.plan_error.PlanError.TheVariants.{Refused, Memory}
 use Rattle.project_model.specs.declared.written.WrittenDefine.{WrittenDefine}
-use Rattle.project_model.proofs.Texts.{has_from_any, not_had}
+use Rattle.name_resolution.proofs.Texts.{has_from_any, not_had}
 
 pub not_false : (b : Bool) → false ≡ not b → b ≡ true
 not_false true e = refl

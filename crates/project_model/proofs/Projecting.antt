@@ -29,10 +29,11 @@ use Rattle.project_manifest.proofs.Firsts.{first_past, none_more}
 use Rattle.project_model.specs.Answers.{DemandFault, DoesMeet, IsPlanBy, IsRefusal, IsRefusedBy, UnknownFault, demands, said_of, why_not}
 use Rattle.project_model.specs.Forms.{AreDefined, AreForms}
 use Rattle.project_model.specs.Gathered.{gathered, symbols_beside, symbols_of_all}
-use Rattle.project_model.specs.Numbered.{IsBodyOver, numbered, numbers_in}
+use Rattle.name_resolution.specs.Numbered.{numbered}
+use Rattle.project_model.specs.Numbered.{IsBodyOver, numbers_in}
 use Rattle.project_model.specs.Plans.{IsPlan, IsSoundOver, PlanView}
 use Rattle.project_model.specs.Referring.{CycleFault, references_of}
-use Rattle.project_model.specs.Resolved.{atom_of}
+use Rattle.name_resolution.specs.Resolved.{atom_of}
 use Rattle.project_model.specs.Stands.{Entry, entry_in, entry_of}
 use Rattle.project_model.specs.declared.definition.Definition.{Definition}
 use Rattle.project_model.specs.declared.demands.Demand.{Demand}
@@ -43,14 +44,14 @@ use Rattle.project_model.proofs.Alphabets.{numbers_distinct, put}
 use Rattle.project_model.proofs.Built.{All-front}
 use Rattle.project_model.proofs.Demanded.{demand_fault}
 use Rattle.project_model.proofs.Gathering.{with_texts-append, with_texts_behind}
-use Rattle.project_model.proofs.Mapped.{mapped_twice}
+use Rattle.name_resolution.proofs.Mapped.{mapped_twice}
 use Rattle.project_model.proofs.NameSteps.{refused_by}
 use Rattle.project_model.proofs.Forming.{kind_there}
 use Rattle.project_model.proofs.Referring.{count, cycle_fault, none_cyclic}
 use Rattle.project_model.proofs.Requiring.{unknown_fault}
 use Rattle.project_model.proofs.Expressions.{names_said}
 use Rattle.project_model.proofs.Sound.{definitions_over, sound_definitions}
-use Rattle.project_model.proofs.Texts.{one_longer}
+use Rattle.name_resolution.proofs.Texts.{one_longer}
 
 -- a loop over items of which a list is made: what was made, and one more
 module _ {X Y : Type 0} (f : X → Y) (xs : List X) (i : ℕ) (x : X) (below : i < length xs) (is : x ≡ get_or xs i x) where

@@ -29,17 +29,17 @@ use Rattle.project_manifest.specs.Lines.{symbols_of}
 use Rattle.project_manifest.specs.Rows.{First, Where}
 use Rattle.project_sources.specs.Sources.{Said, project_in}
 use Rattle.project_model.specs.Forms.{AreDefined}
-use Rattle.project_model.specs.Numbered.{numbered}
+use Rattle.name_resolution.specs.Numbered.{numbered}
 use Rattle.project_model.specs.Plans.{body_term}
 use Rattle.project_model.specs.Referring.{CycleFault, place_in, places_in, references_of}
-use Rattle.project_model.specs.Resolved.{atom_of}
+use Rattle.name_resolution.specs.Resolved.{atom_of}
 use Rattle.project_model.specs.Stands.{Entry, entry_of, entry_in, expression_in}
 use Rattle.project_model.specs.declared.definition.Definition.{Definition}
 use Rattle.project_model.proofs.Alphabets.{at_number, number_within}
 use Rattle.project_model.proofs.Expressions.{same_some}
 use Rattle.project_model.proofs.Gathering.{listed_is}
-use Rattle.project_model.proofs.Leaves.{leaf_cases}
-use Rattle.project_model.proofs.Mapped.{mapped_listed, mapped_twice}
+use Rattle.name_resolution.proofs.Leaves.{leaf_cases}
+use Rattle.name_resolution.proofs.Mapped.{mapped_listed, mapped_twice}
 
 below : (n m : ℕ) → n < m → nat_lt n m ≡ true
 below n m less = grind (arith, nat_tests)

@@ -19,9 +19,10 @@ use Rattle.project_meaning.specs.Trees.{Body, xfst, lexc, twolc}
 use Rattle.project_meaning.specs.Leaves.{Leaf, symbol, named, leaf_of, resolved, symbol_in, symbols_in, written as text_of}
 use Rattle.project_meaning.specs.Projects.{Definition as Meant, Written, definition_in}
 use Rattle.project_model.specs.Answers.{DoesMeet}
-use Rattle.project_model.specs.Numbered.{numbered, numbers_in, is_leaf_over, is_symbol_over, IsBodyOver}
+use Rattle.name_resolution.specs.Numbered.{numbered}
+use Rattle.project_model.specs.Numbered.{numbers_in, is_leaf_over, is_symbol_over, IsBodyOver}
 use Rattle.project_model.specs.Plans.{IsSoundOver, body_term}
-use Rattle.project_model.specs.Resolved.{atom_of}
+use Rattle.name_resolution.specs.Resolved.{atom_of}
 use Rattle.project_model.specs.Sound.{IsSound}
 use Rattle.project_model.specs.Stands.{Entry, entry_of, entry_in, expression_in}
 use Rattle.project_model.specs.declared.definition.Definition.{Definition}
@@ -29,9 +30,10 @@ use Rattle.project_model.specs.declared.demands.Demand.TheVariants as demand
 use Rattle.project_model.proofs.Alphabets.{number_any, number_within}
 use Rattle.project_model.proofs.Expressions.{same_some}
 use Rattle.project_model.proofs.Built.{All-front, All-back, built_here, built_there}
-use Rattle.project_model.proofs.Leaves.{leaf_cases}
-use Rattle.project_model.proofs.Mapped.{mapped_built, mapped_twice}
-use Rattle.project_model.proofs.Texts.{any_from_has}
+use Rattle.name_resolution.proofs.Leaves.{leaf_cases}
+use Rattle.name_resolution.proofs.Mapped.{mapped_twice}
+use Rattle.project_model.proofs.Mapped.{mapped_built}
+use Rattle.name_resolution.proofs.Texts.{any_from_has}
 
 never : IsTrue false → ⊥
 never e = cc

@@ -23,7 +23,7 @@ use Rattle.project_meaning.specs.Leaves.{Leaf, symbol, named, leaf_of, name_in, 
 use Rattle.project_meaning.specs.Projects.{Project}
 use Rattle.project_meaning.specs.Trees.{Body, xfst, lexc, twolc}
 use Rattle.project_meaning.proofs.Forms.{same_body_weight}
-use Rattle.project_model.specs.Numbered.{numbered}
+use Rattle.name_resolution.specs.Numbered.{numbered}
 use Rattle.project_model.specs.Stands.{expression_in}
 use Rattle.project_model.proofs.Built.{All-front, All-back}
 use Rattle.project_model.proofs.Expressions.{same_some}

@@ -9,14 +9,15 @@
 mod content;
 mod definition;
 mod demands;
+mod entries;
 mod files;
 mod forms;
+mod lexicons;
 mod names;
 mod plan;
 mod plan_error;
 mod read;
 mod references;
-mod resolve;
 mod sources;
 mod symbols;
 mod unknown;

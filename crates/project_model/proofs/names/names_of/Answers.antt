@@ -2,11 +2,10 @@ use Rattle.std.proofs.Common.{◌++◌, ◌∷◌, [], List, ℕ, length, map, s
 use Rattle.std.proofs.lemmas.List.{take_all}
 use Rattle.std.specs.List.{list_any}
 use Rattle.std.specs.Str.{bytes_eq}
-use Rattle.project_sources.specs.Limits.{most_names}
 use Rattle.project_manifest.specs.Rows.{HaveNone, places}
 use Rattle.project_model.specs.Answers.{written_of}
 use Rattle.project_model.proofs.NameSteps.{Has, names_more, still_none, why_again, why_too_many, not_false, not_true}
-use Rattle.project_model.proofs.Texts.{with_text-new}
+use Rattle.name_resolution.proofs.Texts.{with_text-new}
 use Rattle.project_model.proofs.names.names_of.Goals as goal
 
 pub returns-then-not-branch-clause-error : goal.returns-then-not-branch-clause-error
@@ -43,5 +42,4 @@ returns-clause-faultless c =
     subst (λ z. HaveNone Has (places (map written_of z))) (take_all c.written.one-index c.args.written.now (omega arith)) c.written.invariant.none
 
 pub add-requires : goal.add-requires
-unfolding most_names
 add-requires c = omega (arith, c.written.invariant.few)

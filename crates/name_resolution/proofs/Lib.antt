@@ -1,0 +1,4 @@
+pub mod Texts
+pub mod Leaves
+pub mod Mapped
+pub mod Rowed
