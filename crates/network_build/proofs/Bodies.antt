@@ -23,7 +23,7 @@ use Rattle.network_expr.specs.declared.parts.Part.{Part}
 use Rattle.network_lexicons.specs.Built.{PieceIsBuilt, FormIsBuilt, EntriesAreBuilt}
 use Rattle.network_build.specs.Made.{IsReady}
 use Rattle.network_build.specs.Networks.{body_leaves, body_uses_alphabet, form_leaves}
-use Rattle.network_build.proofs.Built.{built_alone, leaves_pass}
+use Rattle.network_build.proofs.Built.{built_alone, built_by, leaves_pass}
 
 -- what holds of each element, where that may be known to be one
 all_within : {X : Type 0} (P Q : X → Type 0) (xs : List X) → ((x : X) → Contains xs x → P x → Q x) → All P xs → All Q xs
@@ -165,3 +165,42 @@ module _ (parts : List Part) (alphabet other : List Symbol) where
               (λ e at. All-contains (Fits (kinds parts)) (expressions_of (lexc lexicons)) e fit (in_flat expressions_in (forms_in lexicons) entry.form e held at)) each)
           built
   body_ready (twolc grammar) go over formed fit h = absurd h
+
+-- a body that is built is so by any tests that its leaves pass, where those in braces and on sides pass the second
+module _ (spells letter_passes passes held : Atom → Bool) where
+  abbrev Follow : List Atom → Type 0
+  Follow leaves = ((a : Atom) → Contains leaves a → IsTrue (spells a) → IsTrue (passes a)) × ((a : Atom) → Contains leaves a → IsTrue (letter_passes a) → IsTrue (held a))
+
+  piece_by : (piece : Piece Atom) → Follow (letters_of piece) → PieceIsBuiltBy letter_passes piece → PieceIsBuiltBy held piece
+  piece_by (letter a) go h = go.1 a (Contains-head a []) h
+  piece_by (flag f) go h = tt
+
+  side_by : (pieces : List (Piece Atom)) → Follow (flat_map letters_of pieces) → All (PieceIsBuiltBy letter_passes) pieces → All (PieceIsBuiltBy held) pieces
+  side_by pieces (one, two) h =
+      all_within (PieceIsBuiltBy letter_passes) (PieceIsBuiltBy held) pieces
+      (λ piece at built. piece_by piece (λ a there. one a (in_flat letters_of pieces piece a at there), λ a there. two a (in_flat letters_of pieces piece a at there)) built) h
+
+  form_by : (form : Form Atom) → Follow (form_leaves form) → FormIsBuiltBy spells letter_passes form → FormIsBuiltBy passes held form
+  form_by (sides upper lower) (one, two) h =
+      let u = flat_map letters_of upper in
+      let l = flat_map letters_of lower in (
+        side_by upper (λ a at. one a (in_front u l a at), λ a at. two a (in_front u l a at)) h.0,
+        side_by lower (λ a at. one a (in_back u l a at), λ a at. two a (in_back u l a at)) h.1,
+      )
+  form_by (pairs e) go h = built_by spells letter_passes passes held e h go
+
+  pub body_by : (body : Body Atom) → BodyIsBuiltBy spells letter_passes body → Follow (body_leaves body) → BodyIsBuiltBy passes held body
+  body_by (xfst e) h go = built_by spells letter_passes passes held e h go
+  body_by (lexc lexicons) h (one, two) = all_within (LexiconIsBuiltBy spells letter_passes) (LexiconIsBuiltBy passes held) lexicons lexicon h
+    where
+      lexicon : (l : Lexicon Atom) → Contains lexicons l → LexiconIsBuiltBy spells letter_passes l → LexiconIsBuiltBy passes held l
+      lexicon l among built =
+          all_within (λ (entry : Entry Atom). FormIsBuiltBy spells letter_passes entry.form) (λ (entry : Entry Atom). FormIsBuiltBy passes held entry.form) l.entries
+          (λ entry within each.
+              let held_form = form_among lexicons l entry among within in
+              form_by entry.form (
+                λ a at. one a (in_flat form_leaves (forms_in lexicons) entry.form a held_form at),
+                λ a at. two a (in_flat form_leaves (forms_in lexicons) entry.form a held_form at),
+              ) each)
+          built
+  body_by (twolc grammar) h go = absurd h

@@ -1,4 +1,4 @@
-mod Bodies
+pub mod Bodies
 pub mod Built
 mod Free
 mod Sounds
