@@ -1,4 +1,4 @@
-ghost use Rattle.std.specs.Prelude.{◌≡◌, ¬◌, IfOk, false, true};
+ghost use Rattle.std.specs.Prelude.{◌≡◌, IfOk, false, true};
 ghost use Rattle.expr_kinds.specs.Atoms.{is_symbol_of};
 ghost use Rattle.network_expr.specs.Parts.{IsGround, is_leaf_of, kinds};
 ghost use Rattle.project_model.specs.Bodies.{BodyFitsBy, IsFormed};
