@@ -1,3 +1,4 @@
+pub mod Bodies
 pub mod Lawful
 pub mod Named
 pub mod Networks

@@ -28,47 +28,38 @@ use Rattle.network_algebra.specs.Networks.{IsNetwork}
 use Rattle.network_algebra.specs.declared.network.Network.{Network}
 use Rattle.network_expr.specs.Parts.{IsGround, is_leaf_of, kind_of_part, kinds, part_of}
 use Rattle.network_expr.specs.declared.parts.Part.{Part}
-use Rattle.network_centres.specs.Centres.{HasEmptyCentre}
-use Rattle.network_build.specs.Networks.{IsNetworkOf, IsWhyNotBuilt}
+use Rattle.network_build.specs.Networks.{BodyHasEmptyCentre, IsNetworkOf, IsWhyNotBuilt}
 use Rattle.network_build.specs.declared.compiled.BuildError.{BuildError}
 use Rattle.network_build.specs.declared.compiled.BuildError.TheVariants.{Memory, EmptyCentre}
-use Rattle.project_meaning.specs.Centres.{HasOwnEmptyCentre}
+use Rattle.project_meaning.specs.Centres.{HasOwnEmptyCentre, centres_in}
+use Rattle.project_meaning.specs.Leaves.{expressions_of}
+use Rattle.project_meaning.specs.Trees.{Body, xfst, lexc, twolc}
+use Rattle.project_meaning.proofs.Places.{in_flat}
+use Rattle.project_sources.specs.Built.{BodyIsBuiltBy}
+use Rattle.project_model.specs.Bodies.{BodyFitsBy, IsFormed, kind_of_body}
+use Rattle.project_model.specs.Plain.{body_of}
 use Rattle.network_build.proofs.Built.{built_alone, built_by}
-use Rattle.project_model.specs.Plans.{IsPlan, IsSoundOver, body_term}
-use Rattle.project_model.specs.Referring.{place_in, places_in, references_of}
+use Rattle.project_model.specs.Plans.{IsPlan, IsSoundOver}
+use Rattle.project_model.specs.Referring.{body_places, references_of}
 use Rattle.project_model.specs.declared.definition.Definition.{Definition}
-use Rattle.project_model.proofs.Gathering.{listed_is}
-use Rattle.project_store.specs.Building.{AreBuilt, AreNamesAmong, ArePartsOf, HasParts, HasPut, IsBuiltAt, IsThere}
+use Rattle.project_store.specs.Building.{AreBuilt, AreNamesAmong, ArePartsOf, HasParts, HasPut, IsBuiltAt, IsThere, expression_leaves}
 use Rattle.project_store.specs.Centres.{CentresAreBuilt, HasFilled, HasNoCentre, HasNoOwn, IsWhyUnbuilt, OfPlace}
 use Rattle.project_store.specs.Loaded.{LoadedView, plan_in}
+use Rattle.project_store.proofs.Bodies.{body_passes, expressions_built, name_refers}
 use Rattle.project_store.proofs.Parts.{part_found, part_there}
 use Rattle.project_store.proofs.Shown.{name_spelled_here, own_centre}
 
 never : IsTrue false → ⊥
 never e = cc
 
--- what one of many gives is among what all give
-flat_has : {X Y : Type 0} (f : X → List Y) (xs : List X) (x : X) (y : Y) → Contains xs x → Contains (f x) y → Contains (flat_map f xs) y
-flat_has f [] x y among h = absurd (Contains-nil_cases x among)
-flat_has {Y = Y} f (z ∷ xs) x y among h =
-    elim (Contains-cons_cases z xs x among) as (λ _. Contains (flat_map f (z ∷ xs)) y) [
-      | inl same ↦ Contains-append_left (f z) (flat_map f xs) y (subst (λ w. Contains (f w) y) (sym same) h)
-      | inr there ↦ Contains-append_right (f z) (flat_map f xs) y (flat_has f xs x y there h)
-    ]
-
-below : (n m : ℕ) → n < m → nat_lt n m ≡ true
-below n m less = grind (arith, nat_tests)
-
--- a name in the expression of a definition is referred to
-pub named_at : (definitions : List Definition) (place : ℕ) (d : Definition) → slice_get definitions place ≡ Some d → (p : ℕ) → Contains (leaves_in (body_term d.body)) (Name p) → p < length definitions
+-- a name in an expression of a definition is referred to
+pub named_at : (definitions : List Definition) (place : ℕ) (d : Definition) → slice_get definitions place ≡ Some d → (p : ℕ) → Contains (expression_leaves (body_of d.body)) (Name p) → p < length definitions
     → Refers (references_of definitions) place p
 named_at definitions place d at p stood within =
-    let n = length definitions in
-    let t = body_term d.body in
-    let given : Contains (place_in n (Name p)) p = subst (λ (ps : List ℕ). Contains ps p) (sym (ap (λ (b : Bool). cond b (p ∷ []) []) (below p n within))) (Contains-head p []) in (
-      places_in n t,
-      slice_get-map (λ (x : Definition). places_in n (body_term x.body)) definitions place ∙ ap (option_map (λ (x : Definition). places_in n (body_term x.body))) at,
-      subst (λ (ps : List ℕ). Contains ps p) (sym (listed_is (place_in n) t)) (flat_has (place_in n) (leaves_in t) (Name p) p stood given),
+    let n = length definitions in (
+      body_places n (body_of d.body),
+      slice_get-map (λ (x : Definition). body_places n (body_of x.body)) definitions place ∙ ap (option_map (λ (x : Definition). body_places n (body_of x.body))) at,
+      name_refers n (expressions_of (body_of d.body)) p stood within,
     )
 
 -- what is at a place is within
@@ -80,12 +71,12 @@ known_within {X} xs k h = by (slice_get xs k) refl h
     by (Some x) e some = slice_get_within xs k x e
 
 module _ (loaded : LoadedView) (plan : IsPlan (plan_in loaded)) (built : List (Option Network)) (are : AreBuilt loaded built) (place : ℕ) (d : Definition) (at : slice_get loaded.definitions place ≡ Some d)
-    (names : List (Option ℕ)) (size : length names ≡ length built) (among : AreNamesAmong (leaves_in (body_term d.body)) names) (parts : List Part) (parts_are : ArePartsOf names built parts) (has : HasParts loaded built place) where
+    (names : List (Option ℕ)) (size : length names ≡ length built) (among : AreNamesAmong (expression_leaves (body_of d.body)) names) (parts : List Part) (parts_are : ArePartsOf names built parts) (has : HasParts loaded built place) where
   abbrev alphabet : List Symbol
   alphabet = symbols_of loaded.alphabet
 
-  abbrev t : Term Atom
-  t = body_term d.body
+  abbrev body : Body Atom
+  body = body_of d.body
 
   -- each part is the network of its definition
   each : (part : Part) → Contains parts part → IsBuiltAt loaded part.name part.network.now
@@ -99,7 +90,7 @@ module _ (loaded : LoadedView) (plan : IsPlan (plan_in loaded)) (built : List (O
   }
 
   -- a name in the expression has its part
-  named_there : (p : ℕ) → Contains (leaves_in t) (Name p) → IsTrue (is_some (slice_get loaded.forms p)) → IsTrue (is_some (part_of parts p))
+  named_there : (p : ℕ) → Contains (expression_leaves body) (Name p) → IsTrue (is_some (slice_get loaded.forms p)) → IsTrue (is_some (part_of parts p))
   named_there p stood known =
       let inside = known_within loaded.forms p known in
       let within : p < length loaded.definitions = omega (arith, inside, plan.forms.count) in
@@ -110,15 +101,21 @@ module _ (loaded : LoadedView) (plan : IsPlan (plan_in loaded)) (built : List (O
   sound : IsSoundOver loaded.forms alphabet d
   sound = All-contains (IsSoundOver loaded.forms alphabet) loaded.definitions d plan.sound (Contains-from_slice_get loaded.definitions place d at)
 
-  pub built_over : IsBuiltBy (is_leaf_of parts alphabet) (is_symbol_of alphabet) t
-  built_over = built_by (is_leaf_at loaded.forms alphabet) (is_symbol_of alphabet) (is_leaf_of parts alphabet) (is_symbol_of alphabet) t sound.built (leaf, λ a stood h. h)
+  pub built_over : BodyIsBuiltBy (is_leaf_of parts alphabet) (is_symbol_of alphabet) body
+  built_over = body_passes (is_leaf_at loaded.forms alphabet) (is_leaf_of parts alphabet) (is_symbol_of alphabet) body sound.built expression
     where
-      leaf : (a : Atom) → Contains (leaves_in t) a → IsTrue (is_leaf_at loaded.forms alphabet a) → IsTrue (is_leaf_of parts alphabet a)
-      leaf (Sym s) stood h = h
-      leaf (Name p) stood h = named_there p stood h
+      module _ (e : Term Atom) (held : Contains (expressions_of body) e) where
+        leaf : (a : Atom) → Contains (leaves_in e) a → IsTrue (is_leaf_at loaded.forms alphabet a) → IsTrue (is_leaf_of parts alphabet a)
+        leaf (Sym s) stood h = h
+        leaf (Name p) stood h = named_there p (in_flat leaves_in (expressions_of body) e (Name p) held stood) h
 
-  alone : IsBuilt (is_leaf_of parts alphabet) t
-  alone = built_alone (is_leaf_of parts alphabet) (is_symbol_of alphabet) letter t built_over
+      expression : (e : Term Atom) → Contains (expressions_of body) e → IsBuiltBy (is_leaf_at loaded.forms alphabet) (is_symbol_of alphabet) e → IsBuiltBy (is_leaf_of parts alphabet) (is_symbol_of alphabet) e
+      expression e held h = built_by (is_leaf_at loaded.forms alphabet) (is_symbol_of alphabet) (is_leaf_of parts alphabet) (is_symbol_of alphabet) e h (leaf e held, λ a stood g. g)
+
+  alone : (e : Term Atom) → Contains (expressions_of body) e → IsBuilt (is_leaf_of parts alphabet) e
+  alone e held =
+      built_alone (is_leaf_of parts alphabet) (is_symbol_of alphabet) letter e
+      (All-contains (IsBuiltBy (is_leaf_of parts alphabet) (is_symbol_of alphabet)) (expressions_of body) e (expressions_built (is_leaf_of parts alphabet) (is_symbol_of alphabet) body built_over) held)
     where
       letter : (a : Atom) → IsTrue (is_symbol_of alphabet a) → IsTrue (is_leaf_of parts alphabet a)
       letter (Sym s) h = h
@@ -139,34 +136,46 @@ module _ (loaded : LoadedView) (plan : IsPlan (plan_in loaded)) (built : List (O
   same_symbol : (a b : Atom) → IsTrue (is_leaf_of parts alphabet a) → IsTrue (is_leaf_of parts alphabet b) → (kinds parts).same a b ≡ (leaves_at loaded.forms).same a b
   same_symbol a b h g = refl
 
-  pub fits : Fits (kinds parts) t
-  fits = subst (λ (T : Type 0). T) (sym (fits_alike (leaves_at loaded.forms) (kinds parts) (is_leaf_of parts alphabet) same_kind same_symbol t alone)) sound.fits
+  pub fits : BodyFitsBy (kinds parts) body
+  fits =
+      All-weaker (Contains (expressions_of body)) (Fits (kinds parts))
+      (λ e held.
+          subst (λ (T : Type 0). T) (sym (fits_alike (leaves_at loaded.forms) (kinds parts) (is_leaf_of parts alphabet) same_kind same_symbol e (alone e held)))
+          (All-contains (Fits (leaves_at loaded.forms)) (expressions_of body) e sound.fits held))
+      (expressions_of body) (All-contains_itself (expressions_of body))
 
-  pub built_at : (n : Network) → IsNetworkOf parts alphabet t n → IsBuiltAt loaded place n
+  pub formed : IsFormed body
+  formed = sound.formed
+
+  same_kind_of : (b : Body Atom) → ((e : Term Atom) → Contains (expressions_of b) e → IsBuilt (is_leaf_of parts alphabet) e) → kind_of_body (kinds parts) b ≡ kind_of_body (leaves_at loaded.forms) b
+  same_kind_of (xfst e) all = kind_alike (leaves_at loaded.forms) (kinds parts) (is_leaf_of parts alphabet) same_kind same_symbol e (all e (Contains-head e []))
+  same_kind_of (lexc lexicons) all = refl
+  same_kind_of (twolc grammar) all = refl
+
+  pub built_at : (n : Network) → IsNetworkOf parts alphabet body n → IsBuiltAt loaded place n
   built_at n of = record {
-    kind =
-        of.kind ∙ kind_alike (leaves_at loaded.forms) (kinds parts) (is_leaf_of parts alphabet) same_kind same_symbol t alone
-        ∙ sym (plan.forms.kinds place d at);
+    kind = of.kind ∙ same_kind_of body alone ∙ sym (plan.forms.kinds place d at);
     over = of.over;
     means = λ said from name at_name. name_spelled_here said loaded from place d at parts each built_over n of.relation name at_name;
   }
 
   -- it has an own empty centre where its network can't be built
-  own : HasEmptyCentre parts alphabet t → OfPlace loaded place HasOwnEmptyCentre
+  own : BodyHasEmptyCentre parts alphabet body → OfPlace loaded place HasOwnEmptyCentre
   own h said from name at_name = (own_centre said loaded from place d at parts each built_over name at_name).0 h
 
-  no_own : (HasEmptyCentre parts alphabet t → ⊥) → OfPlace loaded place HasNoOwn
+  no_own : (BodyHasEmptyCentre parts alphabet body → ⊥) → OfPlace loaded place HasNoOwn
   no_own none said from name at_name h = none ((own_centre said loaded from place d at parts each built_over name at_name).1 h)
 
-  no_centre : HasNoCentre loaded place → HasEmptyCentre parts alphabet t → ⊥
-  no_centre plain (c, among, empty) = Contains-nil_cases c (subst (λ (cs : List (Term Atom)). Contains cs c) (plain d at) among)
+  no_centre : HasNoCentre loaded place → BodyHasEmptyCentre parts alphabet body → ⊥
+  no_centre plain (e, held, c, inside, empty) =
+      Contains-nil_cases c (subst (λ (cs : List (Term Atom)). Contains cs c) (plain d at) (in_flat (λ x. centres_in x) (expressions_of body) e c held inside))
 
   -- what building it answers
-  pub built_as : (r : Result Network BuildError) → IfOk r (IsNetworkOf parts alphabet t) → IfOk r (IsBuiltAt loaded place)
+  pub built_as : (r : Result Network BuildError) → IfOk r (IsNetworkOf parts alphabet body) → IfOk r (IsBuiltAt loaded place)
   built_as (Ok n) of = built_at n of
   built_as (Err error) of = of
 
-  pub filled_as : (r : Result Network BuildError) → OnOk r (HasEmptyCentre parts alphabet t → ⊥) → OnOk r (OfPlace loaded place HasNoOwn)
+  pub filled_as : (r : Result Network BuildError) → OnOk r (BodyHasEmptyCentre parts alphabet body → ⊥) → OnOk r (OfPlace loaded place HasNoOwn)
   filled_as (Ok n) none = no_own none
   filled_as (Err error) none = none
 
@@ -394,7 +403,7 @@ module _ (loaded : LoadedView) (order : List ℕ) (ordered : IsOrder (references
   pub place_within : place < length loaded.definitions
   place_within =
       let within = (ordered.places place).0 (Contains-get_or order i 0 inside) in
-      let size = length-map loaded.definitions (λ (d : Definition). places_in (length loaded.definitions) (body_term d.body)) in
+      let size = length-map loaded.definitions (λ (d : Definition). body_places (length loaded.definitions) (body_of d.body)) in
       omega (arith, within, size)
 
   -- those that the next definition refers to have their networks
@@ -423,6 +432,6 @@ module _ (loaded : LoadedView) (order : List ℕ) (ordered : IsOrder (references
 pub never_past : (loaded : LoadedView) (order : List ℕ) → IsOrder (references_of loaded.definitions) order → (wanted i : ℕ) (built : List (Option Network)) → wanted < length loaded.definitions → length order ≤ i
     → BuiltSoFar loaded order wanted i built → ⊥
 never_past loaded order ordered wanted i built within past so_far =
-    let size = length-map loaded.definitions (λ (d : Definition). places_in (length loaded.definitions) (body_term d.body)) in
+    let size = length-map loaded.definitions (λ (d : Definition). body_places (length loaded.definitions) (body_of d.body)) in
     let below : wanted < length (references_of loaded.definitions) = omega (arith, within, size) in
     so_far.unwanted (subst (λ (ps : List ℕ). Contains ps wanted) (sym (take_all i order past)) ((ordered.places wanted).1 below))

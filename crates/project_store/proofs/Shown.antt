@@ -1,6 +1,6 @@
 -- The network of a definition shows what the project says of its name.
-use Rattle.std.proofs.Common.{◌≡◌, ◌↔◌, append-nil, ℕ, Bool, false, List, [], ◌∷◌, map, Option, Some, None, is_some, MatchOption, IsTrue, refl, sym, ap, subst, ◌∙◌, inl, inr, slice_get}
-use Rattle.std.proofs.lemmas.List.Elements.{All-contains, Contains-append_left}
+use Rattle.std.proofs.Common.{◌≡◌, ◌↔◌, ℕ, Bool, false, List, [], ◌∷◌, map, Option, Some, None, is_some, MatchOption, IsTrue, refl, sym, ap, subst, ◌∙◌, inl, inr, slice_get, All}
+use Rattle.std.proofs.lemmas.List.Elements.{All-contains}
 use Rattle.std.proofs.lemmas.Option.{slice_get-get_or, slice_get-map, same_Some}
 use Rattle.std.specs.List.{Contains, flat_map}
 use Rattle.std.specs.Option.{option_map}
@@ -28,33 +28,43 @@ use Rattle.network_algebra.specs.Networks.{PairsOf}
 use Rattle.network_algebra.specs.declared.network.Network.{Network}
 use Rattle.network_expr.specs.Parts.{is_leaf_of, named, part_of, stands}
 use Rattle.network_expr.specs.declared.parts.Part.{Part}
-use Rattle.network_centres.specs.Centres.{HasEmptyCentre}
-use Rattle.network_centres.proofs.Mapped.{centres_in-mapped}
 use Rattle.network_centres.proofs.Within.{built_within}
+use Rattle.network_build.specs.Networks.{BodyHasEmptyCentre, BodyRelates as NumbersRelate}
 use Rattle.network_build.proofs.Built.{built_both}
+use Rattle.network_lexicons.specs.Plain.{symbol_in}
+use Rattle.lexicon_spelling.specs.Mapped.{mapped_lexicon}
+use Rattle.lexicon_spelling.proofs.Resolved.{resolved_mapped}
+use Rattle.lexicon_spelling.proofs.Spelling.{lexicons_spelled}
 use Rattle.project_meaning.specs.Centres.{HasOwnEmptyCentre, centres_in}
-use Rattle.project_meaning.specs.Trees.{Body, xfst}
-use Rattle.project_meaning.specs.Leaves.{Leaf, symbol, named as named_leaf, expressions_of, leaf_of, resolved, written as text_of}
+use Rattle.project_meaning.specs.Trees.{Body, Lexicon, xfst, lexc, twolc}
+use Rattle.project_meaning.specs.Lexicons.{LexiconsRelate, text_in}
+use Rattle.project_meaning.specs.Leaves.{Leaf, symbol, named as named_leaf, expressions_of, leaf_of, resolved, resolved_grammar, symbol_of, written as text_of}
 use Rattle.project_meaning.specs.Projects.{Defines, Definition as Meant, Written, definition_in, names_of}
 use Rattle.project_meaning.specs.Meaning.{InExpression, Word, BodyRelates, Meaning, NameRelates, stands_for as means_by}
 use Rattle.project_meaning.proofs.Depths.{names_unfold}
+use Rattle.project_meaning.proofs.Places.{in_flat}
 use Rattle.lookup.specs.Answering.{IsOverAlphabet}
+use Rattle.project_sources.specs.Built.{BodyIsBuiltBy, LexiconIsBuiltBy}
 use Rattle.project_sources.specs.Sources.{Said, project_in}
 use Rattle.name_resolution.specs.Numbered.{numbered}
 use Rattle.project_model.specs.Numbered.{IsBodyOver, is_leaf_over, is_symbol_over}
-use Rattle.project_model.specs.Plans.{body_term}
 use Rattle.name_resolution.specs.Resolved.{atom_of}
+use Rattle.project_model.specs.Bodies.{mapped_body, mapped_grammar}
+use Rattle.project_model.specs.Plain.{body_of}
 use Rattle.project_model.specs.Stands.{Entry, entry_in, entry_of}
 use Rattle.project_model.proofs.Alphabets.{at_number}
-use Rattle.project_model.proofs.Expressions.{OfExpression, expression_of, names_said}
+use Rattle.project_model.proofs.Bodies.{expressions_mapped, expressions_resolved}
+use Rattle.project_model.proofs.Expressions.{names_said, no_grammar}
 use Rattle.name_resolution.proofs.Leaves.{leaf_cases}
 use Rattle.name_resolution.proofs.Mapped.{mapped_twice}
 use Rattle.project_model.proofs.Mapped.{mapped_built}
 use Rattle.project_model.proofs.Referring.{at_map}
 use Rattle.project_model.specs.declared.definition.Definition.{Definition}
 use Rattle.project_store.specs.Building.{IsBuiltAt}
+use Rattle.project_store.specs.Centres.{body_centres}
 use Rattle.project_store.specs.Loaded.{IsLoadedFrom, LoadedView}
 use Rattle.project_store.specs.Networks.{ShowsName}
+use Rattle.project_store.proofs.Bodies.{centres_mapped, expressions_built, expressions_twice, flat_cases, lexicons_built, lexicons_twice}
 use Rattle.project_store.proofs.Parts.{part_found}
 use Rattle.project_store.proofs.Spelled.{entry_held, held_any, numbered_as}
 
@@ -147,62 +157,72 @@ module _ (said : Said) (loaded : LoadedView) (from : IsLoadedFrom said loaded) w
         let same = one_of_name said.written names_differ other.0 w other.1 w_among (ap (λ (x : Meant). x.name) other.2 ∙ e_named) in
         sym other.2 ∙ ap (definition_in names) same
 
-    -- its expression
-    of : OfExpression names table w.body (body_term d.body)
-    of = expression_of names table w.body (body_term d.body) (ap (λ (x : Entry). x.term) w_is)
+    -- what is written, and what it is by numbers and by texts
+    abbrev raw : Body Raw
+    raw = w.body
 
-    abbrev meant : Term Leaf
-    meant = mapped (leaf_of names) of.e
+    abbrev body : Body Atom
+    body = body_of d.body
 
-    m_is : m.body ≡ xfst meant
-    m_is = ap (resolved names) of.body_is
+    abbrev meant : Body Leaf
+    meant = resolved names raw
 
     abbrev means : List ℕ → Word → Word → Type 0
     means = Meaning (project_in said)
 
-    by_number : body_term d.body ≡ mapped (atom_of names table) of.e
-    by_number = of.term_is ∙ mapped_twice (numbered names table) (leaf_of names) of.e
+    by_number : body ≡ mapped_body (numbered names table) meant
+    by_number = ap (λ (x : Entry). x.body) w_is
+
+    -- its expressions
+    abbrev expressions : List (Term Raw)
+    expressions = expressions_of raw
+
+    expressions_by_text : expressions_of meant ≡ map (mapped (leaf_of names)) expressions
+    expressions_by_text = expressions_resolved names raw
+
+    expressions_by_number : expressions_of body ≡ map (mapped (atom_of names table)) expressions
+    expressions_by_number =
+        ap (λ (b : Body Atom). expressions_of b) by_number ∙ expressions_mapped (numbered names table) meant ∙ ap (map (mapped (numbered names table))) expressions_by_text
+        ∙ expressions_twice (numbered names table) (leaf_of names) (leaf_of names) expressions
 
     -- its centres by numbers and by texts
-    centres_by_number : centres_in (body_term d.body) ≡ map (λ (c : Term Raw). mapped (atom_of names table) c) (centres_in of.e)
-    centres_by_number = ap (λ (t : Term Atom). centres_in t) by_number ∙ centres_in-mapped (atom_of names table) of.e
+    abbrev centres : List (Term Raw)
+    centres = body_centres raw
 
-    centres_by_text : centres_in meant ≡ map (λ (c : Term Raw). mapped (leaf_of names) c) (centres_in of.e)
-    centres_by_text = centres_in-mapped (leaf_of names) of.e
+    centres_by_number : body_centres body ≡ map (mapped (atom_of names table)) centres
+    centres_by_number = ap (λ (es : List (Term Atom)). flat_map (λ e. centres_in e) es) expressions_by_number ∙ centres_mapped (atom_of names table) expressions
 
-    -- its own empty centres are centres of its expression
+    centres_by_text : body_centres meant ≡ map (mapped (leaf_of names)) centres
+    centres_by_text = ap (λ (es : List (Term Leaf)). flat_map (λ e. centres_in e) es) expressions_by_text ∙ centres_mapped (leaf_of names) expressions
+
+    -- its own empty centres are centres of its expressions
     abbrev OwnCentre : Term Raw → Type 0
     OwnCentre c = InExpression (project_in said) (mapped (leaf_of names) c) []
 
-    own_from : (name : List ℕ) → slice_get names place ≡ Some name → (c : Term Raw) → Contains (centres_in of.e) c → OwnCentre c → HasOwnEmptyCentre (project_in said) name
+    own_from : (name : List ℕ) → slice_get names place ≡ Some name → (c : Term Raw) → Contains centres c → OwnCentre c → HasOwnEmptyCentre (project_in said) name
     own_from name at_name c there empty =
-        let centre = mapped (leaf_of names) c in
-        let within : Contains (centres_in meant) centre =
-        subst (λ (cs : List (Term Leaf)). Contains cs centre) (sym centres_by_text) (Contains-map (λ (x : Term Raw). mapped (leaf_of names) x) (centres_in of.e) c there) in (
+        let centre = mapped (leaf_of names) c in (
           m,
           m_among,
           same_Some w.name name (sym name_here ∙ at_name),
           centre,
-          subst (λ (b : Body Leaf). Contains (flat_map (λ (e : Term Leaf). centres_in e) (expressions_of b)) centre) (sym m_is) (Contains-append_left (centres_in meant) [] centre within),
+          subst (λ (cs : List (Term Leaf)). Contains cs centre) (sym centres_by_text) (Contains-map (mapped (leaf_of names)) centres c there),
           empty,
         )
 
-    own_among : (name : List ℕ) → slice_get names place ≡ Some name → HasOwnEmptyCentre (project_in said) name → (c : Term Raw) × Contains (centres_in of.e) c × OwnCentre c
+    own_among : (name : List ℕ) → slice_get names place ≡ Some name → HasOwnEmptyCentre (project_in said) name → (c : Term Raw) × Contains centres c × OwnCentre c
     own_among name at_name (e, e_among, e_named, centre, among, empty) =
         let is_name : w.name ≡ name = same_Some w.name name (sym name_here ∙ at_name) in
-        let own = subst (λ (x : Meant). Contains (flat_map (λ (t : Term Leaf). centres_in t) (expressions_of x.body)) centre) (only e e_among (e_named ∙ sym is_name)) among in
-        let of_meant = subst (λ (b : Body Leaf). Contains (flat_map (λ (t : Term Leaf). centres_in t) (expressions_of b)) centre) m_is own in
-        let within : Contains (centres_in meant) centre = subst (λ (cs : List (Term Leaf)). Contains cs centre) (append-nil (centres_in meant)) of_meant in
-        let (c, there, is) = Contains-map_cases (λ (x : Term Raw). mapped (leaf_of names) x) (centres_in of.e) centre (subst (λ (cs : List (Term Leaf)). Contains cs centre) centres_by_text within) in
+        let own : Contains (body_centres meant) centre = subst (λ (x : Meant). Contains (body_centres x.body) centre) (only e e_among (e_named ∙ sym is_name)) among in
+        let (c, there, is) = Contains-map_cases (mapped (leaf_of names)) centres centre (subst (λ (cs : List (Term Leaf)). Contains cs centre) centres_by_text own) in
         (c, there, subst (λ (x : Term Leaf). InExpression (project_in said) x []) (sym is) empty)
 
     -- without a centre it has no empty one
-    pub no_own_centre : centres_in (body_term d.body) ≡ [] → (name : List ℕ) → slice_get names place ≡ Some name → HasOwnEmptyCentre (project_in said) name → ⊥
+    pub no_own_centre : body_centres body ≡ [] → (name : List ℕ) → slice_get names place ≡ Some name → HasOwnEmptyCentre (project_in said) name → ⊥
     no_own_centre none name at_name own =
         let (c, there, empty) = own_among name at_name own in
         let centre = mapped (atom_of names table) c in
-        Contains-nil_cases centre
-        (subst (λ (cs : List (Term Atom)). Contains cs centre) (sym centres_by_number ∙ none) (Contains-map (λ (x : Term Raw). mapped (atom_of names table) x) (centres_in of.e) c there))
+        Contains-nil_cases centre (subst (λ (cs : List (Term Atom)). Contains cs centre) (sym centres_by_number ∙ none) (Contains-map (mapped (atom_of names table)) centres c there))
 
     module _ (parts : List Part) (each : (part : Part) → Contains parts part → IsBuiltAt loaded part.name part.network.now) where
       -- a leaf that is a symbol of the alphabet, or a name with a part
@@ -210,11 +230,14 @@ module _ (said : Said) (loaded : LoadedView) (from : IsLoadedFrom said loaded) w
       spells_leaf (symbol text) = is_symbol_over table (symbol text)
       spells_leaf (named_leaf name) = is_some (part_of parts (number_of name names))
 
+      symbol_held : (text : List ℕ) → IsTrue (is_symbol_over table (symbol text)) → Contains loaded.alphabet (symbol_in (numbered names table (symbol text)), text)
+      symbol_held [] h = absurd (never h)
+      symbol_held (b ∷ bs) h =
+          subst (λ (z : List (Sym × List ℕ)). Contains z (numbered_as table (b ∷ bs), b ∷ bs)) (sym from.alphabet) (entry_held table (b ∷ bs) (held_any (b ∷ bs) table h))
+
       symbol_spelled : (text : List ℕ) → IsTrue (is_symbol_over table (symbol text)) → IsSpelled loaded.alphabet (stands parts (numbered names table (symbol text))) (means_by means (symbol text))
       symbol_spelled [] h = absurd (never h)
-      symbol_spelled (b ∷ bs) h =
-          symbols_spelled means loaded.alphabet (numbered_as table (b ∷ bs)) (b ∷ bs) from.formed
-          (subst (λ (z : List (Sym × List ℕ)). Contains z (numbered_as table (b ∷ bs), b ∷ bs)) (sym from.alphabet) (entry_held table (b ∷ bs) (held_any (b ∷ bs) table h)))
+      symbol_spelled (b ∷ bs) h = symbols_spelled means loaded.alphabet (numbered_as table (b ∷ bs)) (b ∷ bs) from.formed (symbol_held (b ∷ bs) h)
 
       name_spelled : (name : List ℕ) → Contains names name → IsTrue (is_some (part_of parts (number_of name names))) → IsSpelled loaded.alphabet (named parts (number_of name names)) (means name)
       name_spelled name among h = by (part_of parts (number_of name names)) refl h
@@ -249,63 +272,109 @@ module _ (said : Said) (loaded : LoadedView) (from : IsLoadedFrom said loaded) w
       letter_passes (symbol text) h = h
       letter_passes (named_leaf name) h = absurd (never h)
 
-      module _ (built : IsBuiltBy (is_leaf_of parts (symbols_of loaded.alphabet)) (is_symbol_of (symbols_of loaded.alphabet)) (body_term d.body)) where
-        spelled_leaves : IsBuilt (λ leaf. spells_leaf (leaf_of names leaf)) of.e
-        spelled_leaves =
-            let over : IsBodyOver table (xfst meant) = subst (IsBodyOver table) m_is (All-contains (λ (x : Meant). IsBodyOver table x.body) (project_in said).definitions m from.leaves m_among) in
-            let by_text = subst (λ (T : Type 0). T) (mapped_built (is_leaf_over table) (is_symbol_over table) (leaf_of names) of.e) over in
-            let by_part = subst (λ (T : Type 0). T) (mapped_built (is_leaf_of parts (symbols_of loaded.alphabet)) (is_symbol_of (symbols_of loaded.alphabet)) (atom_of names table) of.e)
-            (subst (IsBuiltBy (is_leaf_of parts (symbols_of loaded.alphabet)) (is_symbol_of (symbols_of loaded.alphabet))) by_number built) in
-            built_both (λ leaf. is_leaf_over table (leaf_of names leaf)) (λ leaf. is_symbol_over table (leaf_of names leaf))
-            (λ leaf. is_leaf_of parts (symbols_of loaded.alphabet) (atom_of names table leaf)) (λ leaf. is_symbol_of (symbols_of loaded.alphabet) (atom_of names table leaf)) (λ leaf. spells_leaf (leaf_of names leaf))
-            (λ leaf h g. leaf_passes (leaf_of names leaf) h g) (λ leaf h. letter_passes (leaf_of names leaf) h) of.e by_text by_part
+      abbrev spells : Raw → Bool
+      spells leaf = spells_leaf (leaf_of names leaf)
+
+      abbrev symbols : List Sym
+      symbols = symbols_of loaded.alphabet
+
+      over : IsBodyOver table meant
+      over = All-contains (λ (x : Meant). IsBodyOver table x.body) (project_in said).definitions m from.leaves m_among
+
+      module _ (built : BodyIsBuiltBy (is_leaf_of parts symbols) (is_symbol_of symbols) body) where
+        spelled_leaves : (e : Term Raw) → Contains expressions e → IsBuilt spells e
+        spelled_leaves e among =
+            let texts = subst (All (IsBuiltBy (is_leaf_over table) (is_symbol_over table))) expressions_by_text (expressions_built (is_leaf_over table) (is_symbol_over table) meant over) in
+            let by_text =
+            subst (λ (T : Type 0). T) (mapped_built (is_leaf_over table) (is_symbol_over table) (leaf_of names) e)
+            (All-contains (IsBuiltBy (is_leaf_over table) (is_symbol_over table)) (map (mapped (leaf_of names)) expressions) (mapped (leaf_of names) e) texts (Contains-map (mapped (leaf_of names)) expressions e among)) in
+            let numbers = subst (All (IsBuiltBy (is_leaf_of parts symbols) (is_symbol_of symbols))) expressions_by_number (expressions_built (is_leaf_of parts symbols) (is_symbol_of symbols) body built) in
+            let by_part =
+            subst (λ (T : Type 0). T) (mapped_built (is_leaf_of parts symbols) (is_symbol_of symbols) (atom_of names table) e)
+            (All-contains (IsBuiltBy (is_leaf_of parts symbols) (is_symbol_of symbols)) (map (mapped (atom_of names table)) expressions) (mapped (atom_of names table) e) numbers (Contains-map (mapped (atom_of names table)) expressions e among)) in
+            built_both (λ leaf. is_leaf_over table (leaf_of names leaf)) (λ leaf. is_symbol_over table (leaf_of names leaf)) (λ leaf. is_leaf_of parts symbols (atom_of names table leaf))
+            (λ leaf. is_symbol_of symbols (atom_of names table leaf)) spells (λ leaf h g. leaf_passes (leaf_of names leaf) h g) (λ leaf h. letter_passes (leaf_of names leaf) h) e by_text by_part
 
         -- a centre has the empty word by numbers where it has it by texts
-        centre_alike : (c : Term Raw) → Contains (centres_in of.e) c → In (stands parts) (symbols_of loaded.alphabet) (mapped (atom_of names table) c) [] ↔ InExpression (project_in said) (mapped (leaf_of names) c) []
+        centre_alike : (c : Term Raw) → Contains centres c → In (stands parts) symbols (mapped (atom_of names table) c) [] ↔ InExpression (project_in said) (mapped (leaf_of names) c) []
         centre_alike c among =
-            let spells = λ (leaf : Raw). spells_leaf (leaf_of names leaf) in
-            let c_built = All-contains (λ (x : Term Raw). IsBuilt spells x) (centres_in of.e) c (built_within spells spells of.e spelled_leaves) among in
-            subst (λ (t : List (List ℕ)). In (stands parts) (symbols_of loaded.alphabet) (mapped (atom_of names table) c) [] ↔ In (means_by means) t (mapped (leaf_of names) c) []) from.texts
+            let (e, held, inside) = flat_cases (λ x. centres_in x) expressions c among in
+            let c_built = All-contains (λ (x : Term Raw). IsBuilt spells x) (centres_in e) c (built_within spells spells e (spelled_leaves e held)) inside in
+            subst (λ (t : List (List ℕ)). In (stands parts) symbols (mapped (atom_of names table) c) [] ↔ In (means_by means) t (mapped (leaf_of names) c) []) from.texts
             (spelling_empty (stands parts) (means_by means) loaded.alphabet (atom_of names table) (leaf_of names) spells from.formed leaf_spelled c c_built)
 
         -- the definition has an own empty centre by numbers where it has one by texts
-        pub own_centre : (name : List ℕ) → slice_get names place ≡ Some name → HasEmptyCentre parts (symbols_of loaded.alphabet) (body_term d.body) ↔ HasOwnEmptyCentre (project_in said) name
+        pub own_centre : (name : List ℕ) → slice_get names place ≡ Some name → BodyHasEmptyCentre parts symbols body ↔ HasOwnEmptyCentre (project_in said) name
         own_centre name at_name = (to_text, to_number)
           where
-            to_text : HasEmptyCentre parts (symbols_of loaded.alphabet) (body_term d.body) → HasOwnEmptyCentre (project_in said) name
-            to_text (centre, among, empty) =
-                let (c, there, is) = Contains-map_cases (λ (x : Term Raw). mapped (atom_of names table) x) (centres_in of.e) centre (subst (λ (cs : List (Term Atom)). Contains cs centre) centres_by_number among) in
-                own_from name at_name c there ((centre_alike c there).0 (subst (λ (x : Term Atom). In (stands parts) (symbols_of loaded.alphabet) x []) (sym is) empty))
+            to_text : BodyHasEmptyCentre parts symbols body → HasOwnEmptyCentre (project_in said) name
+            to_text (e, held, centre, inside, empty) =
+                let among : Contains (body_centres body) centre = in_flat (λ x. centres_in x) (expressions_of body) e centre held inside in
+                let (c, there, is) = Contains-map_cases (mapped (atom_of names table)) centres centre (subst (λ (cs : List (Term Atom)). Contains cs centre) centres_by_number among) in
+                own_from name at_name c there ((centre_alike c there).0 (subst (λ (x : Term Atom). In (stands parts) symbols x []) (sym is) empty))
 
-            to_number : HasOwnEmptyCentre (project_in said) name → HasEmptyCentre parts (symbols_of loaded.alphabet) (body_term d.body)
+            to_number : HasOwnEmptyCentre (project_in said) name → BodyHasEmptyCentre parts symbols body
             to_number own =
                 let (c, there, empty) = own_among name at_name own in
-                let centre = mapped (atom_of names table) c in (
-                  centre,
-                  subst (λ (cs : List (Term Atom)). Contains cs centre) (sym centres_by_number) (Contains-map (λ (x : Term Raw). mapped (atom_of names table) x) (centres_in of.e) c there),
-                  (centre_alike c there).1 empty,
-                )
+                let centre = mapped (atom_of names table) c in
+                let among : Contains (body_centres body) centre =
+                subst (λ (cs : List (Term Atom)). Contains cs centre) (sym centres_by_number) (Contains-map (mapped (atom_of names table)) centres c there) in
+                let (e, held, inside) = flat_cases (λ x. centres_in x) (expressions_of body) centre among in
+                (e, held, centre, inside, (centre_alike c there).1 empty)
 
-        -- the expression relates the same by numbers and by texts
-        here : IsSpelled loaded.alphabet (Relates (stands parts) (symbols_of loaded.alphabet) (body_term d.body)) (Relates (means_by means) table meant)
+        -- what is written relates the same by numbers and by texts: an expression
+        abbrev IsAlike : Body Raw → Type 0
+        IsAlike written = IsSpelled loaded.alphabet (NumbersRelate parts symbols (mapped_body (numbered names table) (resolved names written))) (BodyRelates means table (resolved names written))
+
+        expression_alike : (e : Term Raw) → IsBuilt spells e → IsAlike (xfst e)
+        expression_alike e e_built =
+            subst (λ (t : List (List ℕ)). IsSpelled loaded.alphabet (Relates (stands parts) symbols (mapped (numbered names table) (mapped (leaf_of names) e))) (Relates (means_by means) t (mapped (leaf_of names) e))) from.texts
+            (subst (λ (x : Term Atom). IsSpelled loaded.alphabet (Relates (stands parts) symbols x) (Relates (means_by means) (texts_of loaded.alphabet) (mapped (leaf_of names) e))) (sym (mapped_twice (numbered names table) (leaf_of names) e))
+            (spelling (stands parts) (means_by means) loaded.alphabet (atom_of names table) (leaf_of names) spells from.formed leaf_spelled e e_built))
+
+        -- and lexicons
+        lexicons_alike : (lexicons : List (Lexicon Raw)) → ((e : Term Raw) → Contains (expressions_of (lexc lexicons)) e → IsBuilt spells e) → IsBodyOver table (resolved names (lexc lexicons)) → IsAlike (lexc lexicons)
+        lexicons_alike lexicons es_built over_table =
+            let is = resolved_mapped names lexicons in
+            let letters = λ (leaf : Raw). is_symbol_over table (symbol_of leaf) in
+            let lexicons_are =
+            lexicons_built spells (is_leaf_over table) (is_symbol_over table) (leaf_of names) symbol_of lexicons es_built
+            (subst (All (LexiconIsBuiltBy (is_leaf_over table) (is_symbol_over table))) is over_table) in
+            let alike =
+            lexicons_spelled symbol_in text_in (stands parts) (means_by means) loaded.alphabet (atom_of names table) (λ leaf. numbered names table (symbol_of leaf)) (leaf_of names) symbol_of spells letters from.formed leaf_spelled
+            (λ leaf h. symbol_held (text_of leaf) h) lexicons lexicons_are in
+            let twice = lexicons_twice (numbered names table) (leaf_of names) symbol_of lexicons in
+            let to = mapped_lexicon (numbered names table) (numbered names table) in
+            subst (λ (ls : List (Lexicon Leaf)). IsSpelled loaded.alphabet (LexiconsRelate symbol_in (stands parts) symbols (map to ls)) (LexiconsRelate text_in (means_by means) table ls)) (sym is)
+            (subst (λ (ls : List (Lexicon Atom)). IsSpelled loaded.alphabet (LexiconsRelate symbol_in (stands parts) symbols ls) (LexiconsRelate text_in (means_by means) table (map (mapped_lexicon (leaf_of names) symbol_of) lexicons))) (sym twice)
+            (subst (λ (t : List (List ℕ)). IsSpelled loaded.alphabet (LexiconsRelate symbol_in (stands parts) symbols (map (mapped_lexicon (atom_of names table) (λ leaf. numbered names table (symbol_of leaf))) lexicons))
+            (LexiconsRelate text_in (means_by means) t (map (mapped_lexicon (leaf_of names) symbol_of) lexicons))) from.texts alike))
+
+        written_alike : (written : Body Raw) → body ≡ mapped_body (numbered names table) (resolved names written) → ((e : Term Raw) → Contains (expressions_of written) e → IsBuilt spells e)
+            → IsBodyOver table (resolved names written) → IsAlike written
+        written_alike (xfst e) is es_built over_table = expression_alike e (es_built e (Contains-head e []))
+        written_alike (lexc lexicons) is es_built over_table = lexicons_alike lexicons es_built over_table
+        written_alike (twolc grammar) is es_built over_table = absurd (no_grammar d.body (mapped_grammar (numbered names table) (resolved_grammar grammar)) is)
+
+        -- the definition relates the same by numbers and by texts
+        here : IsSpelled loaded.alphabet (NumbersRelate parts symbols body) (BodyRelates means table meant)
         here =
-            subst (λ (t : List (List ℕ)). IsSpelled loaded.alphabet (Relates (stands parts) (symbols_of loaded.alphabet) (body_term d.body)) (Relates (means_by means) t meant)) from.texts
-            (subst (λ t. IsSpelled loaded.alphabet (Relates (stands parts) (symbols_of loaded.alphabet) t) (Relates (means_by means) (texts_of loaded.alphabet) meant)) (sym by_number)
-            (spelling (stands parts) (means_by means) loaded.alphabet (atom_of names table) (leaf_of names) (λ leaf. spells_leaf (leaf_of names leaf)) from.formed leaf_spelled of.e spelled_leaves))
+            subst (λ (b : Body Atom). IsSpelled loaded.alphabet (NumbersRelate parts symbols b) (BodyRelates means table meant)) (sym by_number)
+            (written_alike raw by_number spelled_leaves over)
 
-        module _ (n : Network) (relation : AreSame (PairsOf n) (Relates (stands parts) (symbols_of loaded.alphabet) (body_term d.body))) where
+        module _ (n : Network) (relation : AreSame (PairsOf n) (NumbersRelate parts symbols body)) where
           abbrev Related : Word → Word → Type 0
           Related u v = (upper : List Sym) × (lower : List Sym) × PairsOf n upper lower × (u ≡ spelled loaded.alphabet upper) × (v ≡ spelled loaded.alphabet lower)
 
           there : (u v : Word) → NameRelates means (project_in said) w.name u v → Related u v
           there u v (e, e_among, e_named, r) =
-              let own : BodyRelates means table m.body u v = subst (λ (x : Meant). BodyRelates means table x.body u v) (only e e_among e_named) r in
-              let i = (here.same u v).0 (subst (λ (b : Body Leaf). BodyRelates means table b u v) m_is own) in
+              let own : BodyRelates means table meant u v = subst (λ (x : Meant). BodyRelates means table x.body u v) (only e e_among e_named) r in
+              let i = (here.same u v).0 own in
               (i.0, i.1, (relation i.0 i.1).1 i.2, i.3, i.4)
 
           back : (u v : Word) → Related u v → NameRelates means (project_in said) w.name u v
           back u v (upper, lower, related, e, e') =
-              (m, m_among, refl, subst (λ (b : Body Leaf). BodyRelates means table b u v) (sym m_is) ((here.same u v).1 (upper, lower, (relation upper lower).0 related, e, e')))
+              (m, m_among, refl, (here.same u v).1 (upper, lower, (relation upper lower).0 related, e, e'))
 
           -- the name relates what its network does
           pub name_spelled_here : (name : List ℕ) → slice_get names place ≡ Some name → IsSpelled loaded.alphabet (PairsOf n) (means name)

@@ -16,36 +16,36 @@ use Rattle.regex_ast.specs.declared.expr.Atom.{Atom}
 use Rattle.regex_ast.specs.declared.expr.Atom.TheVariants.{Sym, Name}
 use Rattle.regex_ast.specs.declared.fault.Fault.{Fault}
 use Rattle.regex_ast.specs.declared.fault.Why.TheVariants as why
-use Rattle.expr_leaves.specs.Leaves.{leaves_in, seen}
+use Rattle.expr_leaves.specs.Leaves.{seen}
 use Rattle.name_order.specs.Graph.{Refers as Leads}
 use Rattle.name_order.specs.Orders.{IsOrder}
 use Rattle.network_algebra.specs.declared.network.Network.{Network}
-use Rattle.project_meaning.specs.Centres.{HasEmptyCentre, HasOwnEmptyCentre, centres_in}
-use Rattle.project_meaning.specs.Leaves.{symbols_in}
+use Rattle.project_meaning.specs.Centres.{HasEmptyCentre, HasOwnEmptyCentre}
+use Rattle.project_meaning.specs.Leaves.{expressions_of, symbols_in}
 use Rattle.project_meaning.specs.Projects.{Refers, Reaches, at_once, further, Written, names_of}
 use Rattle.project_sources.specs.Faults.{fault, fault_of, read_so_far, rows_so_far, FirstFault}
-use Rattle.project_sources.specs.Laws.{unbuilt as no_readers}
+use Rattle.project_sources.specs.Laws.{readers_so_far}
 use Rattle.project_manifest.specs.Lines.{symbols_of as further_symbols}
 use Rattle.project_manifest.specs.Rows.{First, Where}
 use Rattle.project_sources.specs.Sources.{FilesSay, Said, project_in, resolved_in}
-use Rattle.project_sources.proofs.Once.{files_say_one, unbuilt_exact}
+use Rattle.project_sources.proofs.Once.{files_say_one, exact_so_far}
 use Rattle.project_sources.proofs.Sound.{centres_come_last}
 use Rattle.project_model.specs.Forms.{AreDefined}
-use Rattle.project_model.specs.Plans.{body_term}
-use Rattle.project_model.specs.Referring.{place_in, places_in, references_of}
+use Rattle.project_model.specs.Plain.{body_of}
+use Rattle.project_model.specs.Referring.{body_places, references_of}
 use Rattle.project_model.specs.Stands.{Entry, entry_in, entry_of}
 use Rattle.project_model.specs.declared.definition.Definition.{Definition}
 use Rattle.project_model.proofs.Alphabets.{at_number, put}
-use Rattle.project_model.proofs.Gathering.{listed_is}
 use Rattle.project_model.proofs.Referring.{at_map, count, first_here, from_graph, name_at, place_at, references_whole, referred_among, to_graph}
-use Rattle.project_store.specs.Building.{AreBuilt, HasParts, IsBuiltAt, IsThere}
-use Rattle.project_store.specs.Centres.{AreClear, AreFree, AreTried, CentresAreBuilt, HasNoCentre, HasNoEmptyCentre, HasNoNetwork, HasNoOwn, HasNone, IsBarred, IsCentreError, IsFirstEmpty, IsFirstMark, IsFree, IsOutcome, OfPlace, with_empty, with_network}
+use Rattle.project_store.specs.Building.{AreBuilt, HasParts, IsBuiltAt, IsThere, expression_leaves}
+use Rattle.project_store.specs.Centres.{AreClear, AreFree, AreTried, CentresAreBuilt, HasNoCentre, HasNoEmptyCentre, HasNoNetwork, HasNoOwn, HasNone, IsBarred, IsCentreError, IsFirstEmpty, IsFirstMark, IsFree, IsOutcome, OfPlace, body_centres, with_empty, with_network}
 use Rattle.project_store.specs.Loaded.{IsLoadedFrom, LoadedView}
 use Rattle.project_store.specs.Projects.{IsOfSources, IsWhyNot, Reads}
 use Rattle.project_store.specs.declared.centres.Outcome.{Outcome}
 use Rattle.project_store.specs.declared.centres.Outcome.TheVariants.{Built, EmptyCentre, Behind}
 use Rattle.project_store.specs.declared.store_error.StoreError.{StoreError}
 use Rattle.project_store.specs.declared.store_error.StoreError.TheVariants.{Memory, Refused}
+use Rattle.project_store.proofs.Bodies.{referred_name}
 use Rattle.project_store.proofs.Networks.{named_at, network_put, replicate_same}
 use Rattle.project_store.proofs.Shown.{names_differ, no_own_centre}
 
@@ -153,42 +153,29 @@ module _ (said : Said) (loaded : LoadedView) (from : IsLoadedFrom said loaded) w
 -- of what a definition refers to, by the names in its expression
 module _ (loaded : LoadedView) (built : List (Option Network)) (are : AreBuilt loaded built) (place : ℕ) (d : Definition) (at : slice_get loaded.definitions place ≡ Some d) where
   -- a name that has no network is referred to
-  pub behind_one : (leaf : Atom) → Contains (leaves_in (body_term d.body)) leaf → HasNoNetwork built leaf → (other : ℕ) × Leads (references_of loaded.definitions) place other × (slice_get built other ≡ Some None)
+  pub behind_one : (leaf : Atom) → Contains (expression_leaves (body_of d.body)) leaf → HasNoNetwork built leaf → (other : ℕ) × Leads (references_of loaded.definitions) place other × (slice_get built other ≡ Some None)
   behind_one (Sym s) stood none = absurd none
   behind_one (Name p) stood none =
       let inside = slice_get_within built p None none in
       let many = are.count in
       (p, named_at loaded.definitions place d at p stood (omega (arith, inside, many)), none)
 
-  flat_from : (leaves : List Atom) (q : ℕ) → Contains (flat_map (place_in (length loaded.definitions)) leaves) q → Contains leaves (Name q)
-  flat_from [] q h = absurd (Contains-nil_cases q h)
-  flat_from (Sym s ∷ leaves) q h = Contains-tail (Sym s) leaves (Name q) (flat_from leaves q h)
-  flat_from (Name p ∷ leaves) q h = by (nat_lt p (length loaded.definitions)) h (flat_from leaves q)
-    where
-      by : (b : Bool) → Contains (cond b (p ∷ []) [] ++ flat_map (place_in (length loaded.definitions)) leaves) q → (Contains (flat_map (place_in (length loaded.definitions)) leaves) q → Contains leaves (Name q))
-          → Contains (Name p ∷ leaves) (Name q)
-      by true h later = elim (Contains-cons_cases p (flat_map (place_in (length loaded.definitions)) leaves) q h) as (λ _. Contains (Name p ∷ leaves) (Name q)) [
-        | inl same ↦ subst (λ (r : ℕ). Contains (Name p ∷ leaves) (Name r)) same (Contains-head (Name p) leaves)
-        | inr there ↦ Contains-tail (Name p) leaves (Name q) (later there)
-      ]
-      by false h later = Contains-tail (Name p) leaves (Name q) (later h)
-
-  -- what is referred to stands in the expression
-  stands_in : (q : ℕ) → Leads (references_of loaded.definitions) place q → Contains (leaves_in (body_term d.body)) (Name q)
+  -- what is referred to stands in an expression
+  stands_in : (q : ℕ) → Leads (references_of loaded.definitions) place q → Contains (expression_leaves (body_of d.body)) (Name q)
   stands_in q (below, is, h) =
       let n = length loaded.definitions in
-      let here = slice_get-map (λ (x : Definition). places_in n (body_term x.body)) loaded.definitions place ∙ ap (option_map (λ (x : Definition). places_in n (body_term x.body))) at in
-      let same : below ≡ places_in n (body_term d.body) = same_Some below (places_in n (body_term d.body)) (sym is ∙ here) in
-      flat_from (leaves_in (body_term d.body)) q (subst (λ (ps : List ℕ). Contains ps q) (same ∙ listed_is (place_in n) (body_term d.body)) h)
+      let here = slice_get-map (λ (x : Definition). body_places n (body_of x.body)) loaded.definitions place ∙ ap (option_map (λ (x : Definition). body_places n (body_of x.body))) at in
+      let same : below ≡ body_places n (body_of d.body) = same_Some below (body_places n (body_of d.body)) (sym is ∙ here) in
+      referred_name n (expressions_of (body_of d.body)) q (subst (λ (ps : List ℕ). Contains ps q) same h)
 
   -- where no name is without network, each definition that is referred to has one
-  pub none_behind : All (λ leaf. HasNoNetwork built leaf → ⊥) (leaves_in (body_term d.body)) → HasParts loaded built place
+  pub none_behind : All (λ leaf. HasNoNetwork built leaf → ⊥) (expression_leaves (body_of d.body)) → HasParts loaded built place
   none_behind none q leads =
       let below = references_whole loaded.definitions place q leads in
-      let size = length-map loaded.definitions (λ (x : Definition). places_in (length loaded.definitions) (body_term x.body)) in
+      let size = length-map loaded.definitions (λ (x : Definition). body_places (length loaded.definitions) (body_of x.body)) in
       let many = are.count in
       let (o, there) = there_at built q (omega (arith, below, size, many)) in
-      by o there (All-contains (λ leaf. HasNoNetwork built leaf → ⊥) (leaves_in (body_term d.body)) (Name q) none (stands_in q leads))
+      by o there (All-contains (λ leaf. HasNoNetwork built leaf → ⊥) (expression_leaves (body_of d.body)) (Name q) none (stands_in q leads))
     where
       by : (o : Option Network) → slice_get built q ≡ Some o → (slice_get built q ≡ Some None → ⊥) → IsThere built q
       by None there has = absurd (has there)
@@ -323,7 +310,7 @@ module _ (loaded : LoadedView) (order : List ℕ) (ordered : IsOrder (references
   pub within_all : (place : ℕ) → Contains order place → place < length loaded.definitions
   within_all place among =
       let below = (ordered.places place).0 among in
-      let size = length-map loaded.definitions (λ (x : Definition). places_in (length loaded.definitions) (body_term x.body)) in
+      let size = length-map loaded.definitions (λ (x : Definition). body_places (length loaded.definitions) (body_of x.body)) in
       omega (arith, below, size)
 
   pub all_within : All (λ place. place < length loaded.definitions) order
@@ -366,11 +353,11 @@ module _ (loaded : LoadedView) (order : List ℕ) (ordered : IsOrder (references
           (tried_more loaded (take i front) built marks so_far here here_within here_behind outcome is)
 
   -- the whole front
-  module _ (plain : (i place : ℕ) (d : Definition) → end ≤ i → slice_get order i ≡ Some place → slice_get loaded.definitions place ≡ Some d → centres_in (body_term d.body) ≡ []) where
+  module _ (plain : (i place : ℕ) (d : Definition) → end ≤ i → slice_get order i ≡ Some place → slice_get loaded.definitions place ≡ Some d → body_centres (body_of d.body) ≡ []) where
     -- each definition is in the front or has no centre
     either : (place : ℕ) → place < length loaded.definitions → Contains (take end order) place ⊎ HasNoCentre loaded place
     either place below =
-        let size = length-map loaded.definitions (λ (x : Definition). places_in (length loaded.definitions) (body_term x.body)) in
+        let size = length-map loaded.definitions (λ (x : Definition). body_places (length loaded.definitions) (body_of x.body)) in
         let (k, at) = slice_get_from_Contains order place ((ordered.places place).1 (omega (arith, below, size))) in
         elim (cases_lt k end) as (λ _. Contains (take end order) place ⊎ HasNoCentre loaded place) [
           | inl less ↦ inl (take_has end order k place less at)
@@ -421,17 +408,17 @@ module _ (built : List (Option Network)) (leaves : List (Bor Atom)) where
 -- the end of the definitions with centres, among those so far
 module _ (definitions : List Definition) (order : List ℕ) where
   abbrev pub NoneFrom : ℕ → ℕ → Type 0
-  NoneFrom end index = (i place : ℕ) (d : Definition) → end ≤ i → i < index → slice_get order i ≡ Some place → slice_get definitions place ≡ Some d → centres_in (body_term d.body) ≡ []
+  NoneFrom end index = (i place : ℕ) (d : Definition) → end ≤ i → i < index → slice_get order i ≡ Some place → slice_get definitions place ≡ Some d → body_centres (body_of d.body) ≡ []
 
   pub ends_here : (index : ℕ) → NoneFrom (index + 1) (index + 1)
   ends_here index i place d past less at d_at = absurd (omega (arith, past, less))
 
-  pub ends_before : (end index : ℕ) (p : ℕ) (e : Definition) → slice_get order index ≡ Some p → slice_get definitions p ≡ Some e → centres_in (body_term e.body) ≡ [] → NoneFrom end index → NoneFrom end (index + 1)
-  ends_before end index p e p_at e_at none so_far i place d past less at d_at = elim (cases_eq i index) as (λ _. centres_in (body_term d.body) ≡ []) [
+  pub ends_before : (end index : ℕ) (p : ℕ) (e : Definition) → slice_get order index ≡ Some p → slice_get definitions p ≡ Some e → body_centres (body_of e.body) ≡ [] → NoneFrom end index → NoneFrom end (index + 1)
+  ends_before end index p e p_at e_at none so_far i place d past less at d_at = elim (cases_eq i index) as (λ _. body_centres (body_of d.body) ≡ []) [
     | inl same ↦
         (let p_is : place ≡ p = same_Some place p (sym at ∙ ap (slice_get order) same ∙ p_at) in
         let d_is : d ≡ e = same_Some d e (sym d_at ∙ ap (slice_get definitions) p_is ∙ e_at) in
-        subst (λ (x : Definition). centres_in (body_term x.body) ≡ []) (sym d_is) none)
+        subst (λ (x : Definition). body_centres (body_of x.body) ≡ []) (sym d_is) none)
     | inr apart ↦ so_far i place d past (omega (arith, less, apart)) at d_at
   ]
 
@@ -457,18 +444,18 @@ clear_more marks place mark at is clear before lower = elim (cases_eq before pla
 ]
 
 -- What was loaded of sources without a fault that is read.
-module _ (sources : Files) (said : Said) (free : (found : Fault) → FirstFault no_readers sources read_so_far found → ⊥) (says : FilesSay no_readers sources said) (loaded : LoadedView) (from : IsLoadedFrom said loaded) where
+module _ (sources : Files) (said : Said) (free : (found : Fault) → FirstFault readers_so_far sources read_so_far found → ⊥) (says : FilesSay readers_so_far sources said) (loaded : LoadedView) (from : IsLoadedFrom said loaded) where
   abbrev Empty : Written → Fault → Type 0
   Empty w found = Where (HasEmptyCentre (project_in said) (resolved_in said w).name) (fault_of w why.EmptyCentre) found
 
   pub reads_project : HasNoEmptyCentre loaded → Reads sources (Ok (project_in said))
   reads_project none = (no_fault, said, says, refl)
     where
-      no_fault : (found : Fault) → FirstFault no_readers sources rows_so_far found → ⊥
-      no_fault found h = elim ((centres_come_last no_readers read_so_far sources found).0 h) as (λ _. ⊥) [
+      no_fault : (found : Fault) → FirstFault readers_so_far sources rows_so_far found → ⊥
+      no_fault found h = elim ((centres_come_last readers_so_far read_so_far sources found).0 h) as (λ _. ⊥) [
         | inl read ↦ free found read
         | inr (clear, (other, other_says, first)) ↦
-            (let same : other ≡ said = files_say_one no_readers unbuilt_exact sources other said other_says says in
+            (let same : other ≡ said = files_say_one readers_so_far exact_so_far sources other said other_says says in
             none_at Empty said.written (λ k w at found here. none k (within_said said loaded from k w at) said from w.name (named_by said loaded from k w at) here.0) found
             (subst (λ (s : Said). First (λ w. Where (HasEmptyCentre (project_in s) (resolved_in s w).name) (fault_of w why.EmptyCentre)) s.written found) same first))
       ]
@@ -482,7 +469,7 @@ module _ (sources : Files) (said : Said) (free : (found : Fault) → FirstFault 
       let has = first.empty said from w.name (named_by said loaded from place w w_at) in
       let earlier = first_here Empty said.written place w found w_at (has, of_written)
       (λ j y lower at_y other here. first.first j lower said from y.name (named_by said loaded from j y at_y) here.0) in
-      (centres_come_last no_readers read_so_far sources found).1 (inr (free, (said, says, earlier)))
+      (centres_come_last readers_so_far read_so_far sources found).1 (inr (free, (said, says, earlier)))
 
   -- so it is with what telling its centres answers
   pub loads_project : (r : Result LoadedView StoreError) → IfOk r (λ new. new ≡ loaded) → OnOk r (HasNoEmptyCentre loaded) → IfOk r (IsOfSources sources)
@@ -495,5 +482,5 @@ module _ (sources : Files) (said : Said) (free : (found : Fault) → FirstFault 
   why_not_loaded (Err (Refused found)) (place, d, at, first, is) = reads_fault found place d at first is
 
 -- a fault that is read is the first
-pub first_of_read : (sources : Files) (found : Fault) → FirstFault no_readers sources read_so_far found → Reads sources (Err found)
-first_of_read sources found read = (centres_come_last no_readers read_so_far sources found).1 (inl read)
+pub first_of_read : (sources : Files) (found : Fault) → FirstFault readers_so_far sources read_so_far found → Reads sources (Err found)
+first_of_read sources found read = (centres_come_last readers_so_far read_so_far sources found).1 (inl read)

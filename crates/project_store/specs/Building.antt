@@ -1,15 +1,19 @@
 -- The networks of a project's definitions, each built of those of the names in it.
 use Rattle.std.specs.Prelude.{◌≡◌, ◌<◌, ◌++◌, ℕ, List, [], ◌∷◌, length, AllPairs, Contains, Option, Some, None, slice_get}
+use Rattle.std.specs.List.{flat_map}
 use Rattle.fsm_base.specs.Alphabet.{symbols_of}
 use Rattle.regex_ast.specs.declared.expr.Atom.{Atom}
 use Rattle.regex_ast.specs.declared.expr.Atom.TheVariants.{Name}
 use Rattle.expr_kinds.specs.Atoms.{kind_at}
+use Rattle.expr_leaves.specs.Leaves.{leaves_in}
 use Rattle.expr_spelling.specs.Laws.{IsSpelled}
 use Rattle.name_order.specs.Graph.{Refers}
 use Rattle.network_algebra.specs.Networks.{IsNetwork, PairsOf, kind_of_network}
 use Rattle.network_algebra.specs.declared.network.Network.{Network}
 use Rattle.network_expr.specs.declared.parts.Part.{Part}
+use Rattle.project_meaning.specs.Leaves.{expressions_of}
 use Rattle.project_meaning.specs.Meaning.{Meaning}
+use Rattle.project_meaning.specs.Trees.{Body}
 use Rattle.project_meaning.specs.Projects.{names_of}
 use Rattle.project_model.specs.Referring.{references_of}
 use Rattle.project_sources.specs.Sources.{Said, project_in}
@@ -34,6 +38,10 @@ IsThere built place = (n : Network) × (slice_get built place ≡ Some (Some n))
 -- each definition to which this one refers has its network
 abbrev pub HasParts : LoadedView → List (Option Network) → ℕ → Type 0
 HasParts loaded built place = (other : ℕ) → Refers (references_of loaded.definitions) place other → IsThere built other
+
+-- the leaves that stand in the expressions of a body
+abbrev pub expression_leaves : Body Atom → List Atom
+expression_leaves body = flat_map (λ e. leaves_in e) (expressions_of body)
 
 -- the numbers of the names among leaves, each at its place
 pub record AreNamesAmong (leaves : List Atom) (names : List (Option ℕ)) : Type 0 where

@@ -1,16 +1,20 @@
 -- Empty centres of a loaded project's definitions, by the places of these.
 use Rattle.std.specs.Prelude.{◌≡◌, ◌<◌, ◌⊎◌, ℕ, Bool, false, true, List, [], Option, None, Some, length, slice_get, slice_set}
+use Rattle.std.specs.List.{flat_map}
 use Rattle.network_algebra.specs.declared.network.Network.{Network}
 use Rattle.network_build.specs.declared.compiled.BuildError.{BuildError}
 use Rattle.network_build.specs.declared.compiled.BuildError.TheVariants as unbuilt
 use Rattle.name_order.specs.Graph.{Refers}
 use Rattle.project_meaning.specs.Centres.{HasEmptyCentre, HasOwnEmptyCentre, centres_in}
+use Rattle.project_meaning.specs.Leaves.{expressions_of}
 use Rattle.project_meaning.specs.Projects.{Project, Reaches, names_of}
-use Rattle.project_model.specs.Plans.{body_term}
+use Rattle.project_meaning.specs.Trees.{Body}
+use Rattle.project_model.specs.Plain.{body_of}
 use Rattle.project_model.specs.Referring.{references_of}
 use Rattle.project_model.specs.declared.definition.Definition.{Definition}
 use Rattle.regex_ast.specs.declared.expr.Atom.{Atom}
 use Rattle.regex_ast.specs.declared.expr.Atom.TheVariants.{Sym, Name}
+use Rattle.regex_ast.specs.Terms.{Term}
 use Rattle.regex_ast.specs.declared.fault.Why.TheVariants as why
 use Rattle.project_sources.specs.Faults.{fault}
 use Rattle.project_sources.specs.Sources.{Said, project_in}
@@ -40,9 +44,13 @@ IsBarred project name = HasOwnEmptyCentre project name ⊎ ((other : List ℕ) �
 abbrev pub IsFree : Project → List ℕ → Type 0
 IsFree project name = IsBarred project name → ⊥
 
+-- the centres in the expressions of a body
+abbrev pub body_centres : {A : Type 0} → Body A → List (Term A)
+body_centres body = flat_map (λ e. centres_in e) (expressions_of body)
+
 -- no rule of replacement in the definition at this place has a centre
 abbrev pub HasNoCentre : LoadedView → ℕ → Type 0
-HasNoCentre loaded place = (d : Definition) → slice_get loaded.definitions place ≡ Some d → centres_in (body_term d.body) ≡ []
+HasNoCentre loaded place = (d : Definition) → slice_get loaded.definitions place ≡ Some d → body_centres (body_of d.body) ≡ []
 
 -- why the definition at a place has no network: it has an own empty centre, or want of memory
 abbrev pub IsWhyUnbuilt : LoadedView → ℕ → BuildError → Type 0

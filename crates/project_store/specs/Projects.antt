@@ -4,7 +4,7 @@ use Rattle.fsm_io.specs.Folders.{Files}
 use Rattle.regex_ast.specs.declared.fault.Fault.{Fault}
 use Rattle.project_meaning.specs.Projects.{Project}
 use Rattle.project_sources.specs.Faults.{SourcesSay, rows_so_far}
-use Rattle.project_sources.specs.Laws.{unbuilt}
+use Rattle.project_sources.specs.Laws.{readers_so_far}
 use Rattle.project_sources.specs.Sources.{Said, project_in}
 use Rattle.project_store.specs.Loaded.{LoadedView, IsLoadedFrom}
 use Rattle.project_store.specs.declared.store_error.StoreError.{StoreError}
@@ -12,7 +12,7 @@ use Rattle.project_store.specs.declared.store_error.StoreError.TheVariants.{Memo
 
 -- the project that files are, or their first fault, by the readers and the rows that there are so far
 abbrev pub Reads : Files → Result Project Fault → Type 0
-Reads files answer = SourcesSay unbuilt files rows_so_far answer
+Reads files answer = SourcesSay readers_so_far files rows_so_far answer
 
 -- the project that sources are
 abbrev pub IsOfSources : Files → LoadedView → Type 0

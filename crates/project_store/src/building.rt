@@ -1,17 +1,16 @@
 ghost use Rattle.std.specs.Prelude.{◌≡◌, ◌<◌, ◌++◌, ◌∷◌, [], ℕ, List, None, Option, Some, Contains, IfErr, IfOk, OnOk, length, slice_get};
 ghost use Rattle.std.specs.Bool.{OnFalse, OnTrue};
 ghost use Rattle.regex_ast.specs.declared.expr.Atom.{Atom as Leaf};
-ghost use Rattle.regex_ast.specs.Terms.{term};
-ghost use Rattle.expr_leaves.specs.Leaves.{leaves_in, seen};
-ghost use Rattle.project_model.specs.Plans.{body_term};
+ghost use Rattle.expr_leaves.specs.Leaves.{seen};
+ghost use Rattle.project_model.specs.Plain.{body_of};
 ghost use Rattle.project_store.specs.Centres.{CentresAreBuilt, HasFilled, HasNoCentre, HasNoOwn, IsWhyUnbuilt, OfPlace};
-ghost use Rattle.project_store.specs.Building.{AreBuilt, AreNamesAmong, ArePartsOf, HasParts, HasPut, IsBuiltAt, IsThere};
+ghost use Rattle.project_store.specs.Building.{AreBuilt, AreNamesAmong, ArePartsOf, HasParts, HasPut, IsBuiltAt, IsThere, expression_leaves};
 
 use crate::project::Project;
 use expr_leaves::leaves;
-use network_build::{BuildError, Network, Part, build};
+use network_build::{BuildError, Network, Part, body_expressions, build};
 use project_model::Body;
-use regex_ast::{Atom, Expr};
+use regex_ast::Atom;
 use std::alloc::{AllocError, Global};
 
 /// Puts the number of a leaf that is a name at its place, if there is such a place.
@@ -76,28 +75,28 @@ fn parts_at<'a>(
     Ok(parts)
 }
 
-/// The parts of the names in an expression, among the networks that are built.
-fn parts_in<'a>(
-    alloc: Global,
-    expr: &Expr<Atom>,
-    built: &'a [Option<Network>],
-) -> Result<Vec<Part<'a>>, AllocError>
-    ensures { IfOk result (λ parts. (names : List (Option ℕ)) × (length names ≡ length built.now) × AreNamesAmong (leaves_in (term expr.now)) names × ArePartsOf names built.now parts.items) }
+/// The leaves that stand in the expressions of what a name stands for.
+pub fn leaves_of(alloc: Global, body: &Body<Atom>) -> Result<Vec<&Atom>, AllocError>
+    ensures { IfOk result (λ found. seen found.items ≡ expression_leaves (body_of body.now)) }
 {
-    let names = names_among(alloc, &leaves(alloc, expr)?, built.len())?;
-    parts_at(alloc, &names, built)
+    let expressions = body_expressions(alloc, body)?;
+    let mut found = Vec::new(alloc);
+    'expressions: for expr in expressions {
+        found.extend_from_slice(&leaves(alloc, expr)?)?;
+    }
+    Ok(found)
 }
 
-/// The parts of the names in what a name stands for.
+/// The parts of the names in what a name stands for, among the networks that are built.
 fn parts_of<'a>(
     alloc: Global,
-    body: &Body,
+    body: &Body<Atom>,
     built: &'a [Option<Network>],
 ) -> Result<Vec<Part<'a>>, AllocError>
-    ensures { IfOk result (λ parts. (names : List (Option ℕ)) × (length names ≡ length built.now) × AreNamesAmong (leaves_in (body_term body.now)) names × ArePartsOf names built.now parts.items) }
+    ensures { IfOk result (λ parts. (names : List (Option ℕ)) × (length names ≡ length built.now) × AreNamesAmong (expression_leaves (body_of body.now)) names × ArePartsOf names built.now parts.items) }
 {
-    let Body::Xfst(expr) = body;
-    parts_in(alloc, expr, built)
+    let names = names_among(alloc, &leaves_of(alloc, body)?, built.len())?;
+    parts_at(alloc, &names, built)
 }
 
 /// The network of the definition at a place, of the networks that are built; there is none where one of its own centres has

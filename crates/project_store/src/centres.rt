@@ -1,19 +1,19 @@
 ghost use Rattle.std.specs.Prelude.{◌≡◌, ◌≤◌, ◌<◌, ℕ, [], All, Contains, IfOk, MatchOption, None, Some, false, length, replicate, slice_get};
 ghost use Rattle.std.specs.Bool.{OnFalse, OnTrue};
 ghost use Rattle.project_meaning.specs.Centres.{centres_in};
-ghost use Rattle.project_model.specs.Plans.{body_term};
+ghost use Rattle.project_model.specs.Plain.{body_of};
 ghost use Rattle.project_model.specs.declared.definition.Definition.{Definition as Defined};
 ghost use Rattle.regex_ast.specs.declared.expr.Atom.{Atom as Leaf};
-ghost use Rattle.expr_leaves.specs.Leaves.{leaves_in};
-ghost use Rattle.project_store.specs.Centres.{AreClear, AreFree, AreTried, HasNoNetwork, IsFirstMark, IsOutcome, with_empty, with_network};
+ghost use Rattle.regex_ast.specs.Terms.{term};
+ghost use Rattle.project_store.specs.Building.{expression_leaves};
+ghost use Rattle.project_store.specs.Centres.{AreClear, AreFree, AreTried, HasNoNetwork, IsFirstMark, IsOutcome, body_centres, with_empty, with_network};
 
-use crate::building::{built_of, none_built};
+use crate::building::{built_of, leaves_of, none_built};
 use crate::project::Project;
-use expr_leaves::leaves;
-use network_build::{BuildError, Network};
+use network_build::{BuildError, Network, body_expressions};
 use network_centres::centres;
 use project_model::{Body, Definition};
-use regex_ast::Atom;
+use regex_ast::{Atom, Expr};
 use std::alloc::{AllocError, Global};
 
 /// What comes of a definition that is tried.
@@ -76,12 +76,24 @@ impl Tried {
     }
 }
 
-/// Whether a rule of replacement with a centre stands in what a name stands for.
-fn has_centre(alloc: Global, body: &Body) -> Result<bool, AllocError>
-    ensures { IfOk result (λ has. OnFalse has (centres_in (body_term body.now) ≡ [])) }
+/// Whether a rule of replacement with a centre stands in an expression.
+fn has_centre_in(alloc: Global, expr: &Expr<Atom>) -> Result<bool, AllocError>
+    ensures { IfOk result (λ has. OnFalse has (centres_in (term expr.now) ≡ [])) }
 {
-    let Body::Xfst(expr) = body;
     Ok(!centres(alloc, expr)?.is_empty())
+}
+
+/// Whether a rule of replacement with a centre stands in what a name stands for.
+fn has_centre(alloc: Global, body: &Body<Atom>) -> Result<bool, AllocError>
+    ensures { IfOk result (λ has. OnFalse has (body_centres (body_of body.now) ≡ [])) }
+{
+    let expressions = body_expressions(alloc, body)?;
+    'expressions: for expr in expressions {
+        if has_centre_in(alloc, expr)? {
+            return Ok(true);
+        }
+    }
+    Ok(false)
 }
 
 /// How long the front of an order is in which all definitions with centres stand.
@@ -92,7 +104,7 @@ fn end_of_centres(
 ) -> Result<usize, AllocError>
     requires { All (λ place. place < length definitions.now) order.now }
     ensures within { IfOk result (λ end. end ≤ length order.now) }
-    ensures behind { IfOk result (λ end. (i place : ℕ) (d : Defined) → end ≤ i → slice_get order.now i ≡ Some place → slice_get definitions.now place ≡ Some d → centres_in (body_term d.body) ≡ []) }
+    ensures behind { IfOk result (λ end. (i place : ℕ) (d : Defined) → end ≤ i → slice_get order.now i ≡ Some place → slice_get definitions.now place ≡ Some d → body_centres (body_of d.body) ≡ []) }
 {
     let mut end = 0;
     'order: for (index, place) in order.iter().enumerate() {
@@ -115,12 +127,15 @@ fn has_no_network(leaf: &Atom, built: &[Option<Network>]) -> bool
 }
 
 /// Whether one of the names in what a name stands for has no network.
-fn lacks_part(alloc: Global, body: &Body, built: &[Option<Network>]) -> Result<bool, AllocError>
-    ensures yes { IfOk result (λ lacks. OnTrue lacks ((leaf : Leaf) × Contains (leaves_in (body_term body.now)) leaf × HasNoNetwork built.now leaf)) }
-    ensures no { IfOk result (λ lacks. OnFalse lacks (All (λ leaf. HasNoNetwork built.now leaf → ⊥) (leaves_in (body_term body.now)))) }
+fn lacks_part(
+    alloc: Global,
+    body: &Body<Atom>,
+    built: &[Option<Network>],
+) -> Result<bool, AllocError>
+    ensures yes { IfOk result (λ lacks. OnTrue lacks ((leaf : Leaf) × Contains (expression_leaves (body_of body.now)) leaf × HasNoNetwork built.now leaf)) }
+    ensures no { IfOk result (λ lacks. OnFalse lacks (All (λ leaf. HasNoNetwork built.now leaf → ⊥) (expression_leaves (body_of body.now)))) }
 {
-    let Body::Xfst(expr) = body;
-    let leaves = leaves(alloc, expr)?;
+    let leaves = leaves_of(alloc, body)?;
     'leaves: for leaf in &leaves {
         if has_no_network(leaf, built) {
             return Ok(true);

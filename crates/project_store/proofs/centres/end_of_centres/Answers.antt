@@ -1,7 +1,7 @@
 use Rattle.std.proofs.Common.{◌≡◌, ◌+◌, [], arith, get_or, refl, subst, sym}
 use Rattle.std.proofs.lemmas.Option.{slice_get-get_or, slice_get_read, slice_get_within}
-use Rattle.project_meaning.specs.Centres.{centres_in}
-use Rattle.project_model.specs.Plans.{body_term}
+use Rattle.project_store.specs.Centres.{body_centres}
+use Rattle.project_model.specs.Plain.{body_of}
 use Rattle.project_model.specs.declared.definition.Definition.{Definition}
 use Rattle.project_store.proofs.Trying.{NoneFrom, ends_before, ends_here}
 use Rattle.project_store.proofs.centres.end_of_centres.Goals as goal
@@ -21,7 +21,7 @@ order-preserved c = elim c.if-branch.branch [
       record {
         within = let is = w.end-is in let before = c.order.invariant.within in omega (arith, is, before);
         behind = subst (λ end. NoneFrom c.args.definitions.now c.args.order.now end (c.order.index + 1)) (sym w.end-is)
-            (ends_before c.args.definitions.now c.args.order.now c.order.end c.order.index place c.index-definitions-place.result at stands (subst (λ (x : Definition). centres_in (body_term x.body) ≡ []) (sym c.index-definitions-place.is) (rw w.if-branch.false at c.in_ok-has_centre.ensures)) c.order.invariant.behind);
+            (ends_before c.args.definitions.now c.args.order.now c.order.end c.order.index place c.index-definitions-place.result at stands (subst (λ (x : Definition). body_centres (body_of x.body) ≡ []) (sym c.index-definitions-place.is) (rw w.if-branch.false at c.in_ok-has_centre.ensures)) c.order.invariant.behind);
       })
 ]
 

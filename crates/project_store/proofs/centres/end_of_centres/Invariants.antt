@@ -1,6 +1,6 @@
 use Rattle.std.proofs.Common.{◌≡◌, ◌≤◌, ◌<◌, ℕ, [], Some, slice_get}
-use Rattle.project_meaning.specs.Centres.{centres_in}
-use Rattle.project_model.specs.Plans.{body_term}
+use Rattle.project_store.specs.Centres.{body_centres}
+use Rattle.project_model.specs.Plain.{body_of}
 use Rattle.project_model.specs.declared.definition.Definition.{Definition}
 use Rattle.project_store.proofs.centres.end_of_centres.Given as goal
 
@@ -8,5 +8,5 @@ use Rattle.project_store.proofs.centres.end_of_centres.Given as goal
 abbrev pub invariant-order : goal.invariant-order
 invariant-order l = record {
   within : l.end ≤ l.index;
-  behind : (i place : ℕ) (d : Definition) → l.end ≤ i → i < l.index → slice_get l.order i ≡ Some place → slice_get l.definitions place ≡ Some d → centres_in (body_term d.body) ≡ [];
+  behind : (i place : ℕ) (d : Definition) → l.end ≤ i → i < l.index → slice_get l.order i ≡ Some place → slice_get l.definitions place ≡ Some d → body_centres (body_of d.body) ≡ [];
 }

@@ -1,5 +1,5 @@
-use Rattle.expr_leaves.specs.Leaves.{leaves_in}
-use Rattle.project_model.specs.Plans.{body_term}
+use Rattle.project_store.specs.Building.{expression_leaves}
+use Rattle.project_model.specs.Plain.{body_of}
 use Rattle.project_store.specs.Centres.{HasNoNetwork}
 use Rattle.std.proofs.Common.{All, Contains, ◌<◌, ◌∙◌, List, length, rules, subst, sym}
 use Rattle.regex_ast.specs.declared.expr.Atom.{Atom}
@@ -25,7 +25,7 @@ returns-then-branch c =
     let below = subst (λ (ds : List Definition). c.args.place < length ds) (sym same) c.requires.place in
     let at = stands_at c.definitions-all.result.now loaded.definitions c.args.place d same below c.index-all-place.is in
     let (leaf, stood, none) =
-    subst (λ (x : Definition). (leaf : Atom) × Contains (leaves_in (body_term x.body)) leaf × HasNoNetwork c.args.built.now leaf) (sym c.index-all-place.is) (rw c.if-branch.true at c.in_ok-lacks_part.ensures.yes) in
+    subst (λ (x : Definition). (leaf : Atom) × Contains (expression_leaves (body_of x.body)) leaf × HasNoNetwork c.args.built.now leaf) (sym c.index-all-place.is) (rw c.if-branch.true at c.in_ok-lacks_part.ensures.yes) in
     behind_one loaded c.args.built.now c.requires.free.are c.args.place d at leaf stood none
 
 pub built_of-requires-clause-parts : goal.built_of-requires-clause-parts
@@ -35,7 +35,7 @@ built_of-requires-clause-parts c =
     let same = c.definitions-all.ensures.definitions ∙ c.plan-plan.ensures.definitions in
     let below = subst (λ (ds : List Definition). c.args.place < length ds) (sym same) c.requires.place in
     let at = stands_at c.definitions-all.result.now loaded.definitions c.args.place d same below c.index-all-place.is in
-    none_behind loaded c.args.built.now c.requires.free.are c.args.place d at (subst (λ (x : Definition). All (λ leaf. HasNoNetwork c.args.built.now leaf → ⊥) (leaves_in (body_term x.body))) (sym c.index-all-place.is) (rw c.if-branch.false at c.in_ok-lacks_part.ensures.no))
+    none_behind loaded c.args.built.now c.requires.free.are c.args.place d at (subst (λ (x : Definition). All (λ leaf. HasNoNetwork c.args.built.now leaf → ⊥) (expression_leaves (body_of x.body))) (sym c.index-all-place.is) (rw c.if-branch.false at c.in_ok-lacks_part.ensures.no))
 
 pub returns-in-Ok : goal.returns-in-Ok
 returns-in-Ok c =
@@ -44,7 +44,7 @@ returns-in-Ok c =
     let same = c.definitions-all.ensures.definitions ∙ c.plan-plan.ensures.definitions in
     let below = subst (λ (ds : List Definition). c.args.place < length ds) (sym same) c.requires.place in
     let at = stands_at c.definitions-all.result.now loaded.definitions c.args.place d same below c.index-all-place.is in
-    let parts = none_behind loaded c.args.built.now c.requires.free.are c.args.place d at (subst (λ (x : Definition). All (λ leaf. HasNoNetwork c.args.built.now leaf → ⊥) (leaves_in (body_term x.body))) (sym c.index-all-place.is) (rw c.if-branch.false at c.in_ok-lacks_part.ensures.no)) in
+    let parts = none_behind loaded c.args.built.now c.requires.free.are c.args.place d at (subst (λ (x : Definition). All (λ leaf. HasNoNetwork c.args.built.now leaf → ⊥) (expression_leaves (body_of x.body))) (sym c.index-all-place.is) (rw c.if-branch.false at c.in_ok-lacks_part.ensures.no)) in
     (c.in-Ok.ensures.network, is_free loaded c.args.built.now c.requires.free c.args.place parts c.in-Ok.ensures.filled)
 
 pub returns-in-Err-EmptyCentre : goal.returns-in-Err-EmptyCentre
@@ -54,6 +54,6 @@ returns-in-Err-EmptyCentre c =
     let same = c.definitions-all.ensures.definitions ∙ c.plan-plan.ensures.definitions in
     let below = subst (λ (ds : List Definition). c.args.place < length ds) (sym same) c.requires.place in
     let at = stands_at c.definitions-all.result.now loaded.definitions c.args.place d same below c.index-all-place.is in
-    let parts = none_behind loaded c.args.built.now c.requires.free.are c.args.place d at (subst (λ (x : Definition). All (λ leaf. HasNoNetwork c.args.built.now leaf → ⊥) (leaves_in (body_term x.body))) (sym c.index-all-place.is) (rw c.if-branch.false at c.in_ok-lacks_part.ensures.no)) in
+    let parts = none_behind loaded c.args.built.now c.requires.free.are c.args.place d at (subst (λ (x : Definition). All (λ leaf. HasNoNetwork c.args.built.now leaf → ⊥) (expression_leaves (body_of x.body))) (sym c.index-all-place.is) (rw c.if-branch.false at c.in_ok-lacks_part.ensures.no)) in
     let why = rw c.in-Err-EmptyCentre.field-0-is at c.in-Err-EmptyCentre.ensures.error in
     is_empty loaded c.args.built.now c.requires.free c.args.place parts why.0
