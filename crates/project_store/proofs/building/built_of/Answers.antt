@@ -1,7 +1,7 @@
 use Rattle.std.proofs.Common.{◌<◌, ◌∙◌, List, length, rules, subst, sym}
 use Rattle.project_model.specs.declared.definition.Definition.{Definition}
 use Rattle.project_store.proofs.Named.{stands_at}
-use Rattle.project_store.proofs.Networks.{built_as, built_over, filled_as, fits, ground, why_as}
+use Rattle.project_store.proofs.Networks.{built_as, built_over, filled_as, fits, formed, ground, why_as}
 use Rattle.project_store.proofs.building.built_of.Goals as goal
 
 pub bounds-all-place : goal.bounds-all-place
@@ -42,6 +42,16 @@ build-requires-clause-fits c =
     let at = stands_at c.definitions-all.result.now loaded.definitions c.args.place d same below c.index-all-place.is in
     let (names, size, among, parts_are) = c.in_ok-parts.ensures in
     rw c.deref.ensures.value (fits loaded c.plan-plan.ensures.formed c.args.built.now c.requires.built c.args.place d at names size among c.in_ok-parts.parts.items parts_are c.requires.parts)
+
+pub build-requires-clause-formed : goal.build-requires-clause-formed
+build-requires-clause-formed c =
+    let loaded = c.args.project.now in
+    let d = c.index-all-place.result in
+    let same = c.definitions-all.ensures.definitions ∙ c.plan-plan.ensures.definitions in
+    let below = subst (λ (ds : List Definition). c.args.place < length ds) (sym same) c.requires.place in
+    let at = stands_at c.definitions-all.result.now loaded.definitions c.args.place d same below c.index-all-place.is in
+    let (names, size, among, parts_are) = c.in_ok-parts.ensures in
+    formed loaded c.plan-plan.ensures.formed c.args.built.now c.requires.built c.args.place d at names size among c.in_ok-parts.parts.items parts_are c.requires.parts
 
 pub returns-clause-network : goal.returns-clause-network
 returns-clause-network c =
