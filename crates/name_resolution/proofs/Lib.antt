@@ -1,4 +1,4 @@
 pub mod Texts
 pub mod Leaves
+pub mod Listed
 pub mod Mapped
-pub mod Rowed

@@ -1,0 +1,4 @@
+mod Letters
+mod Numbering
+mod Rows
+mod Symbols
