@@ -179,9 +179,9 @@ fn map_step<A, B: Drop, M: LeafMap<A, B>>(
     }
 }
 
-/// Contexts.
+/// Contexts with their leaves replaced.
 #[cycle(walk)]
-fn map_contexts<A, B: Drop, M: LeafMap<A, B>>(
+pub fn map_contexts<A, B: Drop, M: LeafMap<A, B>>(
     alloc: Global,
     images: &M,
     contexts: &[Context<A>],

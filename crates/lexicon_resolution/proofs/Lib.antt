@@ -1,4 +1,2 @@
-mod Letters
 mod Numbering
-mod Rows
 mod Symbols

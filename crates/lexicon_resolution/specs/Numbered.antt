@@ -4,27 +4,24 @@ use Rattle.regex_ast.specs.declared.expr.Atom.{Atom}
 use Rattle.regex_ast.specs.declared.expr.Raw.{Raw}
 use Rattle.lexicon_spelling.specs.Mapped.{mapped_entry, mapped_form, mapped_lexicon}
 use Rattle.name_resolution.specs.Numbered.{numbered}
-use Rattle.name_resolution.specs.Resolved.{atom_of}
-use Rattle.project_meaning.specs.Leaves.{resolved_lexicon, symbol_of}
+use Rattle.name_resolution.specs.Resolved.{atom_of, letter_of}
+use Rattle.project_meaning.specs.Leaves.{resolved_lexicon}
 use Rattle.project_meaning.specs.Lexicons.{piece_by}
 use Rattle.project_meaning.specs.Trees.{Entry, Form, Lexicon, Piece}
 
 -- names are defined, and a table has the symbols. A leaf of an expression may be a name; a letter on a side is a symbol
 module _ (names table : List (List ℕ)) where
-  abbrev pub letter_in : Raw → Atom
-  letter_in raw = numbered names table (symbol_of raw)
-
   abbrev pub piece_in : Piece Raw → Piece Atom
-  piece_in piece = piece_by letter_in piece
+  piece_in piece = piece_by (letter_of names table) piece
 
   abbrev pub form_in : Form Raw → Form Atom
-  form_in form = mapped_form (atom_of names table) letter_in form
+  form_in form = mapped_form (atom_of names table) (letter_of names table) form
 
   abbrev pub entry_in : Entry Raw → Entry Atom
-  entry_in entry = mapped_entry (atom_of names table) letter_in entry
+  entry_in entry = mapped_entry (atom_of names table) (letter_of names table) entry
 
   abbrev pub lexicon_in : Lexicon Raw → Lexicon Atom
-  lexicon_in lexicon = mapped_lexicon (atom_of names table) letter_in lexicon
+  lexicon_in lexicon = mapped_lexicon (atom_of names table) (letter_of names table) lexicon
 
 -- these are the resolved lexicons, each leaf by its number
 abbrev pub AreResolvedByNumber : Type 0

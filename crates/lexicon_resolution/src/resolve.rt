@@ -1,24 +1,11 @@
 ghost use Rattle.std.specs.Prelude.{◌≡◌, IfOk, map};
-ghost use Rattle.lexicon_resolution.specs.Numbered.{entry_in, form_in, letter_in, lexicon_in, piece_in};
+ghost use Rattle.lexicon_resolution.specs.Numbered.{entry_in, form_in, lexicon_in, piece_in};
 ghost use Rattle.lexicon_resolution.specs.Plain.{entry_of, flag_of, form_of, lexicon_of, lines_of, piece_of};
 
 use fsm_base::{SymbolTable, Text};
-use name_resolution::{Names, resolve, symbol_text};
+use name_resolution::{Names, letter_of, resolve};
 use regex_ast::{Atom, Entry, FlagOp, Form, Lexicon, Piece, Raw};
 use std::alloc::{AllocError, Global};
-
-/// What a letter on a side is where a table has the symbols: a symbol, by its number. The reader gives no letter without
-/// a text; such a one counts as a name behind all others.
-fn letter_in(names: &Names, table: &SymbolTable, leaf: &Raw) -> Atom
-    ensures { result ≡ letter_in names.now table.now leaf.now }
-{
-    let text = symbol_text(leaf);
-    if text.is_empty() {
-        Atom::Name(names.end())
-    } else {
-        Atom::Sym(table.number_of(text))
-    }
-}
 
 /// A copy of a text, where there is one.
 fn same_text(text: &Option<Text>) -> Result<Option<Text>, AllocError>
@@ -52,7 +39,7 @@ fn resolve_piece(
     ensures { IfOk result (λ found. piece_of found ≡ piece_in names.now table.now (piece_of piece.now)) }
 {
     match piece {
-        Piece::Symbol(leaf) => Ok(Piece::Symbol(letter_in(names, table, leaf))),
+        Piece::Symbol(leaf) => Ok(Piece::Symbol(letter_of(names, table, leaf))),
         Piece::Flag(flag) => Ok(Piece::Flag(same_flag(flag)?)),
     }
 }

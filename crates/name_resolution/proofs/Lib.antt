@@ -2,3 +2,4 @@ pub mod Texts
 pub mod Leaves
 pub mod Listed
 pub mod Mapped
+pub mod Rows

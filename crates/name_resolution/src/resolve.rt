@@ -1,7 +1,7 @@
 ghost use Rattle.std.specs.Prelude.{◌≡◌, IfOk};
 ghost use Rattle.regex_ast.specs.Terms.{term};
 ghost use Rattle.expr_leaves.specs.Mapped.{mapped};
-ghost use Rattle.name_resolution.specs.Resolved.{atom_of};
+ghost use Rattle.name_resolution.specs.Resolved.{atom_of, letter_of};
 
 use crate::leaves::symbol_text;
 use crate::names::Names;
@@ -23,6 +23,19 @@ pub fn atom_of(names: &Names, table: &SymbolTable, leaf: &Raw) -> Atom
         Atom::Name(names.number_of(text))
     } else {
         Atom::Name(names.end())
+    }
+}
+
+/// What a leaf is where no name may stand and this table has the symbols: a symbol, by its number. One without a text, which
+/// the readers don't give, counts as a name behind all others.
+pub fn letter_of(names: &Names, table: &SymbolTable, leaf: &Raw) -> Atom
+    ensures { result ≡ letter_of names.now table.now leaf.now }
+{
+    let text = symbol_text(leaf);
+    if text.is_empty() {
+        Atom::Name(names.end())
+    } else {
+        Atom::Sym(table.number_of(text))
     }
 }
 

@@ -1,5 +1,5 @@
 use Rattle.std.proofs.Common.{arith}
-use Rattle.lexicon_resolution.proofs.Rows.{row_ended, row_more, twice_ended}
+use Rattle.name_resolution.proofs.Rows.{row_ended, row_more, twice_ended}
 use Rattle.lexicon_resolution.proofs.resolve.resolve_entries.Goals as goal
 use Rattle.lexicon_resolution.specs.Numbered.{entry_in}
 use Rattle.lexicon_resolution.specs.Plain.{entry_of}
