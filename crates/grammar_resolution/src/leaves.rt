@@ -7,16 +7,11 @@ ghost use Rattle.grammar_resolution.specs.Plain.{definition_of, grammar_of, pair
 ghost use Rattle.regex_ast.specs.Terms.{contexts_of};
 
 use expr_leaves::leaves;
-use regex_ast::{
-    Context, Grammar, PairAtom, PairDefine, PairPart, PairSide, SetOf, TwoLevelRule,
-};
+use regex_ast::{Context, Grammar, PairAtom, PairDefine, PairPart, PairSide, SetOf, TwoLevelRule};
 use std::alloc::{AllocError, Global};
 
 /// Adds the leaf of a side, if it has one.
-fn add_side<'a, A>(
-    side: &'a PairSide<A>,
-    found: &mut Vec<&'a A>,
-) -> Result<(), AllocError>
+fn add_side<'a, A>(side: &'a PairSide<A>, found: &mut Vec<&'a A>) -> Result<(), AllocError>
     ensures { OnOk result (seen found.new.items ≡ seen found.old.items ++ leaves_in_side (side_of side.now)) }
 {
     match side {
@@ -31,10 +26,7 @@ fn add_side<'a, A>(
 }
 
 /// Adds the leaves of a pair.
-fn add_pair<'a, A>(
-    pair: &'a PairAtom<A>,
-    found: &mut Vec<&'a A>,
-) -> Result<(), AllocError>
+fn add_pair<'a, A>(pair: &'a PairAtom<A>, found: &mut Vec<&'a A>) -> Result<(), AllocError>
     ensures { OnOk result (seen found.new.items ≡ seen found.old.items ++ leaves_in_pair (pair_of pair.now)) }
 {
     add_side(&pair.up, found)?;
@@ -42,10 +34,7 @@ fn add_pair<'a, A>(
 }
 
 /// Adds the leaves of pairs.
-fn add_pairs<'a, A>(
-    pairs: &'a [PairAtom<A>],
-    found: &mut Vec<&'a A>,
-) -> Result<(), AllocError>
+fn add_pairs<'a, A>(pairs: &'a [PairAtom<A>], found: &mut Vec<&'a A>) -> Result<(), AllocError>
     ensures { OnOk result (seen found.new.items ≡ seen found.old.items ++ flat_map leaves_in_pair (map pair_of pairs.now)) }
 {
     'pairs: for pair in pairs {
@@ -55,10 +44,7 @@ fn add_pairs<'a, A>(
 }
 
 /// Adds symbols.
-fn add_symbols<'a, A>(
-    symbols: &'a [A],
-    found: &mut Vec<&'a A>,
-) -> Result<(), AllocError>
+fn add_symbols<'a, A>(symbols: &'a [A], found: &mut Vec<&'a A>) -> Result<(), AllocError>
     ensures { OnOk result (seen found.new.items ≡ seen found.old.items ++ symbols.now) }
 {
     'symbols: for symbol in symbols {
@@ -68,10 +54,7 @@ fn add_symbols<'a, A>(
 }
 
 /// Adds the symbols of sets.
-fn add_sets<'a, A>(
-    sets: &'a [SetOf<A>],
-    found: &mut Vec<&'a A>,
-) -> Result<(), AllocError>
+fn add_sets<'a, A>(sets: &'a [SetOf<A>], found: &mut Vec<&'a A>) -> Result<(), AllocError>
     ensures { OnOk result (seen found.new.items ≡ seen found.old.items ++ flat_map (λ s. s.symbols) (map set_of sets.now)) }
 {
     'sets: for set in sets {
@@ -81,10 +64,7 @@ fn add_sets<'a, A>(
 }
 
 /// Adds the leaves of a part of an expression over pairs.
-fn add_part<'a, A>(
-    part: &'a PairPart<A>,
-    found: &mut Vec<&'a A>,
-) -> Result<(), AllocError>
+fn add_part<'a, A>(part: &'a PairPart<A>, found: &mut Vec<&'a A>) -> Result<(), AllocError>
     ensures { OnOk result (seen found.new.items ≡ seen found.old.items ++ leaves_in_part (part_of part.now)) }
 {
     match part {
@@ -94,10 +74,7 @@ fn add_part<'a, A>(
 }
 
 /// Adds the leaves of parts.
-fn add_parts<'a, A>(
-    parts: &[&'a PairPart<A>],
-    found: &mut Vec<&'a A>,
-) -> Result<(), AllocError>
+fn add_parts<'a, A>(parts: &[&'a PairPart<A>], found: &mut Vec<&'a A>) -> Result<(), AllocError>
     ensures { OnOk result (seen found.new.items ≡ seen found.old.items ++ flat_map leaves_in_part (map part_of (seen parts.now))) }
 {
     'parts: for part in parts {

@@ -2,6 +2,7 @@
 //!
 //! - [`resolve_lexicons`]: lexicons whose leaves are names, by their places, and symbols, by their numbers in a table.
 //! - [`places`]: the leaves that stand in lexicons, a [`Place`] each. [`expressions`]: their expressions.
+//! - [`are_resolved_by_number`], [`symbols_are_of_places`]: laws, which the contracts of the crates above cite.
 //!
 //! Read `specs/Plain.antt`, `specs/Numbered.antt` and `specs/Places.antt`.
 #![tactic(auto)]

@@ -1,5 +1,5 @@
 /// Where a leaf stands in lexicons.
-#[derive(Clone, Copy, Debug, PartialEq, Eq)]
+#[derive(Clone, Copy, Debug)]
 pub enum Place<L> {
     /// It is a letter on a side, where no name may stand.
     OnSide(L),
