@@ -10,7 +10,7 @@ use Rattle.regex_ast.specs.declared.expr.Link.{Link, Or, And, Less}
 use Rattle.regex_ast.specs.declared.expr.Mapping.{Mapping, Plain, Markup, Insert}
 use Rattle.regex_ast.specs.declared.expr.Step.{Step, CrossWith, Then}
 use Rattle.expr_leaves.specs.Mapped.{mapped, mapped_each, mapped_links, mapped_contexts, mapped_steps, mapped_mappings, mapped_groups}
-use Rattle.name_resolution.specs.Resolved.{link_before, step_before, context_before, mapping_before, group_before, IsLinkOf, IsStepOf, IsContextOf, IsMappingOf, IsGroupOf}
+use Rattle.expr_mapping.specs.Replaced.{link_before, step_before, context_before, mapping_before, group_before, IsLinkOf, IsStepOf, IsContextOf, IsMappingOf, IsGroupOf}
 
 -- items in front of a row
 abbrev pub onto : {Y S : Type 0} → (Y → S → S) → List Y → S → S
