@@ -5,7 +5,8 @@ use Rattle.regex_ast.specs.declared.expr.Atom.{Atom}
 use Rattle.regex_ast.specs.Terms.{term}
 use Rattle.project_meaning.specs.Trees.{Grammar, xfst, lexc, twolc}
 use Rattle.project_meaning.specs.Projects.{Written}
-use Rattle.project_model.specs.Plain.{body_of, lexicon_of}
+use Rattle.lexicon_resolution.specs.Plain.{lexicon_of}
+use Rattle.project_model.specs.Plain.{body_of}
 use Rattle.project_model.specs.Stands.{Entry, entry_of, entry_in}
 use Rattle.project_model.specs.declared.definition.Body.{Body as BodyOf}
 use Rattle.project_model.specs.declared.definition.Body.TheVariants.{Xfst, Lexc}

@@ -10,7 +10,7 @@ use Rattle.regex_ast.specs.declared.lexc.Lexicon.{Lexicon as LexiconOf}
 use Rattle.lexc_grammar.specs.Files.{ReadsAs, SaysLexicons}
 use Rattle.lexc_grammar.specs.Lexicons.{EntryAt, without_lines, entry_of as entry_at, form_of as form_read, lexicon_of as lexicon_at, piece_of as piece_read}
 use Rattle.project_meaning.specs.Trees.{sides}
-use Rattle.project_model.specs.Plain.{form_of, lexicon_entry_of, lexicon_of, piece_of}
+use Rattle.lexicon_resolution.specs.Plain.{entry_of, form_of, lexicon_of, piece_of}
 
 piece_is : (piece : PieceOf Raw) → piece_of piece ≡ piece_read piece
 piece_is (OfSymbol leaf) = refl
@@ -30,11 +30,11 @@ form_is (Sides upper lower) =
     λ i. sides (up i) (low i)
 form_is (Pairs e) = refl
 
-entries_are : (entries : List (EntryOf Raw)) → map lexicon_entry_of entries ≡ map (λ (e : EntryAt). e.entry) (map entry_at entries)
+entries_are : (entries : List (EntryOf Raw)) → map entry_of entries ≡ map (λ (e : EntryAt). e.entry) (map entry_at entries)
 entries_are [] = refl
 entries_are (e ∷ entries) =
     let form = form_is e.form in
-    let here : lexicon_entry_of e ≡ (entry_at e).entry = λ i. record { form = form i; next = e.next } in
+    let here : entry_of e ≡ (entry_at e).entry = λ i. record { form = form i; next = e.next } in
     let rest = entries_are entries in
     λ i. here i ∷ rest i
 

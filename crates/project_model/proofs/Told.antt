@@ -24,7 +24,8 @@ use Rattle.project_meaning.specs.Trees.{Body, xfst, lexc, twolc}
 use Rattle.project_meaning.proofs.Forms.{same_body_weight}
 use Rattle.project_meaning.proofs.Places.{in_flat}
 use Rattle.name_resolution.specs.Numbered.{numbered}
-use Rattle.project_model.specs.Bodies.{BodyFitsBy, kind_of_body, lexicon_weight, mapped_body, mapped_grammar, weight_of_body}
+use Rattle.project_model.specs.Bodies.{BodyFitsBy, kind_of_body, lexicon_weight, mapped_body, weight_of_body}
+use Rattle.grammar_resolution.specs.Mapped.{mapped_grammar}
 use Rattle.project_model.specs.Plain.{body_of}
 use Rattle.project_model.specs.declared.definition.Body.{Body as BodyOf}
 use Rattle.project_model.proofs.Bodies.{expressions_mapped, held_expressions}

@@ -3,7 +3,7 @@ ghost use Rattle.expr_kinds.specs.Atoms.{is_known_at, is_symbol, leaves_at, weig
 ghost use Rattle.expr_kinds.specs.Forms.{capped};
 ghost use Rattle.project_sources.specs.Built.{FormIsBuiltBy, LexiconIsBuiltBy, PieceIsBuiltBy};
 ghost use Rattle.project_model.specs.Bodies.{FormFitsBy, LexiconFitsBy, form_weight, lexicon_weight};
-ghost use Rattle.project_model.specs.Plain.{form_of, lexicon_entry_of, lexicon_of, piece_of};
+ghost use Rattle.lexicon_resolution.specs.Plain.{entry_of, form_of, lexicon_of, piece_of};
 
 use expr_kinds::{Form, form_of};
 use regex_ast::{Atom, Entry, Lexicon, Piece};
@@ -37,9 +37,9 @@ fn form_of_entry(names: &[Form], entry: &Entry<Atom>) -> Form
 
 /// What the entries of a lexicon are together, where names have these forms.
 fn form_of_entries(names: &[Form], entries: &[Entry<Atom>]) -> Form
-    ensures fits { IsTrue result.fits ↔ All (λ e. FormFitsBy (leaves_at names.now) e.form) (map lexicon_entry_of entries.now) }
-    ensures weight { result.weight ≡ capped (sum_by (λ e. form_weight (weights_at names.now) e.form) (map lexicon_entry_of entries.now)) }
-    ensures built { IsTrue result.built ↔ All (λ e. FormIsBuiltBy (is_known_at names.now) is_symbol e.form) (map lexicon_entry_of entries.now) }
+    ensures fits { IsTrue result.fits ↔ All (λ e. FormFitsBy (leaves_at names.now) e.form) (map entry_of entries.now) }
+    ensures weight { result.weight ≡ capped (sum_by (λ e. form_weight (weights_at names.now) e.form) (map entry_of entries.now)) }
+    ensures built { IsTrue result.built ↔ All (λ e. FormIsBuiltBy (is_known_at names.now) is_symbol e.form) (map entry_of entries.now) }
 {
     let mut form = Form::leaf(0);
     'entries: for entry in entries {
