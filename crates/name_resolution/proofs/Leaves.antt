@@ -10,7 +10,7 @@ use Rattle.regex_ast.specs.declared.expr.Raw.TheVariants.{Run, Quoted}
 use Rattle.project_meaning.specs.Leaves.{Leaf, symbol, named, leaf_of, written}
 use Rattle.name_resolution.specs.Names.{is_named, is_symbol_leaf}
 use Rattle.name_resolution.specs.Numbered.{numbered}
-use Rattle.name_resolution.specs.Resolved.{atom_of}
+use Rattle.name_resolution.specs.Resolved.{atom_of, letter_of}
 use Rattle.name_resolution.proofs.Texts.{has_from_any}
 
 apart : (n m : ℕ) → m < n → (n == m) ≡ false
@@ -81,3 +81,18 @@ module _ (names : List (List ℕ)) (leaf : Raw) where
       by (symbol []) e d = refl
       by (symbol (b ∷ bs)) e d = cc
       by (named name) e d = cc
+
+  -- where no name may stand
+  pub letter_without_text : (table : List (List ℕ)) → (length text == 0) ≡ true → Name (length names) ≡ letter_of names table leaf
+  letter_without_text table none = by text none
+    where
+      by : (t : List ℕ) → (length t == 0) ≡ true → Name (length names) ≡ numbered names table (symbol t)
+      by [] e = refl
+      by (b ∷ bs) e = absurd (true≢false (sym e ∙ apart (length (b ∷ bs)) 0 (omega arith)))
+
+  pub letter_with_text : (table : List (List ℕ)) → (length text == 0) ≡ false → Sym (record { 0 = number_of text table }) ≡ letter_of names table leaf
+  letter_with_text table some = by text some
+    where
+      by : (t : List ℕ) → (length t == 0) ≡ false → Sym (record { 0 = number_of t table }) ≡ numbered names table (symbol t)
+      by [] e = cc
+      by (b ∷ bs) e = refl

@@ -38,7 +38,7 @@ module _ {A B C : Type 0} (g : B → C) (f : A → B) where
     links_twice (and e links) = let a = mapped_twice e in let b = links_twice links in λ i. and (a i) (b i)
     links_twice (less e links) = let a = mapped_twice e in let b = links_twice links in λ i. less (a i) (b i)
 
-    contexts_twice : (contexts : Contexts A) → mapped_contexts g (mapped_contexts f contexts) ≡ mapped_contexts (λ a. g (f a)) contexts
+    pub contexts_twice : (contexts : Contexts A) → mapped_contexts g (mapped_contexts f contexts) ≡ mapped_contexts (λ a. g (f a)) contexts
     contexts_twice no_context = refl
     contexts_twice (between l r contexts) = let a = mapped_twice l in let b = mapped_twice r in let c = contexts_twice contexts in λ i. between (a i) (b i) (c i)
 
@@ -95,7 +95,7 @@ module _ {A B C : Type 0} (of : B → List C) (f : A → B) where
     links_listed (and e links) = let a = mapped_listed e in let b = links_listed links in λ i. a i ++ b i
     links_listed (less e links) = let a = mapped_listed e in let b = links_listed links in λ i. a i ++ b i
 
-    contexts_listed : (contexts : Contexts A) → listed_contexts of (mapped_contexts f contexts) ≡ listed_contexts (λ a. of (f a)) contexts
+    pub contexts_listed : (contexts : Contexts A) → listed_contexts of (mapped_contexts f contexts) ≡ listed_contexts (λ a. of (f a)) contexts
     contexts_listed no_context = refl
     contexts_listed (between l r contexts) = let a = mapped_listed l in let b = mapped_listed r in let c = contexts_listed contexts in λ i. a i ++ b i ++ c i
 

@@ -1,18 +1,22 @@
 mod Filed
 mod NameSteps
 pub mod Gathering
-mod Built
+pub mod Built
+pub mod Bodies
 pub mod Mapped
 pub mod Alphabets
 pub mod Leaves
 mod Adding
 pub mod Expressions
+mod Weighing
 mod Told
 pub mod Referring
 mod Demanded
 mod Forming
 mod Sound
 mod Requiring
+mod Formed
 mod Projecting
 pub mod Reading
+mod Plain
 mod FileSteps

@@ -1,15 +1,15 @@
 -- What bodies are by what is known of their leaves: their kind and weight, whether they fit, and with other leaves.
 use Rattle.std.specs.Prelude.{◌+◌, ℕ, List, [], ◌∷◌, codes, All, Contains, length, map, sum_by}
 use Rattle.word_relations.specs.Words.{IsDistinct}
-use Rattle.regex_ast.specs.Terms.{Term}
 use Rattle.expr_kinds.specs.Kinds.{Leaves, kind_of, Fits}
 use Rattle.expr_kinds.specs.Weights.{weight_of}
 use Rattle.expr_kinds.specs.declared.form.Kind.{Kind}
 use Rattle.expr_kinds.specs.declared.form.Kind.TheVariants.{Relation}
-use Rattle.expr_leaves.specs.Mapped.{mapped, mapped_contexts}
-use Rattle.project_meaning.specs.Trees.{Form, sides, pairs, Entry, Lexicon, Side, nothing, anything, one, member, Pair, Part, pair, called, Set, PairDefinition, Rule, Grammar, Body, xfst, lexc, twolc}
-use Rattle.project_meaning.specs.Leaves.{expressions_of}
+use Rattle.expr_leaves.specs.Mapped.{mapped}
+use Rattle.project_meaning.specs.Trees.{Form, sides, pairs, Entry, Lexicon, Body, xfst, lexc, twolc}
+use Rattle.project_meaning.specs.Leaves.{expressions_in, expressions_of}
 use Rattle.lexicon_spelling.specs.Mapped.{mapped_lexicon}
+use Rattle.grammar_resolution.specs.Mapped.{mapped_grammar}
 
 -- an expression has its own kind, lexicons and grammars are relations
 abbrev pub kind_of_body : {A : Type 0} → Leaves A → Body A → Kind
@@ -17,6 +17,12 @@ kind_of_body leaves (xfst e) = kind_of leaves e
 kind_of_body leaves _ = Relation
 
 -- in each expression each operand that must be a language is one
+abbrev pub FormFitsBy : {A : Type 0} → Leaves A → Form A → Type 0
+FormFitsBy leaves form = All (Fits leaves) (expressions_in form)
+
+abbrev pub LexiconFitsBy : {A : Type 0} → Leaves A → Lexicon A → Type 0
+LexiconFitsBy leaves lexicon = All (λ entry. FormFitsBy leaves entry.form) lexicon.entries
+
 abbrev pub BodyFitsBy : {A : Type 0} → Leaves A → Body A → Type 0
 BodyFitsBy leaves body = All (Fits leaves) (expressions_of body)
 
@@ -51,33 +57,7 @@ module _ {A : Type 0} (leaf : A → ℕ) where
   weight_of_body (twolc grammar) = 0
 
 -- the same body with another leaf for each
-module _ {A B : Type 0} (f : A → B) where
-  abbrev pub mapped_side : Side A → Side B
-  mapped_side nothing = nothing
-  mapped_side anything = anything
-  mapped_side (one a) = one (f a)
-  mapped_side (member set) = member set
-
-  abbrev pub mapped_pair : Pair A → Pair B
-  mapped_pair p = record { up = mapped_side p.up; low = mapped_side p.low }
-
-  abbrev pub mapped_part : Part A → Part B
-  mapped_part (pair p) = pair (mapped_pair p)
-  mapped_part (called name) = called name
-
-  abbrev pub mapped_set : Set A → Set B
-  mapped_set s = record { name = s.name; symbols = map f s.symbols }
-
-  abbrev pub mapped_definition : PairDefinition A → PairDefinition B
-  mapped_definition d = record { name = d.name; term = mapped mapped_part d.term }
-
-  abbrev pub mapped_rule : Rule A → Rule B
-  mapped_rule r = record { name = r.name; centre = mapped_pair r.centre; kind = r.kind; contexts = mapped_contexts mapped_part r.contexts }
-
-  abbrev pub mapped_grammar : Grammar A → Grammar B
-  mapped_grammar g = record { pairs = map mapped_pair g.pairs; sets = map mapped_set g.sets; definitions = map mapped_definition g.definitions; rules = map mapped_rule g.rules }
-
-  abbrev pub mapped_body : Body A → Body B
-  mapped_body (xfst e) = xfst (mapped f e)
-  mapped_body (lexc lexicons) = lexc (map (mapped_lexicon f f) lexicons)
-  mapped_body (twolc grammar) = twolc (mapped_grammar grammar)
+abbrev pub mapped_body : {A B : Type 0} → (A → B) → Body A → Body B
+mapped_body f (xfst e) = xfst (mapped f e)
+mapped_body f (lexc lexicons) = lexc (map (mapped_lexicon f f) lexicons)
+mapped_body f (twolc grammar) = twolc (mapped_grammar f grammar)

@@ -1,33 +1,10 @@
 -- What names stand for in the program, as plain trees.
-use Rattle.std.specs.Prelude.{List, map}
+use Rattle.std.specs.Prelude.{map}
 use Rattle.regex_ast.specs.Terms.{term}
-use Rattle.regex_ast.specs.declared.lexc.FlagOp.{FlagOp}
-use Rattle.regex_ast.specs.declared.lexc.Piece.{Piece as PieceOf}
-use Rattle.regex_ast.specs.declared.lexc.Piece.TheVariants.{Symbol as OfSymbol, Flag as OfFlag}
-use Rattle.regex_ast.specs.declared.lexc.Form.{Form as FormOf}
-use Rattle.regex_ast.specs.declared.lexc.Form.TheVariants.{Sides, Pairs}
-use Rattle.regex_ast.specs.declared.lexc.Entry.{Entry as EntryOf}
-use Rattle.regex_ast.specs.declared.lexc.Lexicon.{Lexicon as LexiconOf}
-use Rattle.project_meaning.specs.Trees.{Flag, Piece, letter, flag, Form, sides, pairs, Entry, Lexicon, Body, xfst, lexc}
+use Rattle.project_meaning.specs.Trees.{Body, xfst, lexc}
+use Rattle.lexicon_resolution.specs.Plain.{lexicon_of}
 use Rattle.project_model.specs.declared.definition.Body.{Body as BodyOf}
 use Rattle.project_model.specs.declared.definition.Body.TheVariants.{Xfst, Lexc}
-
-abbrev pub flag_of : FlagOp → Flag
-flag_of f = record { kind = f.kind; feature = f.feature; value = f.value }
-
-abbrev pub piece_of : {A : Type 0} → PieceOf A → Piece A
-piece_of (OfSymbol leaf) = letter leaf
-piece_of (OfFlag f) = flag (flag_of f)
-
-abbrev pub form_of : {A : Type 0} → FormOf A → Form A
-form_of (Sides upper lower) = sides (map piece_of upper.items) (map piece_of lower.items)
-form_of (Pairs e) = pairs (term e)
-
-abbrev pub lexicon_entry_of : {A : Type 0} → EntryOf A → Entry A
-lexicon_entry_of e = record { form = form_of e.form; next = e.next }
-
-abbrev pub lexicon_of : {A : Type 0} → LexiconOf A → Lexicon A
-lexicon_of l = record { name = l.name; entries = map lexicon_entry_of l.entries.items }
 
 abbrev pub body_of : {A : Type 0} → BodyOf A → Body A
 body_of (Xfst e) = xfst (term e)

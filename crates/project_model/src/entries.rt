@@ -1,12 +1,9 @@
 ghost use Rattle.std.specs.Prelude.{◌≡◌, ◌↔◌, All, IsTrue, map, sum_by};
-ghost use Rattle.std.specs.List.{flat_map};
 ghost use Rattle.expr_kinds.specs.Atoms.{is_known_at, is_symbol, leaves_at, weights_at};
 ghost use Rattle.expr_kinds.specs.Forms.{capped};
-ghost use Rattle.expr_kinds.specs.Kinds.{Fits};
-ghost use Rattle.project_meaning.specs.Leaves.{expressions_in, forms_in};
 ghost use Rattle.project_sources.specs.Built.{FormIsBuiltBy, LexiconIsBuiltBy, PieceIsBuiltBy};
-ghost use Rattle.project_model.specs.Bodies.{form_weight, lexicon_weight};
-ghost use Rattle.project_model.specs.Plain.{form_of, lexicon_entry_of, lexicon_of, piece_of};
+ghost use Rattle.project_model.specs.Bodies.{FormFitsBy, LexiconFitsBy, form_weight, lexicon_weight};
+ghost use Rattle.lexicon_resolution.specs.Plain.{entry_of, form_of, lexicon_of, piece_of};
 
 use expr_kinds::{Form, form_of};
 use regex_ast::{Atom, Entry, Lexicon, Piece};
@@ -25,7 +22,7 @@ fn are_symbols(side: &[Piece<Atom>]) -> bool
 
 /// What an entry of a lexicon is, where names have these forms.
 fn form_of_entry(names: &[Form], entry: &Entry<Atom>) -> Form
-    ensures fits { IsTrue result.fits ↔ All (Fits (leaves_at names.now)) (expressions_in (form_of entry.now.form)) }
+    ensures fits { IsTrue result.fits ↔ FormFitsBy (leaves_at names.now) (form_of entry.now.form) }
     ensures weight { result.weight ≡ capped (form_weight (weights_at names.now) (form_of entry.now.form)) }
     ensures built { IsTrue result.built ↔ FormIsBuiltBy (is_known_at names.now) is_symbol (form_of entry.now.form) }
 {
@@ -40,9 +37,9 @@ fn form_of_entry(names: &[Form], entry: &Entry<Atom>) -> Form
 
 /// What the entries of a lexicon are together, where names have these forms.
 fn form_of_entries(names: &[Form], entries: &[Entry<Atom>]) -> Form
-    ensures fits { IsTrue result.fits ↔ All (λ e. All (Fits (leaves_at names.now)) (expressions_in e.form)) (map lexicon_entry_of entries.now) }
-    ensures weight { result.weight ≡ capped (sum_by (λ e. form_weight (weights_at names.now) e.form) (map lexicon_entry_of entries.now)) }
-    ensures built { IsTrue result.built ↔ All (λ e. FormIsBuiltBy (is_known_at names.now) is_symbol e.form) (map lexicon_entry_of entries.now) }
+    ensures fits { IsTrue result.fits ↔ All (λ e. FormFitsBy (leaves_at names.now) e.form) (map entry_of entries.now) }
+    ensures weight { result.weight ≡ capped (sum_by (λ e. form_weight (weights_at names.now) e.form) (map entry_of entries.now)) }
+    ensures built { IsTrue result.built ↔ All (λ e. FormIsBuiltBy (is_known_at names.now) is_symbol e.form) (map entry_of entries.now) }
 {
     let mut form = Form::leaf(0);
     'entries: for entry in entries {
@@ -53,7 +50,7 @@ fn form_of_entries(names: &[Form], entries: &[Entry<Atom>]) -> Form
 
 /// What a lexicon is, where names have these forms: the declared symbols, which are a lexicon without name, weigh nothing.
 fn form_of_lexicon(names: &[Form], lexicon: &Lexicon<Atom>) -> Form
-    ensures fits { IsTrue result.fits ↔ All (λ e. All (Fits (leaves_at names.now)) (expressions_in e.form)) (lexicon_of lexicon.now).entries }
+    ensures fits { IsTrue result.fits ↔ LexiconFitsBy (leaves_at names.now) (lexicon_of lexicon.now) }
     ensures weight { result.weight ≡ capped (lexicon_weight (weights_at names.now) (lexicon_of lexicon.now)) }
     ensures built { IsTrue result.built ↔ LexiconIsBuiltBy (is_known_at names.now) is_symbol (lexicon_of lexicon.now) }
 {
@@ -67,7 +64,7 @@ fn form_of_lexicon(names: &[Form], lexicon: &Lexicon<Atom>) -> Form
 
 /// What lexicons are together, where names have these forms.
 pub fn form_of_lexicons(names: &[Form], lexicons: &[Lexicon<Atom>]) -> Form
-    ensures fits { IsTrue result.fits ↔ All (Fits (leaves_at names.now)) (flat_map expressions_in (forms_in (map lexicon_of lexicons.now))) }
+    ensures fits { IsTrue result.fits ↔ All (LexiconFitsBy (leaves_at names.now)) (map lexicon_of lexicons.now) }
     ensures weight { result.weight ≡ capped (sum_by (lexicon_weight (weights_at names.now)) (map lexicon_of lexicons.now)) }
     ensures built { IsTrue result.built ↔ All (LexiconIsBuiltBy (is_known_at names.now) is_symbol) (map lexicon_of lexicons.now) }
 {

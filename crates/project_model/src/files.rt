@@ -11,7 +11,7 @@ ghost use Rattle.project_sources.specs.Sources.{FilesDefine, declared, stated};
 ghost use Rattle.project_model.specs.Answers.{IsRefusedBy, written_of};
 ghost use Rattle.project_meaning.specs.Trees.{lexc};
 ghost use Rattle.project_model.specs.Files.{HasDefined, HasPut, IsUnread};
-ghost use Rattle.project_model.specs.Plain.{lexicon_of};
+ghost use Rattle.lexicon_resolution.specs.Plain.{lexicon_of};
 ghost use Rattle.regex_ast.specs.declared.fault.Fault.{Fault};
 ghost use Rattle.regex_reader.specs.Files.{FaultAt, ReadsAs, statement_of};
 

@@ -12,7 +12,6 @@ mod demands;
 mod entries;
 mod files;
 mod forms;
-mod lexicons;
 mod names;
 mod plan;
 mod plan_error;

@@ -24,7 +24,6 @@ ghost use Rattle.project_model.specs.declared.demands.Demand.TheVariants as dema
 use crate::definition::{Body, Definition};
 use crate::demands::{Demand, first_failing};
 use crate::forms::forms_of;
-use crate::lexicons::resolve_lexicons;
 use crate::names::names_of;
 use crate::plan_error::{PlanError, refused};
 use crate::references::order_in;
@@ -33,6 +32,7 @@ use crate::unknown::first_unknown;
 use crate::written::WrittenDefine;
 use expr_kinds::Form;
 use fsm_base::{Sym, SymbolTable, Text};
+use lexicon_resolution::{are_resolved_by_number, resolve_lexicons};
 use name_resolution::{Names, resolve};
 use project_manifest::ManifestLine;
 use project_sources::MOST_SYMBOLS;
@@ -187,6 +187,8 @@ fn resolve_body(
 ) -> Result<Body<Atom>, AllocError>
     ensures { IfOk result (λ found. body_of found ≡ mapped_body (numbered names.now table.now) (resolved names.now (body_of body.now))) }
 {
+    // the law that a resolved leaf by its number is the leaf as it is written, by its number
+    are_resolved_by_number();
     match body {
         Body::Xfst(expr) => Ok(Body::Xfst(resolve(alloc, names, table, expr)?)),
         Body::Lexc(lexicons) => Ok(Body::Lexc(resolve_lexicons(alloc, names, table, lexicons)?)),

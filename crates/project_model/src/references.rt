@@ -1,19 +1,20 @@
-ghost use Rattle.std.specs.Prelude.{◌≡◌, ◌++◌, IfErr, IfOk, OnOk, map};
+ghost use Rattle.std.specs.Prelude.{◌≡◌, ◌++◌, IfErr, IfOk, OnOk};
 ghost use Rattle.std.specs.List.{flat_map};
 ghost use Rattle.regex_ast.specs.Terms.{term};
 ghost use Rattle.expr_leaves.specs.Leaves.{seen};
 ghost use Rattle.name_order.specs.Graph.{graph_of};
 ghost use Rattle.name_order.specs.Orders.{HasNoCycle, IsOrder};
 ghost use Rattle.project_model.specs.Answers.{IsRefusedBy};
-ghost use Rattle.project_meaning.specs.Leaves.{expressions_in, forms_in};
-ghost use Rattle.project_model.specs.Plain.{body_of, lexicon_entry_of, lexicon_of};
+ghost use Rattle.lexicon_resolution.specs.Places.{terms_behind};
+ghost use Rattle.project_model.specs.Plain.{body_of};
 ghost use Rattle.project_model.specs.Referring.{CycleFault, body_places, place_in, places_in, references_of};
 
 use crate::definition::{Body, Definition};
 use crate::plan_error::{PlanError, refused};
 use expr_leaves::leaves;
+use lexicon_resolution::expressions;
 use name_order::{Order, order_of};
-use regex_ast::{Atom, Entry, Expr, Form, Lexicon, Why};
+use regex_ast::{Atom, Expr, Why};
 use std::alloc::{AllocError, Global};
 
 /// Puts a place behind others, where it is one of so many.
@@ -59,34 +60,17 @@ fn add_places_in(
     add_places(&leaves(alloc, expr)?, count, places)
 }
 
-/// Puts the places of the names in the entries of a lexicon behind others, where they are of so many.
-fn add_entries(
+/// Puts the places of the names in expressions behind others, where they are of so many.
+fn add_places_of_each(
     alloc: Global,
-    entries: &[Entry<Atom>],
+    exprs: &[&Expr<Atom>],
     count: usize,
     places: &mut Vec<u32>,
 ) -> Result<(), AllocError>
-    ensures { OnOk result (places.new.items ≡ places.old.items ++ flat_map (places_in count) (flat_map expressions_in (map (λ e. e.form) (map lexicon_entry_of entries.now)))) }
+    ensures { OnOk result (places.new.items ≡ places.old.items ++ flat_map (places_in count) (terms_behind exprs.now)) }
 {
-    'entries: for entry in entries {
-        if let Form::Pairs(expr) = &entry.form {
-            add_places_in(alloc, expr, count, places)?;
-        }
-    }
-    Ok(())
-}
-
-/// Puts the places of the names in lexicons behind others, where they are of so many.
-fn add_lexicons(
-    alloc: Global,
-    lexicons: &[Lexicon<Atom>],
-    count: usize,
-    places: &mut Vec<u32>,
-) -> Result<(), AllocError>
-    ensures { OnOk result (places.new.items ≡ places.old.items ++ flat_map (places_in count) (flat_map expressions_in (forms_in (map lexicon_of lexicons.now)))) }
-{
-    'lexicons: for lexicon in lexicons {
-        add_entries(alloc, &lexicon.entries, count, places)?;
+    'exprs: for expr in exprs {
+        add_places_in(alloc, expr, count, places)?;
     }
     Ok(())
 }
@@ -98,7 +82,9 @@ fn places_of(alloc: Global, body: &Body<Atom>, count: usize) -> Result<Vec<u32>,
     let mut places = Vec::new(alloc);
     match body {
         Body::Xfst(expr) => add_places_in(alloc, expr, count, &mut places)?,
-        Body::Lexc(lexicons) => add_lexicons(alloc, lexicons, count, &mut places)?,
+        Body::Lexc(lexicons) => {
+            add_places_of_each(alloc, &expressions(alloc, lexicons)?, count, &mut places)?
+        }
     }
     Ok(places)
 }
