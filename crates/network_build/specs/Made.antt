@@ -1,4 +1,4 @@
--- What is built over one alphabet, be it the project's or the body's own symbols, and what comes of it.
+-- What is built over one alphabet, be it the project's or the body's own symbols, and what comes of it; leaves by their places.
 use Rattle.std.specs.Prelude.{◌≡◌, List, Contains}
 use Rattle.fsm_base.specs.declared.letters.Sym.{Sym as Symbol}
 use Rattle.word_relations.specs.Relations.{AreSame}
@@ -6,6 +6,8 @@ use Rattle.regex_ast.specs.declared.expr.Atom.{Atom}
 use Rattle.regex_ast.specs.Terms.{Term}
 use Rattle.expr_kinds.specs.Kinds.{Fits}
 use Rattle.project_meaning.specs.Trees.{Body, xfst, lexc, twolc}
+use Rattle.lexicon_resolution.specs.declared.place.Place.{Place}
+use Rattle.lexicon_resolution.specs.declared.place.Place.TheVariants.{OnSide, InExpression}
 use Rattle.network_algebra.specs.Networks.{IsNetwork, PairsOf, kind_of_network}
 use Rattle.network_algebra.specs.declared.network.Network.{Network}
 use Rattle.network_centres.specs.Centres.{HasEmptyCentre}
@@ -31,3 +33,8 @@ pub record IsMade (parts : List Part) (alphabet : List Symbol) (body : Body Atom
   pub over : IsNetwork alphabet n
   pub kind : kind_of_network n ≡ kind_of_body (kinds parts) body
   pub relation : AreSame (PairsOf n) (BodyRelates parts alphabet body)
+
+-- the leaf at a place of lexicons
+abbrev pub leaf_at : Place Atom → Atom
+leaf_at (OnSide leaf) = leaf
+leaf_at (InExpression leaf) = leaf

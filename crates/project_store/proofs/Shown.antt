@@ -49,7 +49,8 @@ use Rattle.project_sources.specs.Sources.{Said, project_in}
 use Rattle.name_resolution.specs.Numbered.{numbered}
 use Rattle.project_model.specs.Numbered.{IsBodyOver, is_leaf_over, is_symbol_over}
 use Rattle.name_resolution.specs.Resolved.{atom_of}
-use Rattle.project_model.specs.Bodies.{mapped_body, mapped_grammar}
+use Rattle.grammar_resolution.specs.Mapped.{mapped_grammar}
+use Rattle.project_model.specs.Bodies.{mapped_body}
 use Rattle.project_model.specs.Plain.{body_of}
 use Rattle.project_model.specs.Stands.{Entry, entry_in, entry_of}
 use Rattle.project_model.proofs.Alphabets.{at_number}

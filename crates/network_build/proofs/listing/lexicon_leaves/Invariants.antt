@@ -1,11 +1,9 @@
-use Rattle.std.proofs.Common.{◌≡◌, ◌++◌, drop, map}
-use Rattle.std.specs.List.{flat_map}
+use Rattle.std.proofs.Common.{◌≡◌, map, take}
 use Rattle.expr_leaves.specs.Leaves.{seen}
-use Rattle.project_meaning.specs.Leaves.{forms_in}
-use Rattle.project_model.specs.Plain.{lexicon_of}
-use Rattle.network_build.specs.Networks.{form_leaves}
+use Rattle.lexicon_resolution.specs.Places.{places_behind}
+use Rattle.network_build.specs.Made.{leaf_at}
 use Rattle.network_build.proofs.listing.lexicon_leaves.Given as goal
 
--- what was found, and what is in the other lexicons
-abbrev pub invariant-lexicons : goal.invariant-lexicons
-invariant-lexicons l = seen l.found.items ++ flat_map form_leaves (forms_in (map lexicon_of (drop l.lexicon-index l.lexicons))) ≡ flat_map form_leaves (forms_in (map lexicon_of l.lexicons))
+-- the leaves at the places so far
+abbrev pub invariant-places : goal.invariant-places
+invariant-places l = seen l.found.items ≡ map leaf_at (places_behind (take l.place-index l.places.items))
