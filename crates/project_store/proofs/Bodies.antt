@@ -95,12 +95,9 @@ module _ {A : Type 0} (is_leaf is_letter : A → Bool) where
   lexicon_forms : (lexicons : List (Lexicon A)) → All (LexiconIsBuiltBy is_leaf is_letter) lexicons → All (FormIsBuiltBy is_leaf is_letter) (forms_in lexicons)
   lexicon_forms lexicons h = All-weaker (Contains (forms_in lexicons)) (FormIsBuiltBy is_leaf is_letter) each (forms_in lexicons) (All-contains_itself (forms_in lexicons))
     where
-      abbrev forms_of : Lexicon A → List (Form A)
-      forms_of l = map (λ (e : Entry A). e.form) l.entries
-
       each : (form : Form A) → Contains (forms_in lexicons) form → FormIsBuiltBy is_leaf is_letter form
       each form at =
-          let (l, among, there) = flat_cases forms_of lexicons form at in
+          let (l, among, there) = flat_cases (λ (l : Lexicon A). map (λ (e : Entry A). e.form) l.entries) lexicons form at in
           let (entry, within, is) = Contains-map_cases (λ (e : Entry A). e.form) l.entries form there in
           subst (FormIsBuiltBy is_leaf is_letter) is
           (All-contains (λ (e : Entry A). FormIsBuiltBy is_leaf is_letter e.form) l.entries entry (All-contains (LexiconIsBuiltBy is_leaf is_letter) lexicons l h among) within)

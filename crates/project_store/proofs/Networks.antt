@@ -104,10 +104,9 @@ module _ (loaded : LoadedView) (plan : IsPlan (plan_in loaded)) (built : List (O
   pub built_over : BodyIsBuiltBy (is_leaf_of parts alphabet) (is_symbol_of alphabet) body
   built_over = body_passes (is_leaf_at loaded.forms alphabet) (is_leaf_of parts alphabet) (is_symbol_of alphabet) body sound.built expression
     where
-      module _ (e : Term Atom) (held : Contains (expressions_of body) e) where
-        leaf : (a : Atom) → Contains (leaves_in e) a → IsTrue (is_leaf_at loaded.forms alphabet a) → IsTrue (is_leaf_of parts alphabet a)
-        leaf (Sym s) stood h = h
-        leaf (Name p) stood h = named_there p (in_flat leaves_in (expressions_of body) e (Name p) held stood) h
+      leaf : (e : Term Atom) → Contains (expressions_of body) e → (a : Atom) → Contains (leaves_in e) a → IsTrue (is_leaf_at loaded.forms alphabet a) → IsTrue (is_leaf_of parts alphabet a)
+      leaf e held (Sym s) stood h = h
+      leaf e held (Name p) stood h = named_there p (in_flat leaves_in (expressions_of body) e (Name p) held stood) h
 
       expression : (e : Term Atom) → Contains (expressions_of body) e → IsBuiltBy (is_leaf_at loaded.forms alphabet) (is_symbol_of alphabet) e → IsBuiltBy (is_leaf_of parts alphabet) (is_symbol_of alphabet) e
       expression e held h = built_by (is_leaf_at loaded.forms alphabet) (is_symbol_of alphabet) (is_leaf_of parts alphabet) (is_symbol_of alphabet) e h (leaf e held, λ a stood g. g)
@@ -167,7 +166,7 @@ module _ (loaded : LoadedView) (plan : IsPlan (plan_in loaded)) (built : List (O
   no_own none said from name at_name h = none ((own_centre said loaded from place d at parts each built_over name at_name).1 h)
 
   no_centre : HasNoCentre loaded place → BodyHasEmptyCentre parts alphabet body → ⊥
-  no_centre plain (e, held, c, inside, empty) =
+  no_centre plain (e, held, (c, inside, empty)) =
       Contains-nil_cases c (subst (λ (cs : List (Term Atom)). Contains cs c) (plain d at) (in_flat (λ x. centres_in x) (expressions_of body) e c held inside))
 
   -- what building it answers

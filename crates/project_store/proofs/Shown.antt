@@ -309,7 +309,7 @@ module _ (said : Said) (loaded : LoadedView) (from : IsLoadedFrom said loaded) w
         own_centre name at_name = (to_text, to_number)
           where
             to_text : BodyHasEmptyCentre parts symbols body → HasOwnEmptyCentre (project_in said) name
-            to_text (e, held, centre, inside, empty) =
+            to_text (e, held, (centre, inside, empty)) =
                 let among : Contains (body_centres body) centre = in_flat (λ x. centres_in x) (expressions_of body) e centre held inside in
                 let (c, there, is) = Contains-map_cases (mapped (atom_of names table)) centres centre (subst (λ (cs : List (Term Atom)). Contains cs centre) centres_by_number among) in
                 own_from name at_name c there ((centre_alike c there).0 (subst (λ (x : Term Atom). In (stands parts) symbols x []) (sym is) empty))
@@ -321,7 +321,7 @@ module _ (said : Said) (loaded : LoadedView) (from : IsLoadedFrom said loaded) w
                 let among : Contains (body_centres body) centre =
                 subst (λ (cs : List (Term Atom)). Contains cs centre) (sym centres_by_number) (Contains-map (mapped (atom_of names table)) centres c there) in
                 let (e, held, inside) = flat_cases (λ x. centres_in x) (expressions_of body) centre among in
-                (e, held, centre, inside, (centre_alike c there).1 empty)
+                (e, held, (centre, inside, (centre_alike c there).1 empty))
 
         -- what is written relates the same by numbers and by texts: an expression
         abbrev IsAlike : Body Raw → Type 0

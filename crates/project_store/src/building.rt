@@ -81,7 +81,7 @@ pub fn leaves_of(alloc: Global, body: &Body<Atom>) -> Result<Vec<&Atom>, AllocEr
 {
     let expressions = body_expressions(alloc, body)?;
     let mut found = Vec::new(alloc);
-    'expressions: for expr in expressions {
+    'expressions: for expr in &expressions {
         found.extend_from_slice(&leaves(alloc, expr)?)?;
     }
     Ok(found)

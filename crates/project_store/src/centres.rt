@@ -88,7 +88,7 @@ fn has_centre(alloc: Global, body: &Body<Atom>) -> Result<bool, AllocError>
     ensures { IfOk result (λ has. OnFalse has (body_centres (body_of body.now) ≡ [])) }
 {
     let expressions = body_expressions(alloc, body)?;
-    'expressions: for expr in expressions {
+    'expressions: for expr in &expressions {
         if has_centre_in(alloc, expr)? {
             return Ok(true);
         }
