@@ -1,3 +1,4 @@
+pub mod Bodies
 pub mod Built
 mod Free
 mod Sounds

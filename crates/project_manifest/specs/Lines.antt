@@ -87,9 +87,8 @@ abbrev pub is_gloss : Line → Bool
 is_gloss (gloss_line file) = true
 is_gloss _ = false
 
--- a line that isn't read yet: it names a lexicon, a grammar or glosses
+-- a line that isn't read yet: it names a grammar or glosses
 abbrev pub is_unread : Line → Bool
-is_unread (lexc_line name file) = true
 is_unread (twolc_line name file) = true
 is_unread (gloss_line file) = true
 is_unread _ = false

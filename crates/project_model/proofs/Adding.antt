@@ -3,7 +3,7 @@ use Rattle.std.proofs.Common.{◌≡◌, ℕ, ◌+◌, ◌<◌, ◌≤◌, true,
 use Rattle.regex_ast.specs.declared.expr.Raw.{Raw}
 use Rattle.fsm_base.specs.Symbols.{with_text}
 use Rattle.project_meaning.specs.Leaves.{leaf_of, written}
-use Rattle.project_model.specs.Names.{is_symbol_leaf}
+use Rattle.name_resolution.specs.Names.{is_symbol_leaf}
 use Rattle.project_sources.specs.Limits.{most_symbols}
 use Rattle.project_model.specs.Gathered.{gathered, symbol_beside}
 use Rattle.project_model.proofs.Gathering.{gathered_none, text_added, text_full}

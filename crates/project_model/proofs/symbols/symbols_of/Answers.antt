@@ -7,7 +7,7 @@ use Rattle.project_model.specs.Answers.{written_of}
 use Rattle.project_model.specs.Gathered.{gathered, symbol_beside, symbols_beside, symbols_of_all}
 use Rattle.expr_leaves.specs.Leaves.{seen}
 use Rattle.project_model.proofs.Gathering.{gather_more, still_short, listed_is}
-use Rattle.project_model.proofs.Mapped.{mapped_listed}
+use Rattle.name_resolution.proofs.Mapped.{mapped_listed}
 use Rattle.project_model.proofs.symbols.symbols_of.Goals as goal
 
 pub written-preserved : goal.written-preserved
