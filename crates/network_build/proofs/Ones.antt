@@ -47,4 +47,4 @@ none_at_all parts alphabet expressions i past none h =
     none (subst (λ (es : List (Bor (Expr Atom))). OneHasEmptyCentre parts alphabet (terms_seen es)) (sym (take_all i expressions past)) h)
 
 pub not_true : (b : Bool) → b ≡ false → IsTrue b → ⊥
-not_true b no yes = let clash : true ≡ false = sym yes ∙ no in cc
+not_true b is h = let clash : true ≡ false = sym h ∙ is in cc
