@@ -1,9 +1,9 @@
 ghost use Rattle.std.specs.Prelude.{◌≡◌, map, IfOk};
-ghost use Rattle.regex_ast.specs.Terms.{rules, term, terms_of, links_of, contexts_of, steps_by, mappings_of, groups_of};
+ghost use Rattle.regex_ast.specs.Terms.{rules, term, maps_of, side_of, contexts_in, terms_of, links_of, contexts_of, steps_by, mappings_of, groups_of};
 ghost use Rattle.expr_leaves.specs.Mapped.{mapped, mapped_contexts, mapped_each, mapped_groups, mapped_links, mapped_mappings, mapped_steps};
 ghost use Rattle.expr_mapping.specs.Replaced.{IsContextOf, IsGroupOf, IsLinkOf, IsMappingOf, IsStepOf};
 
-use regex_ast::{Context, Expr, Group, Link, Mapping, RuleSet, Step};
+use regex_ast::{Context, Expr, Group, Link, Mapping, RuleSet, Side, Step};
 use std::alloc::{AllocError, Global};
 
 /// What the leaves of expressions are replaced by.
@@ -36,6 +36,19 @@ fn with_groups<B>(optional: bool, groups: Vec<Group<B>>) -> Expr<B>
     ensures { term result ≡ rules optional (groups_of groups.items) }
 {
     Expr::Rules(RuleSet { optional, groups })
+}
+
+/// A group of these parts.
+fn with_parts<B>(maps: Vec<Mapping<B>>, side: Side, contexts: Vec<Context<B>>) -> Group<B>
+    ensures maps { maps_of result ≡ maps.items }
+    ensures side { side_of result ≡ side }
+    ensures contexts { contexts_in result ≡ contexts.items }
+{
+    Group {
+        maps,
+        side,
+        contexts,
+    }
 }
 
 /// The expression with its leaves replaced.
@@ -236,11 +249,7 @@ fn map_group<A, B: Drop, M: LeafMap<A, B>>(
 {
     let maps = map_mappings(alloc, images, &group.maps)?;
     let contexts = map_contexts(alloc, images, &group.contexts)?;
-    Ok(Group {
-        maps,
-        side: group.side,
-        contexts,
-    })
+    Ok(with_parts(maps, group.side, contexts))
 }
 
 /// Mappings.

@@ -1,10 +1,10 @@
 use Rattle.std.proofs.Common.{sym, ap, ◌∙◌, arith}
-use Rattle.regex_ast.specs.Terms.{term, links_of, contexts_of, steps_by, ignore, concat, chain, only, rules, steps}
+use Rattle.regex_ast.specs.Terms.{term, links_of, contexts_of, mappings_of, steps_by, ignore, concat, chain, only, rules, steps}
 use Rattle.regex_ast.specs.declared.expr.Expr.TheViews.{out-RuleSet}
-use Rattle.regex_ast.proofs.Sets.{term_rules}
 use Rattle.regex_ast.proofs.Rows.{term-Ignore, term-Concat, term-Chain, term-Only, term-Steps}
 use Rattle.expr_leaves.specs.Mapped.{mapped}
 use Rattle.expr_mapping.proofs.Rowed.{each_more, each_ended, links_more, links_ended, steps_more, steps_ended, contexts_more, contexts_ended, mappings_more, mappings_ended, groups_more, groups_ended}
+use Rattle.expr_mapping.proofs.Sets.{contexts_in_is, group_made, maps_of_is, side_of_is, term_rules}
 use Rattle.expr_mapping.proofs.mapping.+walk.Goals as goal
 
 pub map_each-operands-preserved : goal.map_each-operands-preserved
@@ -84,3 +84,12 @@ map_leaves-returns-in_ok-groups-in-Rules g t c =
     let is = ap term c.in-Rules.is ∙ term_rules c.in-Rules.rules in
     let made = rw c.deref-in-Rules.ensures.value at c.in_ok-groups-in-Rules.ensures in
     c.with_groups.ensures ∙ ap (rules (out-RuleSet _ c.in-Rules.rules).optional) made ∙ ap (mapped (g.M.LeafMap.image c.args.images.now)) (sym is)
+
+pub map_group-returns : goal.map_group-returns
+map_group-returns g t c =
+    let maps = rw (c.deref.ensures.value, ← maps_of_is c.args.group.now) at c.in_ok-maps.ensures in
+    let contexts = rw (c.deref-2.ensures.value, ← contexts_in_is c.args.group.now) at c.in_ok-contexts.ensures in
+    group_made (g.M.LeafMap.image c.args.images.now) c.args.group.now c.with_parts.result (ap mappings_of c.with_parts.ensures.maps ∙ maps) (c.with_parts.ensures.side ∙ sym (side_of_is c.args.group.now)) (ap contexts_of c.with_parts.ensures.contexts ∙ contexts)
+
+pub map_group-map_contexts-requires : goal.map_group-map_contexts-requires
+map_group-map_contexts-requires g t c = ?
