@@ -1,6 +1,6 @@
 use Rattle.std.proofs.Common.{◌≡◌, map, take}
 use Rattle.name_resolution.specs.Resolved.{atom_of}
-use Rattle.name_resolution.proofs.resolve.atoms_of.Given as goal
+use Rattle.name_resolution.proofs.expressions.atoms_of.Given as goal
 
 -- the leaves so far
 abbrev pub invariant-leaves : goal.invariant-leaves

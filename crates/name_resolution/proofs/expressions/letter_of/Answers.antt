@@ -1,6 +1,6 @@
 use Rattle.std.proofs.Common.{sym, ap, ◌∙◌}
 use Rattle.name_resolution.proofs.Leaves.{letter_with_text, letter_without_text}
-use Rattle.name_resolution.proofs.resolve.letter_of.Goals as goal
+use Rattle.name_resolution.proofs.expressions.letter_of.Goals as goal
 use Rattle.regex_ast.specs.declared.expr.Atom.TheVariants.{Sym, Name}
 
 pub returns-then-is_empty : goal.returns-then-is_empty

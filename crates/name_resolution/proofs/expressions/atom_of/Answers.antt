@@ -1,7 +1,7 @@
 use Rattle.std.proofs.Common.{sym, ap, ◌∙◌}
 use Rattle.regex_ast.specs.declared.expr.Atom.TheVariants.{Sym, Name}
 use Rattle.name_resolution.proofs.Leaves.{atom_symbol, atom_name, atom_behind}
-use Rattle.name_resolution.proofs.resolve.atom_of.Goals as goal
+use Rattle.name_resolution.proofs.expressions.atom_of.Goals as goal
 
 pub returns-then-is_symbol : goal.returns-then-is_symbol
 returns-then-is_symbol c =

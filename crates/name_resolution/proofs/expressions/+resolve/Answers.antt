@@ -7,7 +7,7 @@ use Rattle.regex_ast.proofs.Rows.{term-Ignore, term-Concat, term-Chain, term-Onl
 use Rattle.expr_leaves.specs.Mapped.{mapped}
 use Rattle.name_resolution.specs.Resolved.{atom_of}
 use Rattle.name_resolution.proofs.Rowed.{each_more, each_ended, links_more, links_ended, steps_more, steps_ended, contexts_more, contexts_ended, mappings_more, mappings_ended, groups_more, groups_ended}
-use Rattle.name_resolution.proofs.resolve.+resolve.Goals as goal
+use Rattle.name_resolution.proofs.expressions.+resolve.Goals as goal
 
 pub resolve_each-operands-preserved : goal.resolve_each-operands-preserved
 resolve_each-operands-preserved t c = each_more (atom_of c.args.names.now c.args.table.now) c.args.operands.now c.operands.operand-index c.operand-item.result c.operands.found.items c.push.new.self.items c.in_ok-resolve.field-0 (omega arith) c.operand-item.is c.in_ok-push.ensures.items c.in_ok-resolve.ensures c.operands.invariant

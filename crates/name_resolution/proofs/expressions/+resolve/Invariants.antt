@@ -3,7 +3,7 @@ use Rattle.regex_ast.specs.Terms.{term, terms_of, links_of, contexts_of, steps_b
 use Rattle.expr_leaves.specs.Mapped.{mapped_each, mapped_links, mapped_contexts, mapped_steps, mapped_mappings, mapped_groups}
 use Rattle.name_resolution.specs.Resolved.{atom_of, link_before, step_before, context_before, mapping_before, group_before}
 use Rattle.name_resolution.proofs.Rowed.{onto, expr_before}
-use Rattle.name_resolution.proofs.resolve.+resolve.Given as goal
+use Rattle.name_resolution.proofs.expressions.+resolve.Given as goal
 
 -- what was made, and what is left to make
 

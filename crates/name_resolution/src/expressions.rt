@@ -3,8 +3,8 @@ ghost use Rattle.regex_ast.specs.Terms.{rules, term, terms_of, links_of, context
 ghost use Rattle.expr_leaves.specs.Mapped.{mapped, mapped_contexts, mapped_each, mapped_groups, mapped_links, mapped_mappings, mapped_steps};
 ghost use Rattle.name_resolution.specs.Resolved.{IsContextOf, IsGroupOf, IsLinkOf, IsMappingOf, IsStepOf, atom_of, letter_of};
 
-use crate::leaves::symbol_text;
 use crate::names::Names;
+use crate::symbols::symbol_text;
 use fsm_base::SymbolTable;
 use regex_ast::{Atom, Context, Expr, Group, Link, Mapping, Raw, RuleSet, Step};
 use std::alloc::{AllocError, Global};
