@@ -9,6 +9,7 @@ pub mod Leaves
 mod Adding
 pub mod Expressions
 mod Weighing
+mod Telling
 mod Told
 pub mod Referring
 mod Demanded

@@ -57,7 +57,8 @@ fn add_places_in(
 ) -> Result<(), AllocError>
     ensures { OnOk result (places.new.items ≡ places.old.items ++ places_in count (term expr.now)) }
 {
-    add_places(&leaves(alloc, expr)?, count, places)
+    add_places(&leaves(alloc, expr)?, count, places)?;
+    Ok(())
 }
 
 /// Puts the places of the names in expressions behind others, where they are of so many.

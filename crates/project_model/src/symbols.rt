@@ -52,7 +52,8 @@ fn add_expression(
     requires { length table.old ≤ most_symbols + 1 }
     ensures { OnOk result (table.new ≡ gathered table.old (listed symbol_in (mapped (leaf_of names.now) (term expr.now)))) }
 {
-    add_symbols(&leaves(alloc, expr)?, names, table)
+    add_symbols(&leaves(alloc, expr)?, names, table)?;
+    Ok(())
 }
 
 /// Puts a text into a table, where it isn't empty, it's new and the table has room for it.
@@ -110,7 +111,10 @@ fn add_body(
     symbols_are_of_places();
     match body {
         Body::Xfst(expr) => add_expression(alloc, expr, names, table),
-        Body::Lexc(lexicons) => add_places(&places(alloc, lexicons)?, names, table),
+        Body::Lexc(lexicons) => {
+            add_places(&places(alloc, lexicons)?, names, table)?;
+            Ok(())
+        }
     }
 }
 
