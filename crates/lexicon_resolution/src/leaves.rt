@@ -2,7 +2,7 @@ ghost use Rattle.std.specs.Prelude.{◌≡◌, ◌++◌, IfOk, OnOk, map};
 ghost use Rattle.std.specs.List.{flat_map};
 ghost use Rattle.expr_leaves.specs.Leaves.{seen};
 ghost use Rattle.lexicon_resolution.specs.Places.{places_behind, places_in, places_in_form, places_in_piece, terms_behind};
-ghost use Rattle.lexicon_resolution.specs.Plain.{entry_of, form_of, lexicon_of, piece_of};
+ghost use Rattle.lexicon_resolution.specs.Plain.{form_of, lexicon_of, piece_of};
 ghost use Rattle.lexicon_resolution.specs.declared.place.Place.TheVariants.{InExpression};
 ghost use Rattle.project_meaning.specs.Leaves.{expressions_in, expressions_of};
 ghost use Rattle.project_meaning.specs.Trees.{lexc};

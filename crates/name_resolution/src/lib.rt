@@ -7,10 +7,10 @@
 //! Read `specs/Numbered.antt` and `specs/Resolved.antt`.
 #![tactic(auto)]
 
-mod leaves;
+mod expressions;
 mod names;
-mod resolve;
+mod symbols;
 
-pub use leaves::symbol_text;
+pub use expressions::{atom_of, letter_of, resolve};
 pub use names::Names;
-pub use resolve::{atom_of, letter_of, resolve};
+pub use symbols::symbol_text;

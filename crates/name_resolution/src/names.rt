@@ -6,7 +6,7 @@ ghost use Rattle.word_relations.specs.Words.{IsDistinct};
 ghost use Rattle.project_meaning.specs.Leaves.{leaf_of};
 ghost use Rattle.name_resolution.specs.Names.{is_named, is_symbol_leaf};
 
-use crate::leaves::symbol_text;
+use crate::symbols::symbol_text;
 use indexmap::IndexSet;
 use regex_ast::Raw;
 use std::alloc::{AllocError, Global};

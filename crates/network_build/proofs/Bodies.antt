@@ -1,5 +1,5 @@
 -- Bodies of definitions are built as their forms are, and over other symbols where their leaves are among these.
-use Rattle.std.proofs.Common.{◌≡◌, ◌⊎◌, ◌++◌, ◌||◌, Bool, true, false, List, [], ◌∷◌, All, Contains, IsTrue, map, refl, sym, ap, subst, ◌∙◌, inl, inr}
+use Rattle.std.proofs.Common.{◌≡◌, ◌++◌, ◌||◌, Bool, true, false, List, [], ◌∷◌, All, Contains, IsTrue, map, refl, sym, ap, subst, ◌∙◌, inl, inr}
 use Rattle.std.specs.List.{flat_map, list_any}
 use Rattle.std.proofs.lemmas.List.{map-append}
 use Rattle.std.proofs.lemmas.List.Elements.{All-nil, All-cons, All-head, All-append, All-map, All-contains, All-contains_itself, All-weaker, Contains-append_cases}
@@ -163,9 +163,9 @@ module _ (parts : List Part) (alphabet other : List Symbol) where
       entries l among built =
           all_within (λ (entry : Entry Atom). FormIsBuiltBy (is_leaf_of parts alphabet) (is_symbol_of alphabet) entry.form) (λ (entry : Entry Atom). FormIsBuilt parts other entry.form) l.entries
           (λ entry within each.
-              let held = form_among lexicons l entry among within in
-              form_ready entry.form (λ a at. go a (in_flat form_leaves (forms_in lexicons) entry.form a held at)) (λ e at. over e (in_flat expressions_in (forms_in lexicons) entry.form e held at))
-              (λ e at. All-contains (Fits (kinds parts)) (expressions_of (lexc lexicons)) e fit (in_flat expressions_in (forms_in lexicons) entry.form e held at)) each)
+          let held = form_among lexicons l entry among within in
+          form_ready entry.form (λ a at. go a (in_flat form_leaves (forms_in lexicons) entry.form a held at)) (λ e at. over e (in_flat expressions_in (forms_in lexicons) entry.form e held at))
+          (λ e at. All-contains (Fits (kinds parts)) (expressions_of (lexc lexicons)) e fit (in_flat expressions_in (forms_in lexicons) entry.form e held at)) each)
           built
   body_ready (twolc grammar) go over formed fit h = absurd h
 
@@ -200,11 +200,11 @@ module _ (spells letter_passes passes held : Atom → Bool) where
       lexicon l among built =
           all_within (λ (entry : Entry Atom). FormIsBuiltBy spells letter_passes entry.form) (λ (entry : Entry Atom). FormIsBuiltBy passes held entry.form) l.entries
           (λ entry within each.
-              let held_form = form_among lexicons l entry among within in
-              form_by entry.form (
-                λ a at. one a (in_flat form_leaves (forms_in lexicons) entry.form a held_form at),
-                λ a at. two a (in_flat form_leaves (forms_in lexicons) entry.form a held_form at),
-              ) each)
+          let held_form = form_among lexicons l entry among within in
+          form_by entry.form (
+            λ a at. one a (in_flat form_leaves (forms_in lexicons) entry.form a held_form at),
+            λ a at. two a (in_flat form_leaves (forms_in lexicons) entry.form a held_form at),
+          ) each)
           built
   body_by (twolc grammar) h go = absurd h
 

@@ -166,7 +166,7 @@ pub body_free : (parts : List Part) (alphabet other : List Symbol) (body : Body 
 body_free parts alphabet other (xfst e) free =
     (alphabet_free (stands parts) alphabet other e (All-head (λ (f : Term Atom). uses_alphabet f ≡ false) e [] (none_uses_it (xfst e) free))).1
 body_free parts alphabet other (lexc lexicons) free = lexicons_free symbol_in (stands parts) alphabet other lexicons (none_uses_it (lexc lexicons) free)
-body_free parts alphabet other (twolc grammar) free u w = (λ r. r, λ r. r)
+body_free parts alphabet other (twolc grammar) free = λ u w. (λ r. r, λ r. r)
 
 -- the network over given symbols of the alphabet, where the body relates the same over both
 pub network_made : {E : Type 0} (parts : List Part) (alphabet given : List Symbol) (body : Body Atom) (r : Result Network E) → ((s : Symbol) → Contains given s → Contains alphabet s)

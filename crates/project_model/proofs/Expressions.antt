@@ -13,9 +13,9 @@ use Rattle.project_model.specs.declared.definition.Body.TheVariants.{Xfst, Lexc}
 use Rattle.project_model.specs.declared.definition.Definition.{Definition}
 
 -- no plan has a grammar yet
-pub no_grammar : (body : BodyOf Atom) (grammar : Grammar Atom) → body_of body ≡ twolc grammar → ⊥
-no_grammar (Xfst e) grammar is = let clash : xfst (term e) ≡ twolc grammar = is in cc
-no_grammar (Lexc lexicons) grammar is = let clash : lexc (map lexicon_of lexicons.items) ≡ twolc grammar = is in cc
+pub not_grammar : (body : BodyOf Atom) (grammar : Grammar Atom) → body_of body ≡ twolc grammar → ⊥
+not_grammar (Xfst e) grammar is = let clash : xfst (term e) ≡ twolc grammar = is in cc
+not_grammar (Lexc lexicons) grammar is = let clash : lexc (map lexicon_of lexicons.items) ≡ twolc grammar = is in cc
 
 module _ (names table : List (List ℕ)) where
   -- the names of the definitions are those that were said

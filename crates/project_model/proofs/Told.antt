@@ -24,13 +24,12 @@ use Rattle.project_meaning.specs.Trees.{Body, xfst, lexc, twolc}
 use Rattle.project_meaning.proofs.Forms.{same_body_weight}
 use Rattle.project_meaning.proofs.Places.{in_flat}
 use Rattle.name_resolution.specs.Numbered.{numbered}
-use Rattle.project_model.specs.Bodies.{BodyFitsBy, kind_of_body, lexicon_weight, mapped_body, weight_of_body}
-use Rattle.grammar_resolution.specs.Mapped.{mapped_grammar}
+use Rattle.project_model.specs.Bodies.{BodyFitsBy, kind_of_body, lexicon_weight, mapped_body, no_grammar as none, weight_of_body}
 use Rattle.project_model.specs.Plain.{body_of}
 use Rattle.project_model.specs.declared.definition.Body.{Body as BodyOf}
 use Rattle.project_model.proofs.Bodies.{expressions_mapped, held_expressions}
 use Rattle.project_model.proofs.Built.{All-front, All-back}
-use Rattle.project_model.proofs.Expressions.{no_grammar}
+use Rattle.project_model.proofs.Expressions.{not_grammar}
 use Rattle.project_model.proofs.Gathering.{listed_is}
 use Rattle.project_model.proofs.Leaves.{texts_same}
 use Rattle.project_model.proofs.Mapped.{mapped_fits, mapped_kind, mapped_weight}
@@ -158,7 +157,7 @@ module _ (names table : List (List ℕ)) (project : Project) (forms : List Form)
         (lexicons_mapped (weights_at forms) (numbered names table) lexicons ∙ ap (λ (w : Leaf → ℕ). sum_by (lexicon_weight w) lexicons) (λ i leaf. weight_each leaf i)
         ∙ lexicons_meant kept lexicons ∙ same_body_weight kept cut (lexc lexicons) (λ name h. (told name h).weight))
         ∙ lexicons_capped cut (weight_in project) cut_each lexicons
-    told_weight (twolc grammar) is told = absurd (no_grammar b (mapped_grammar (numbered names table) grammar) is)
+    told_weight (twolc grammar) is told = absurd (not_grammar b none is)
 
     pub told_fits : (body : Body Leaf) → IsNumbered body → All (Contains table) (symbols_in body) → AllTold body
         → BodyFitsBy (leaves_at forms) (body_of b) ↔ BodyFits (leaves_by (kind_in project)) body

@@ -6,10 +6,9 @@ use Rattle.expr_kinds.specs.Weights.{weight_of}
 use Rattle.expr_kinds.specs.declared.form.Kind.{Kind}
 use Rattle.expr_kinds.specs.declared.form.Kind.TheVariants.{Relation}
 use Rattle.expr_leaves.specs.Mapped.{mapped}
-use Rattle.project_meaning.specs.Trees.{Form, sides, pairs, Entry, Lexicon, Body, xfst, lexc, twolc}
+use Rattle.project_meaning.specs.Trees.{Form, sides, pairs, Entry, Lexicon, Grammar, Body, xfst, lexc, twolc}
 use Rattle.project_meaning.specs.Leaves.{expressions_in, expressions_of}
 use Rattle.lexicon_spelling.specs.Mapped.{mapped_lexicon}
-use Rattle.grammar_resolution.specs.Mapped.{mapped_grammar}
 
 -- an expression has its own kind, lexicons and grammars are relations
 abbrev pub kind_of_body : {A : Type 0} → Leaves A → Body A → Kind
@@ -56,8 +55,12 @@ module _ {A : Type 0} (leaf : A → ℕ) where
   weight_of_body (lexc lexicons) = sum_by lexicon_weight lexicons
   weight_of_body (twolc grammar) = 0
 
+-- no text is read as a grammar yet
+abbrev pub no_grammar : {A : Type 0} → Grammar A
+no_grammar = record { pairs = []; sets = []; definitions = []; rules = [] }
+
 -- the same body with another leaf for each
 abbrev pub mapped_body : {A B : Type 0} → (A → B) → Body A → Body B
 mapped_body f (xfst e) = xfst (mapped f e)
 mapped_body f (lexc lexicons) = lexc (map (mapped_lexicon f f) lexicons)
-mapped_body f (twolc grammar) = twolc (mapped_grammar f grammar)
+mapped_body f (twolc grammar) = twolc no_grammar

@@ -6,4 +6,4 @@ use Rattle.network_build.proofs.listing.lexicon_leaves.Given as goal
 
 -- the leaves at the places so far
 abbrev pub invariant-places : goal.invariant-places
-invariant-places l = seen l.found.items ≡ map leaf_at (places_behind (take l.place-index l.places.items))
+invariant-places l = seen l.found.items ≡ map leaf_at (places_behind (take l.place-index l.place-items))

@@ -1,3 +1,0 @@
-mod Numbering
-mod Parts
-mod Symbols

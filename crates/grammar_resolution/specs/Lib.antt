@@ -1,4 +1,0 @@
-pub mod Leaves
-pub mod Mapped
-pub mod Numbered
-pub mod Plain
