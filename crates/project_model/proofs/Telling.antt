@@ -9,10 +9,8 @@ use Rattle.std.proofs.lemmas.List.Sums.{sum_by-append, sum_by-cons}
 use Rattle.regex_ast.specs.declared.expr.Atom.{Atom}
 use Rattle.word_relations.proofs.Behind.{left_behind}
 use Rattle.regex_ast.specs.Terms.{term}
-use Rattle.regex_ast.specs.declared.expr.Atom.TheVariants.{Name}
 use Rattle.regex_ast.specs.declared.expr.Expr.{Expr}
 use Rattle.regex_ast.specs.declared.lexc.Piece.{Piece as PieceOf}
-use Rattle.regex_ast.specs.declared.lexc.Piece.TheVariants.{Symbol as OfSymbol}
 use Rattle.regex_ast.specs.declared.lexc.Form.{Form as FormOf}
 use Rattle.regex_ast.specs.declared.lexc.Form.TheVariants.{Sides, Pairs}
 use Rattle.regex_ast.specs.declared.lexc.Entry.{Entry as EntryOf}
@@ -107,17 +105,21 @@ module _ (names : List Form) where
 pub never : IsTrue false → ⊥
 never e = cc
 
--- a piece that is a name among those of a side
-pub named_piece : (side : List (PieceOf Atom)) (i : ℕ) (piece : PieceOf Atom) (leaf : Atom) (n : ℕ) → i < length side → piece ≡ get_or side i piece → piece ≡ OfSymbol leaf → leaf ≡ Name n
-    → All (PieceIsBuiltBy is_symbol) (map piece_of side) → ⊥
-named_piece side i piece leaf n below is is_leaf is_name all =
-    let split : map piece_of side ≡ map piece_of (take i side) ++ piece_of piece ∷ map piece_of (drop (i + 1) side) =
-    ap (map piece_of) (sym (take-append-drop i side) ∙ ap (λ (z : List (PieceOf Atom)). take i side ++ z) (left_behind side i piece below is))
-    ∙ map-append piece_of (take i side) (piece ∷ drop (i + 1) side) in
-    let behind = All-back (PieceIsBuiltBy is_symbol) (map piece_of (take i side)) (piece_of piece ∷ map piece_of (drop (i + 1) side)) (subst (All (PieceIsBuiltBy is_symbol)) split all) in
-    let here = All-head (PieceIsBuiltBy is_symbol) (piece_of piece) (map piece_of (drop (i + 1) side)) behind in
-    let named : piece ≡ OfSymbol (Name n) = is_leaf ∙ ap (λ (a : Atom). OfSymbol a) is_name in
-    never (subst (λ (p : PieceOf Atom). PieceIsBuiltBy is_symbol (piece_of p)) named here)
+-- the pieces of a side, one after another
+module _ (side : List (PieceOf Atom)) (i : ℕ) (piece : PieceOf Atom) (below : i < length side) (is : piece ≡ get_or side i piece) where
+  pub piece_here : All (PieceIsBuiltBy is_symbol) (map piece_of side) → PieceIsBuiltBy is_symbol (piece_of piece)
+  piece_here all =
+      let split : map piece_of side ≡ map piece_of (take i side) ++ piece_of piece ∷ map piece_of (drop (i + 1) side) =
+      ap (map piece_of) (sym (take-append-drop i side) ∙ ap (λ (z : List (PieceOf Atom)). take i side ++ z) (left_behind side i piece below is))
+      ∙ map-append piece_of (take i side) (piece ∷ drop (i + 1) side) in
+      let behind = All-back (PieceIsBuiltBy is_symbol) (map piece_of (take i side)) (piece_of piece ∷ map piece_of (drop (i + 1) side)) (subst (All (PieceIsBuiltBy is_symbol)) split all) in
+      All-head (PieceIsBuiltBy is_symbol) (piece_of piece) (map piece_of (drop (i + 1) side)) behind
+
+  pub pieces_more : PieceIsBuiltBy is_symbol (piece_of piece) → All (PieceIsBuiltBy is_symbol) (map piece_of (take i side)) → All (PieceIsBuiltBy is_symbol) (map piece_of (take (i + 1) side))
+  pieces_more here so_far =
+      let taken = ap (map piece_of) (take_more side i piece below ∙ ap (λ (x : PieceOf Atom). take i side ++ x ∷ []) (sym is)) ∙ map-append piece_of (take i side) (piece ∷ []) in
+      subst (All (PieceIsBuiltBy is_symbol)) (sym taken)
+      (All-append (PieceIsBuiltBy is_symbol) (map piece_of (take i side)) (piece_of piece ∷ []) so_far (All-cons (PieceIsBuiltBy is_symbol) (piece_of piece) [] here (All-nil (PieceIsBuiltBy is_symbol))))
 
 thrice : (a b : ℕ) → capped (capped (capped a + b) + 1) ≡ capped (a + b + 1)
 unfolding capped most_weight
