@@ -20,7 +20,7 @@ pub enum Demand {
 }
 
 /// Whether a definition meets it, where names have these forms.
-#[tactic(auto, unfolding(expr_kinds::specs::Weights::most_weight))]
+#[tactic(auto, unfolding(expr_kinds::specs::Forms::capped, expr_kinds::specs::Weights::most_weight))]
 fn meets(forms: &[Form], body: &Body<Atom>, demand: Demand) -> bool
     ensures { IsTrue result ↔ Meets forms.now demand (body_of body.now) }
 {

@@ -8,12 +8,32 @@ ghost use Rattle.lexicon_resolution.specs.Plain.{entry_of, form_of, lexicon_of, 
 use expr_kinds::{Form, form_of};
 use regex_ast::{Atom, Entry, Lexicon, Piece};
 
+/// Whether a leaf is a symbol.
+fn is_symbol(leaf: &Atom) -> bool
+    ensures { result ≡ is_symbol leaf.now }
+{
+    match leaf {
+        Atom::Sym(_) => true,
+        Atom::Name(_) => false,
+    }
+}
+
+/// Whether a piece of a side is a symbol, or a flag.
+fn is_built(piece: &Piece<Atom>) -> bool
+    ensures { IsTrue result ↔ PieceIsBuiltBy is_symbol (piece_of piece.now) }
+{
+    match piece {
+        Piece::Symbol(leaf) => is_symbol(leaf),
+        Piece::Flag(_) => true,
+    }
+}
+
 /// Whether each letter of a side is a symbol.
 fn are_symbols(side: &[Piece<Atom>]) -> bool
     ensures { IsTrue result ↔ All (PieceIsBuiltBy is_symbol) (map piece_of side.now) }
 {
     'pieces: for piece in side {
-        if let Piece::Symbol(Atom::Name(_)) = piece {
+        if !is_built(piece) {
             return false;
         }
     }

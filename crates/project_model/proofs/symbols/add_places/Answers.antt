@@ -7,7 +7,7 @@ use Rattle.project_model.proofs.symbols.add_places.Goals as goal
 
 pub places-preserved : goal.places-preserved
 places-preserved c =
-    let first = symbol_at c.args.names.now (behind c.place-item.result.now) in
+    let first = symbol_at c.args.names.now (behind c.place-item.result) in
     let rest = flat_map (symbol_at c.args.names.now) (places_behind (drop (c.places.place-index + 1) c.args.places.now)) in
     record {
       same = gather_more c.places.table c.add_place.new.table first rest _ _ c.in_ok-add_place.ensures (ap (λ z. flat_map (symbol_at c.args.names.now) (places_behind z)) (left_behind c.args.places.now c.places.place-index c.place-item.result (omega arith) c.place-item.is)) c.places.invariant.same;
