@@ -156,8 +156,8 @@ module _ {A B : Type 0} (spells : A → Bool) (is_leaf is_letter : B → Bool) (
           let there = All-contains (LexiconIsBuiltBy is_leaf is_letter) (map to lexicons) (to l) h (Contains-map to lexicons l among) in
           All-weaker (Contains l.entries) (λ (entry : Entry A). FormIsBuilt spells passes entry.form)
           (λ entry within.
-              form_built entry.form (λ e at. go e (expression_among lexicons l entry among within e at))
-              (All-contains (λ (x : Entry B). FormIsBuiltBy is_leaf is_letter x.form) (map entry_to l.entries) (entry_to entry) there (Contains-map entry_to l.entries entry within)))
+          form_built entry.form (λ e at. go e (expression_among lexicons l entry among within e at))
+          (All-contains (λ (x : Entry B). FormIsBuiltBy is_leaf is_letter x.form) (map entry_to l.entries) (entry_to entry) there (Contains-map entry_to l.entries entry within)))
           l.entries (All-contains_itself l.entries)
 
 -- leaves that are replaced twice

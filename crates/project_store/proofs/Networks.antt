@@ -139,8 +139,8 @@ module _ (loaded : LoadedView) (plan : IsPlan (plan_in loaded)) (built : List (O
   fits =
       All-weaker (Contains (expressions_of body)) (Fits (kinds parts))
       (λ e held.
-          subst (λ (T : Type 0). T) (sym (fits_alike (leaves_at loaded.forms) (kinds parts) (is_leaf_of parts alphabet) same_kind same_symbol e (alone e held)))
-          (All-contains (Fits (leaves_at loaded.forms)) (expressions_of body) e sound.fits held))
+      subst (λ (T : Type 0). T) (sym (fits_alike (leaves_at loaded.forms) (kinds parts) (is_leaf_of parts alphabet) same_kind same_symbol e (alone e held)))
+      (All-contains (Fits (leaves_at loaded.forms)) (expressions_of body) e sound.fits held))
       (expressions_of body) (All-contains_itself (expressions_of body))
 
   pub formed : IsFormed body
