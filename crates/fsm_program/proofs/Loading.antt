@@ -26,7 +26,7 @@ use Rattle.fsm_program.specs.Gathered.{IsGathered, IsSeen}
 use Rattle.project_store.specs.Projects.{IsOfSources, IsWhyNot}
 use Rattle.project_store.specs.Loaded.{LoadedView}
 use Rattle.fsm_program.specs.declared.load.LoadError.{LoadError}
-use Rattle.fsm_program.specs.declared.load.LoadError.TheVariants.{Failed, Memory, Refused}
+use Rattle.fsm_program.specs.declared.load.LoadError.TheVariants.{Memory, Refused}
 
 -- what follows of what is told is told
 pub told_so : {T : Type 0} (P Q : T → Type 0) (o : Option T) → ((x : T) → P x → Q x) → Told o P → Told o Q

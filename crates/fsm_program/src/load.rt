@@ -1,4 +1,4 @@
-ghost use Rattle.std.specs.Prelude.{◌≡◌, ◌≤◌, ℕ, List, All, Contains, None, MatchOption, IfOk, IfErr, OnOk};
+ghost use Rattle.std.specs.Prelude.{◌≡◌, ◌≤◌, ℕ, List, All, Contains, None, MatchOption, IfOk, IfErr};
 ghost use Rattle.fsm_io.specs.Folders.{Finds, HasAsked, Told, file_of};
 ghost use Rattle.fsm_program.specs.Files.{AskedForFiles, AsksForFront, IsLoadError, IsLoaded, IsReadError, most_read};
 ghost use Rattle.fsm_program.specs.Gathered.{HasAdded, IsGathered, IsSeen, SourcesDeclare};

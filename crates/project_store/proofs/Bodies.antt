@@ -1,5 +1,5 @@
 -- Bodies by their expressions: what these refer to, whether they are built and of which kind, and with other leaves.
-use Rattle.std.proofs.Common.{◌≡◌, ◌<◌, ◌++◌, ℕ, Bool, true, false, cond, nat_lt, List, [], ◌∷◌, map, All, Contains, IsTrue, refl, sym, ap, subst, ◌∙◌, inl, inr, arith}
+use Rattle.std.proofs.Common.{◌≡◌, ◌<◌, ◌++◌, ℕ, Bool, true, false, cond, nat_lt, List, [], ◌∷◌, map, All, Contains, refl, sym, ap, subst, ◌∙◌, inl, inr, arith}
 use Rattle.std.proofs.lemmas.Bool.Decides.{nat_tests}
 use Rattle.std.proofs.lemmas.List.{map-append}
 use Rattle.std.proofs.lemmas.List.Elements.{All-nil, All-cons, All-head, All-tail, All-append, All-contains, All-contains_itself, All-weaker, Contains-append_cases}
@@ -156,8 +156,8 @@ module _ {A B : Type 0} (spells : A → Bool) (is_leaf is_letter : B → Bool) (
           let there = All-contains (LexiconIsBuiltBy is_leaf is_letter) (map to lexicons) (to l) h (Contains-map to lexicons l among) in
           All-weaker (Contains l.entries) (λ (entry : Entry A). FormIsBuilt spells passes entry.form)
           (λ entry within.
-              form_built entry.form (λ e at. go e (expression_among lexicons l entry among within e at))
-              (All-contains (λ (x : Entry B). FormIsBuiltBy is_leaf is_letter x.form) (map entry_to l.entries) (entry_to entry) there (Contains-map entry_to l.entries entry within)))
+          form_built entry.form (λ e at. go e (expression_among lexicons l entry among within e at))
+          (All-contains (λ (x : Entry B). FormIsBuiltBy is_leaf is_letter x.form) (map entry_to l.entries) (entry_to entry) there (Contains-map entry_to l.entries entry within)))
           l.entries (All-contains_itself l.entries)
 
 -- leaves that are replaced twice

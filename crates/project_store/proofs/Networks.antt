@@ -1,16 +1,14 @@
 -- The networks of a project's definitions are built of one another.
-use Rattle.std.proofs.Common.{◌≡◌, ◌⊎◌, ◌<◌, ◌≤◌, ◌+◌, ◌++◌, ℕ, Bool, true, false, cond, nat_lt, List, [], ◌∷◌, length, take, get_or, AllPairs, Contains, Option, Some, None, is_some, IsTrue, Result, Ok, Err, IfOk, IfErr, OnOk, slice_get, refl, sym, ap, subst, ◌∙◌, inl, inr, arith}
+use Rattle.std.proofs.Common.{◌≡◌, ◌⊎◌, ◌<◌, ◌≤◌, ◌+◌, ◌++◌, ℕ, true, false, List, [], ◌∷◌, length, take, get_or, AllPairs, Contains, Option, Some, None, is_some, IsTrue, Result, Ok, Err, IfOk, IfErr, OnOk, slice_get, refl, sym, ap, subst, ◌∙◌, inl, inr, arith}
 use Rattle.std.proofs.Math.ListN.{replicate, set}
 use Rattle.std.proofs.lemmas.Bool.{cases_eq}
-use Rattle.std.proofs.lemmas.Bool.Decides.{nat_tests}
 use Rattle.std.proofs.lemmas.List.{get_or-replicate, length-map, length-replicate, length-set, map-append, take_all, take_more}
-use Rattle.std.proofs.lemmas.List.Elements.{All-contains, All-contains_itself, All-weaker, Contains-append_left, Contains-append_right, Contains-push, Contains-push_cases, Contains-get_or}
+use Rattle.std.proofs.lemmas.List.Elements.{All-contains, All-contains_itself, All-weaker, Contains-append_left, Contains-push, Contains-push_cases, Contains-get_or}
 use Rattle.std.proofs.lemmas.List.Quantifiers.{all_pairs_push}
 use Rattle.std.proofs.lemmas.Option.{slice_get-get_or, slice_get-map, slice_get_within, same_Some}
 use Rattle.std.specs.Borrow.{Bor}
-use Rattle.std.specs.List.{flat_map}
 use Rattle.std.specs.Option.{option_map}
-use Rattle.word_relations.proofs.Members.{Contains-nil_cases, Contains-cons_cases, Contains-head}
+use Rattle.word_relations.proofs.Members.{Contains-nil_cases, Contains-head}
 use Rattle.word_relations.proofs.Places.{Contains-from_slice_get, slice_get-append_left, slice_get-append_right, slice_get-set_other, slice_get-set_same}
 use Rattle.fsm_base.specs.Alphabet.{symbols_of}
 use Rattle.fsm_base.specs.declared.letters.Sym.{Sym as Symbol}
@@ -139,8 +137,8 @@ module _ (loaded : LoadedView) (plan : IsPlan (plan_in loaded)) (built : List (O
   fits =
       All-weaker (Contains (expressions_of body)) (Fits (kinds parts))
       (λ e held.
-          subst (λ (T : Type 0). T) (sym (fits_alike (leaves_at loaded.forms) (kinds parts) (is_leaf_of parts alphabet) same_kind same_symbol e (alone e held)))
-          (All-contains (Fits (leaves_at loaded.forms)) (expressions_of body) e sound.fits held))
+      subst (λ (T : Type 0). T) (sym (fits_alike (leaves_at loaded.forms) (kinds parts) (is_leaf_of parts alphabet) same_kind same_symbol e (alone e held)))
+      (All-contains (Fits (leaves_at loaded.forms)) (expressions_of body) e sound.fits held))
       (expressions_of body) (All-contains_itself (expressions_of body))
 
   pub formed : IsFormed body

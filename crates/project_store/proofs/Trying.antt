@@ -1,5 +1,5 @@
 -- Which definitions of a loaded project have an empty centre, as they are tried in order; and the first fault that this is.
-use Rattle.std.proofs.Common.{◌≡◌, ◌<◌, ◌≤◌, ◌+◌, ◌++◌, ◌⊎◌, ℕ, zero, suc, Bool, true, false, cond, nat_lt, List, [], ◌∷◌, length, length-take-le, take, take-take, get_or, get_or-take, All, Contains, Option, Some, None, Result, Ok, Err, IfOk, IfErr, OnOk, slice_get, refl, sym, ap, subst, ◌∙◌, inl, inr, arith}
+use Rattle.std.proofs.Common.{◌≡◌, ◌<◌, ◌≤◌, ◌+◌, ◌++◌, ◌⊎◌, ℕ, zero, suc, Bool, true, false, List, [], ◌∷◌, length, length-take-le, take, take-take, get_or, get_or-take, All, Contains, Option, Some, None, Result, Ok, Err, IfOk, IfErr, OnOk, slice_get, refl, sym, ap, subst, ◌∙◌, inl, inr, arith}
 use Rattle.std.proofs.Math.ListN.{replicate, set}
 use Rattle.std.proofs.lemmas.Bool.{cases_eq, cases_lt}
 use Rattle.std.proofs.lemmas.List.{length-map, length-replicate, length-set, map-append, take_all, take_more}
@@ -8,7 +8,7 @@ use Rattle.std.proofs.lemmas.Option.{slice_get-get_or, slice_get-map, slice_get_
 use Rattle.std.specs.Borrow.{Bor}
 use Rattle.std.specs.List.{flat_map}
 use Rattle.std.specs.Option.{option_map}
-use Rattle.word_relations.proofs.Members.{Contains-nil_cases, Contains-cons_cases, Contains-head, Contains-map, Contains-tail}
+use Rattle.word_relations.proofs.Members.{Contains-nil_cases, Contains-head, Contains-map, Contains-tail}
 use Rattle.word_relations.proofs.Places.{slice_get_from_Contains, slice_get-set_other, slice_get-set_same}
 use Rattle.fsm_base.specs.Symbols.{number_of}
 use Rattle.fsm_io.specs.Folders.{Files}
