@@ -3,10 +3,9 @@ use Rattle.std.proofs.Common.{◌≡◌, ℕ, List, [], ◌∷◌, ◌++◌, map
 use Rattle.std.proofs.lemmas.List.{map-append}
 use Rattle.std.proofs.lemmas.Grind.{flat_map-append}
 use Rattle.std.proofs.lemmas.List.Folds.{flat_map-map}
-use Rattle.std.proofs.lemmas.Simd.{map-map}
 use Rattle.std.specs.List.{flat_map}
 use Rattle.expr_leaves.specs.Leaves.{leaves_in}
-use Rattle.lexicon_resolution.specs.Places.{SymbolsAreOfPlaces, places_in, places_in_form, places_in_piece, symbol_at}
+use Rattle.lexicon_resolution.specs.Places.{SymbolsAreOfPlaces, places_in_form, places_in_piece, symbol_at}
 use Rattle.lexicon_resolution.specs.declared.place.Place.TheVariants.{InExpression}
 use Rattle.name_resolution.proofs.Listed.{listed_is}
 use Rattle.name_resolution.proofs.Mapped.{mapped_listed}

@@ -1,6 +1,6 @@
 -- The lines of a manifest, one statement each: that a name is a lexc or twolc file's relation, that a file has definitions, which
 -- symbols there are besides, which names must be defined, or which file has the glosses; and the faults of a line.
-use Rattle.std.specs.Prelude.{◌≡◌, ◌≢◌, ◌<◌, ◌≤◌, ◌⊎◌, ℕ, Bool, true, false, List, [], ◌∷◌, length, map, Contains, IsTrue, codes, Option, None, Some, if◌then◌else◌}
+use Rattle.std.specs.Prelude.{◌≡◌, ◌≢◌, ◌≤◌, ◌⊎◌, ℕ, Bool, true, false, List, [], ◌∷◌, length, map, Contains, IsTrue, codes, Option, None, Some, if◌then◌else◌}
 use Rattle.std.specs.List.{flat_map, list_all}
 use Rattle.std.specs.Str.{bytes_eq}
 use Rattle.regex_ast.specs.declared.fault.Why.{Why}

@@ -12,7 +12,7 @@ use Rattle.expr_leaves.specs.Leaves.{listed}
 use Rattle.expr_leaves.specs.Mapped.{mapped}
 use Rattle.project_meaning.specs.Trees.{Form, sides, pairs, Entry, Lexicon, Body, xfst, lexc, twolc}
 use Rattle.project_meaning.specs.Leaves.{Leaf, expressions_in, expressions_of, form_symbols, forms_in, leaf_of, resolved, resolved_form, resolved_lexicon, symbol_in, symbols_in}
-use Rattle.lexicon_spelling.specs.Mapped.{mapped_form, mapped_lexicon}
+use Rattle.lexicon_spelling.specs.Mapped.{mapped_form}
 use Rattle.project_model.specs.Bodies.{AreRooted, BodyFitsBy, IsFormed, LexiconFitsBy, mapped_body}
 use Rattle.project_model.proofs.Built.{All-front, All-back}
 

@@ -1,5 +1,5 @@
 -- The lexicons that files have, have names of their own, and one is `Root`: the reader's law.
-use Rattle.std.proofs.Common.{◌≡◌, ℕ, List, [], ◌∷◌, ◌++◌, map, codes, All, Contains, Result, Ok, Err, sym, ap, subst, ◌∙◌}
+use Rattle.std.proofs.Common.{◌≡◌, ℕ, List, [], ◌∷◌, map, codes, All, Contains, Ok, Err, sym, ap, subst, ◌∙◌}
 use Rattle.std.proofs.lemmas.List.Elements.{All-nil, All-cons, All-append}
 use Rattle.std.proofs.lemmas.Simd.{map-map}
 use Rattle.word_relations.specs.Words.{IsDistinct}
@@ -9,7 +9,7 @@ use Rattle.regex_ast.specs.declared.expr.Raw.{Raw}
 use Rattle.regex_ast.specs.declared.fault.Why.TheVariants as why
 use Rattle.regex_reader.specs.Files.{Statement}
 use Rattle.lexc_grammar.specs.Files.{SaysLexicons}
-use Rattle.lexc_grammar.specs.Lexicons.{LexiconAt, without_lines}
+use Rattle.lexc_grammar.specs.Lexicons.{without_lines}
 use Rattle.lexc_reader.proofs.Sound.{sound}
 use Rattle.project_manifest.specs.Lines.{Line, Placed, alphabet_line, file_in, gloss_line, lexc_line, require_line, twolc_line, xfst_line}
 use Rattle.project_meaning.specs.Projects.{Written}

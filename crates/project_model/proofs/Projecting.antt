@@ -32,7 +32,6 @@ use Rattle.name_resolution.specs.Numbered.{numbered}
 use Rattle.project_model.specs.Numbered.{IsBodyOver, numbers_in}
 use Rattle.project_model.specs.Plans.{IsPlan, IsSoundOver, PlanView}
 use Rattle.project_model.specs.Referring.{CycleFault, references_of}
-use Rattle.name_resolution.specs.Resolved.{atom_of}
 use Rattle.project_model.specs.Stands.{Entry, entry_in, entry_of}
 use Rattle.project_model.specs.declared.definition.Definition.{Definition}
 use Rattle.project_model.specs.declared.demands.Demand.{Demand}

@@ -165,5 +165,5 @@ body_fits names body lexicons ls is ls_is a b same told =
     let both = lexicons_fit (leaves_at names) (map lexicon_of lexicons.items) in (
       λ h. subst (λ (x : BodyOf Atom). BodyFitsBy (leaves_at names) (body_of x)) (sym is) (both.0 (subst (λ (z : List (LexiconOf Atom)). All (LexiconFitsBy (leaves_at names)) (map lexicon_of z)) ls_is (told.0 (subst IsTrue same h)))),
       λ h. subst IsTrue (sym same)
-      (told.1 (subst (λ (z : List (LexiconOf Atom)). All (LexiconFitsBy (leaves_at names)) (map lexicon_of z)) (sym ls_is) (both.1 (subst (λ (x : BodyOf Atom). BodyFitsBy (leaves_at names) (body_of x)) is h)))),
+          (told.1 (subst (λ (z : List (LexiconOf Atom)). All (LexiconFitsBy (leaves_at names)) (map lexicon_of z)) (sym ls_is) (both.1 (subst (λ (x : BodyOf Atom). BodyFitsBy (leaves_at names) (body_of x)) is h)))),
     )

@@ -10,8 +10,8 @@ ghost use Rattle.project_model.specs.Answers.{written_of};
 ghost use Rattle.project_model.specs.Gathered.{gathered, symbol_beside, symbols_of_all};
 ghost use Rattle.project_model.specs.Plain.{body_of};
 
-use crate::written::WrittenDefine;
 use crate::definition::Body;
+use crate::written::WrittenDefine;
 use expr_leaves::leaves;
 use fsm_base::SymbolTable;
 use lexicon_resolution::{Place, places, symbols_are_of_places};
@@ -68,11 +68,7 @@ fn add_letter(text: &str, table: &mut SymbolTable) -> Result<(), AllocError>
 }
 
 /// Puts the symbol of a leaf of lexicons into a table, where it's new and the table has room for it.
-fn add_place(
-    place: &Place<&Raw>,
-    names: &Names,
-    table: &mut SymbolTable,
-) -> Result<(), AllocError>
+fn add_place(place: &Place<&Raw>, names: &Names, table: &mut SymbolTable) -> Result<(), AllocError>
     requires { length table.old ≤ most_symbols + 1 }
     ensures { OnOk result (table.new ≡ gathered table.old (symbol_at names.now (behind place.now))) }
 {

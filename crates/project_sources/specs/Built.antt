@@ -1,6 +1,6 @@
 -- The bodies that are compiled, by two tests: one of the leaves of expressions, where names may stand, and one of the symbols in braces
 -- and on the sides of entries, where none may.
-use Rattle.std.specs.Prelude.{Bool, List, All, IsTrue}
+use Rattle.std.specs.Prelude.{Bool, All, IsTrue}
 use Rattle.expr_kinds.specs.Built.{IsBuiltBy}
 use Rattle.project_meaning.specs.Trees.{Piece, letter, flag, Form, sides, pairs, Lexicon, Body, xfst, lexc, twolc}
 

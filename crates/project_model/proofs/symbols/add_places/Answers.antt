@@ -2,7 +2,7 @@ use Rattle.std.proofs.Common.{◌+◌, ap, arith, drop}
 use Rattle.std.specs.List.{flat_map}
 use Rattle.word_relations.proofs.Behind.{left_behind}
 use Rattle.lexicon_resolution.specs.Places.{behind, places_behind, symbol_at}
-use Rattle.project_model.proofs.Gathering.{gather_more, gathered_all, still_short}
+use Rattle.project_model.proofs.Gathering.{gather_more, still_short}
 use Rattle.project_model.proofs.symbols.add_places.Goals as goal
 
 pub places-preserved : goal.places-preserved
