@@ -1,9 +1,10 @@
 -- What the files read say of the project, as far as they are told.
-use Rattle.std.proofs.Common.{◌≡◌, ◌↔◌, ℕ, ◌<◌, ◌≤◌, ◌+◌, List, [], ◌∷◌, ◌++◌, length, map, take, inl, inr, Some, None, Option, Ok, Err, IfOk, IfErr, Result, refl, sym, ap, subst, ◌∙◌, arith}
+use Rattle.std.proofs.Common.{◌≡◌, ◌↔◌, ℕ, ◌<◌, ◌≤◌, ◌+◌, List, [], ◌∷◌, ◌++◌, length, map, take, inl, inr, Some, None, Option, Ok, Err, IfErr, Result, refl, sym, ap, subst, ◌∙◌, arith}
 use Rattle.std.proofs.lemmas.Bool.{cases_lt}
 use Rattle.std.proofs.lemmas.List.{length-take, take_all}
 use Rattle.std.proofs.lemmas.List.Elements.{All-contains, Contains-append_left, Contains-append_right}
 use Rattle.std.specs.List.{Contains}
+use Rattle.std.specs.Result.{IsErrAnd}
 use Rattle.std.specs.Option.{option_map}
 use Rattle.fsm_io.specs.Causes.{Rose}
 use Rattle.fsm_io.specs.Folders.{Files, file_of, Told}
@@ -20,13 +21,14 @@ use Rattle.project_sources.specs.Limits.{most_bytes}
 use Rattle.project_sources.specs.Sources.{FileDefines, FilesDefine, FilesSay, HasText, HaveText, Said, project_in}
 use Rattle.project_sources.specs.Faults.{fault, TextFault, text_rows, ContentFault, FileRow, missing, no_text, unread, file_rows, FileFault, NamedFault, Row, no_project, manifest_text, manifest_lines, in_files, in_said, empty_centre, HasFault, FirstFault, rows_so_far, said_so_far}
 use Rattle.project_sources.specs.Laws.{readers_so_far}
-use Rattle.fsm_program.specs.Files.{IsLoaded, IsLoadError, most_read}
+use Rattle.fsm_program.specs.Files.{IsLoaded, IsLoadError, load_error, most_read}
 use Rattle.project_store.specs.Projects.{Reads}
 use Rattle.fsm_program.specs.Gathered.{IsGathered, IsSeen}
 use Rattle.project_store.specs.Projects.{IsOfSources, IsWhyNot}
 use Rattle.project_store.specs.Loaded.{LoadedView}
 use Rattle.fsm_program.specs.declared.load.LoadError.{LoadError}
-use Rattle.fsm_program.specs.declared.load.LoadError.TheVariants.{Memory, Refused}
+use Rattle.project_store.specs.declared.store_error.StoreError.{StoreError}
+use Rattle.project_store.specs.declared.store_error.StoreError.TheVariants as store
 
 -- what follows of what is told is told
 pub told_so : {T : Type 0} (P Q : T → Type 0) (o : Option T) → ((x : T) → P x → Q x) → Told o P → Told o Q
@@ -282,19 +284,16 @@ module _ (sources files : Files) (gathered : IsGathered sources files) where
   gathered_says (Ok project) (free, said, says, is) = ((λ found h. free found ((faults_both found).1 h)), said, (said_both (no_line_fault free) said).0 says, is)
 
 -- what sources say, the folder's files say
-loaded_from : (sources : Files) (files : Option Files) (loaded : LoadedView) → Told files (IsGathered sources) → IsOfSources sources loaded → IsLoaded loaded files
+-- the project of gathered sources, and their fault
+pub loaded_from : (sources : Files) (files : Option Files) (loaded : LoadedView) → Told files (IsGathered sources) → IsOfSources sources loaded → IsLoaded loaded files
 loaded_from sources files loaded told (said, from, reads) =
     (said, from, told_so (IsGathered sources) (λ fs. Reads fs (Ok (project_in said))) files (λ fs gathered. gathered_says sources fs gathered (Ok (project_in said)) reads) told)
 
-why_from : (sources : Files) (files : Option Files) (before now : ℕ) (error : StoreError) → Told files (IsGathered sources) → ¬ (Rose before now) → IsWhyNot sources error → IsLoadError (load_error error) files before now
-why_from sources files before now (Memory refused) told held why = tt
-why_from sources files before now (Refused fault) told held why = (told_so (IsGathered sources) (λ fs. Reads fs (Err fault)) files (λ fs gathered. gathered_says sources fs gathered (Err fault) why) told, held)
+pub why_from : (sources : Files) (files : Option Files) (before now : ℕ) (error : StoreError) → Told files (IsGathered sources) → ¬ (Rose before now) → IsWhyNot sources error → IsLoadError (load_error error) files before now
+why_from sources files before now (store.Memory refused) told held why = tt
+why_from sources files before now (store.Refused fault) told held why = (told_so (IsGathered sources) (λ fs. Reads fs (Err fault)) files (λ fs gathered. gathered_says sources fs gathered (Err fault) why) told, held)
 
--- the project of gathered sources, and their fault
-pub loads_from : (sources : Files) (files : Option Files) (r : Result LoadedView LoadError) → Told files (IsGathered sources) → IfOk r (IsOfSources sources) → IfOk r (λ loaded. IsLoaded loaded files)
-loads_from sources files (Ok loaded) told of_sources = loaded_from sources files loaded told of_sources
-loads_from sources files (Err error) told of_sources = tt
-
-pub fails_from : (sources : Files) (files : Option Files) (before now : ℕ) (r : Result LoadedView LoadError) → Told files (IsGathered sources) → ¬ (Rose before now) → IfErr r (IsWhyNot sources) → IfErr r (λ error. IsLoadError error files before now)
-fails_from sources files before now (Ok loaded) told held why = tt
-fails_from sources files before now (Err error) told held why = why_from sources files before now error told held why
+-- the error that a fault of the sources becomes is so where the fault is
+pub fails_by : {T : Type 0} (r : Result T LoadError) (P : LoadError → Type 0) (error : StoreError) → IsErrAnd r (λ e. e ≡ load_error error) → P (load_error error) → IfErr r P
+fails_by (Ok x) P error is h = tt
+fails_by (Err e) P error is h = subst P (sym is) h

@@ -1,3 +1,4 @@
+mod Resolved
 pub mod Bodies
 pub mod Lawful
 pub mod Named

@@ -33,12 +33,12 @@ use Rattle.network_build.specs.Networks.{BodyHasEmptyCentre, BodyRelates as Numb
 use Rattle.network_build.proofs.Built.{built_both}
 use Rattle.network_lexicons.specs.Plain.{symbol_in}
 use Rattle.lexicon_spelling.specs.Mapped.{mapped_lexicon}
-use Rattle.lexicon_spelling.proofs.Resolved.{resolved_mapped}
+use Rattle.project_store.proofs.Resolved.{resolved_mapped}
 use Rattle.lexicon_spelling.proofs.Spelling.{lexicons_spelled}
 use Rattle.project_meaning.specs.Centres.{HasOwnEmptyCentre, centres_in}
 use Rattle.project_meaning.specs.Trees.{Body, Lexicon, xfst, lexc, twolc}
 use Rattle.project_meaning.specs.Lexicons.{LexiconsRelate, text_in}
-use Rattle.project_meaning.specs.Leaves.{Leaf, symbol, named as named_leaf, expressions_of, leaf_of, resolved, resolved_grammar, symbol_of, written as text_of}
+use Rattle.project_meaning.specs.Leaves.{Leaf, symbol, named as named_leaf, expressions_of, leaf_of, resolved, symbol_of, written as text_of}
 use Rattle.project_meaning.specs.Projects.{Defines, Definition as Meant, Written, definition_in, names_of}
 use Rattle.project_meaning.specs.Meaning.{InExpression, Word, BodyRelates, Meaning, NameRelates, stands_for as means_by}
 use Rattle.project_meaning.proofs.Depths.{names_unfold}
@@ -49,13 +49,12 @@ use Rattle.project_sources.specs.Sources.{Said, project_in}
 use Rattle.name_resolution.specs.Numbered.{numbered}
 use Rattle.project_model.specs.Numbered.{IsBodyOver, is_leaf_over, is_symbol_over}
 use Rattle.name_resolution.specs.Resolved.{atom_of}
-use Rattle.grammar_resolution.specs.Mapped.{mapped_grammar}
-use Rattle.project_model.specs.Bodies.{mapped_body}
+use Rattle.project_model.specs.Bodies.{mapped_body, no_grammar}
 use Rattle.project_model.specs.Plain.{body_of}
 use Rattle.project_model.specs.Stands.{Entry, entry_in, entry_of}
 use Rattle.project_model.proofs.Alphabets.{at_number}
 use Rattle.project_model.proofs.Bodies.{expressions_mapped, expressions_resolved}
-use Rattle.project_model.proofs.Expressions.{names_said, no_grammar}
+use Rattle.project_model.proofs.Expressions.{names_said, not_grammar}
 use Rattle.name_resolution.proofs.Leaves.{leaf_cases}
 use Rattle.name_resolution.proofs.Mapped.{mapped_twice}
 use Rattle.project_model.proofs.Mapped.{mapped_built}
@@ -355,7 +354,7 @@ module _ (said : Said) (loaded : LoadedView) (from : IsLoadedFrom said loaded) w
             → IsBodyOver table (resolved names written) → IsAlike written
         written_alike (xfst e) is es_built over_table = expression_alike e (es_built e (Contains-head e []))
         written_alike (lexc lexicons) is es_built over_table = lexicons_alike lexicons es_built over_table
-        written_alike (twolc grammar) is es_built over_table = absurd (no_grammar d.body (mapped_grammar (numbered names table) (resolved_grammar grammar)) is)
+        written_alike (twolc grammar) is es_built over_table = absurd (not_grammar d.body no_grammar is)
 
         -- the definition relates the same by numbers and by texts
         here : IsSpelled loaded.alphabet (NumbersRelate parts symbols body) (BodyRelates means table meant)
