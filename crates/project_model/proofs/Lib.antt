@@ -1,4 +1,3 @@
-mod Filed
 mod Rowed
 mod Texts
 mod NameSteps

@@ -8,5 +8,4 @@ pub mod Plans
 pub mod Referring
 pub mod Resolved
 pub mod Sound
-pub mod Sources
 pub mod Stands

@@ -13,10 +13,9 @@ ghost use Rattle.regex_ast.specs.declared.fault.Fault.{Fault};
 ghost use Rattle.regex_reader.specs.Files.{FaultAt, ReadsAs, statement_of};
 
 use crate::content::text_of_file;
-use crate::plan_error::{PlanError, refused};
-use crate::sources::Sources;
 use crate::written::WrittenDefine;
 use fsm_base::Text;
+use project_files::{PlanError, Sources, refused};
 use project_manifest::{Declaration, ManifestLine};
 use regex_ast::{Define, Raw, ReadError, Why};
 use regex_reader::read_xfst;

@@ -11,10 +11,10 @@ ghost use Rattle.project_sources.specs.Limits.{most_names};
 ghost use Rattle.project_model.specs.Answers.{IsRefusal, IsRefusedBy, written_of};
 ghost use Rattle.project_model.specs.Names.{is_named, is_symbol_leaf};
 
-use crate::plan_error::{PlanError, refused};
 use crate::symbols::symbol_text;
 use crate::written::WrittenDefine;
 use indexmap::IndexSet;
+use project_files::{PlanError, refused};
 use project_sources::MOST_NAMES;
 use regex_ast::{Raw, Why};
 use std::alloc::{AllocError, Global};

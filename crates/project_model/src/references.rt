@@ -9,9 +9,9 @@ ghost use Rattle.project_model.specs.Plans.{body_term};
 ghost use Rattle.project_model.specs.Referring.{CycleFault, place_in, places_in, references_of};
 
 use crate::definition::{Body, Definition};
-use crate::plan_error::{PlanError, refused};
 use expr_leaves::leaves;
 use name_order::{Order, order_of};
+use project_files::{PlanError, refused};
 use regex_ast::{Atom, Expr, Why};
 use std::alloc::{AllocError, Global};
 
