@@ -12,6 +12,7 @@ use Rattle.word_relations.specs.Words.{IsDistinct}
 use Rattle.word_relations.proofs.Members.{Contains-nil_cases, Contains-head, Contains-tail, Contains-cons_cases, Contains-from_slice_get}
 use Rattle.fsm_base.proofs.AlphabetLemmas.{IsDistinct-tail, no_repeat}
 use Rattle.fsm_io.specs.Folders.{Files, file_of}
+use Rattle.project_manifest.specs.Lines.{most_files}
 use Rattle.project_manifest.specs.Manifests.{project_name}
 use Rattle.project_files.specs.Sources.{names_in}
 use Rattle.project_sources.specs.Edits.{HoldsMost, held_in}
@@ -42,38 +43,38 @@ distinct_cons x xs new apart (suc i) (suc j) y at_i at_j = ap suc (apart i j y a
 module _ (test : List ℕ → Bool) where
   pub kept_inside : (xs : List (List ℕ)) (x : List ℕ) → Contains (filter test xs) x → Contains xs x × (test x ≡ true)
   kept_inside [] x h = absurd (Contains-nil_cases x h)
-  kept_inside (y ∷ xs) x h = by (test y) refl h where
-    by : (t : Bool) → test y ≡ t → Contains (cond t (y ∷ filter test xs) (filter test xs)) x → Contains (y ∷ xs) x × (test x ≡ true)
-    by true e h = elim (Contains-cons_cases y (filter test xs) x h) [
+  kept_inside (y ∷ xs) x h = by (test y) refl h (kept_inside xs x) where
+    by : (t : Bool) → test y ≡ t → Contains (cond t (y ∷ filter test xs) (filter test xs)) x → (Contains (filter test xs) x → Contains xs x × (test x ≡ true)) → Contains (y ∷ xs) x × (test x ≡ true)
+    by true e h later = elim (Contains-cons_cases y (filter test xs) x h) [
       | inl same ↦ (subst (λ (z : List ℕ). Contains (y ∷ xs) z) same (Contains-head y xs), ap test (sym same) ∙ e)
-      | inr rest ↦ let below = kept_inside xs x rest in (Contains-tail y xs x below.0, below.1)
+      | inr rest ↦ let below = later rest in (Contains-tail y xs x below.0, below.1)
     ]
-    by false e h = let below = kept_inside xs x h in (Contains-tail y xs x below.0, below.1)
+    by false e h later = let below = later h in (Contains-tail y xs x below.0, below.1)
 
   kept_distinct : (xs : List (List ℕ)) → IsDistinct xs → IsDistinct (filter test xs)
   kept_distinct [] apart = apart
-  kept_distinct (y ∷ xs) apart = by (test y) where
-    by : (t : Bool) → IsDistinct (cond t (y ∷ filter test xs) (filter test xs))
-    by true = distinct_cons y (filter test xs) (λ h. no_repeat y xs apart (kept_inside xs y h).0) (kept_distinct xs (IsDistinct-tail y xs apart))
-    by false = kept_distinct xs (IsDistinct-tail y xs apart)
+  kept_distinct (y ∷ xs) apart = by (test y) (kept_distinct xs (IsDistinct-tail y xs apart)) where
+    by : (t : Bool) → IsDistinct (filter test xs) → IsDistinct (cond t (y ∷ filter test xs) (filter test xs))
+    by true rest = distinct_cons y (filter test xs) (λ h. no_repeat y xs apart (kept_inside xs y h).0) rest
+    by false rest = rest
 
 -- ---- what is held has a name, and the other way round
 
 held_named : (files : Files) (name : List ℕ) → file_of name files ≢ None → Contains (names_in files) name
 held_named [] name held = absurd (held refl)
-held_named (f ∷ files) name held = by (bytes_eq f.0 name) refl held where
-  by : (t : Bool) → bytes_eq f.0 name ≡ t → (cond t (Some f.1) (file_of name files) ≡ None → ⊥) → Contains (f.0 ∷ names_in files) name
-  by true e held = subst (λ (z : List ℕ). Contains (f.0 ∷ names_in files) z) ((bytes_eq-Decides f.0 name).0 e) (Contains-head f.0 (names_in files))
-  by false e held = Contains-tail f.0 (names_in files) name (held_named files name held)
+held_named (f ∷ files) name held = by (bytes_eq f.0 name) refl held (held_named files name) where
+  by : (t : Bool) → bytes_eq f.0 name ≡ t → (cond t (Some f.1) (file_of name files) ≡ None → ⊥) → ((file_of name files ≡ None → ⊥) → Contains (names_in files) name) → Contains (f.0 ∷ names_in files) name
+  by true e held later = subst (λ (z : List ℕ). Contains (f.0 ∷ names_in files) z) ((bytes_eq-Decides f.0 name).0 e) (Contains-head f.0 (names_in files))
+  by false e held later = Contains-tail f.0 (names_in files) name (later held)
 
 named_held : (files : Files) (name : List ℕ) → Contains (names_in files) name → file_of name files ≢ None
 named_held [] name h none = Contains-nil_cases name h
-named_held (f ∷ files) name h none = by (bytes_eq f.0 name) refl none where
-  by : (t : Bool) → bytes_eq f.0 name ≡ t → cond t (Some f.1) (file_of name files) ≡ None → ⊥
-  by true e none = cc
-  by false e none = elim (Contains-cons_cases f.0 (names_in files) name h) [
+named_held (f ∷ files) name h none = by (bytes_eq f.0 name) refl none (named_held files name) where
+  by : (t : Bool) → bytes_eq f.0 name ≡ t → cond t (Some f.1) (file_of name files) ≡ None → (Contains (names_in files) name → file_of name files ≡ None → ⊥) → ⊥
+  by true e none later = cc
+  by false e none later = elim (Contains-cons_cases f.0 (names_in files) name h) [
     | inl same ↦ let both : true ≡ false = sym ((bytes_eq-Decides f.0 name).1 same) ∙ e in cc
-    | inr rest ↦ named_held files name rest none
+    | inr rest ↦ later rest none
   ]
 
 many_names : (files : Files) → length (names_in files) ≡ length files
@@ -98,6 +99,7 @@ not_true false e f = cc
 
 module _ (files : Files) (apart : IsDistinct (names_in files)) where
   most_of : (names : List (List ℕ)) → IsDistinct names → 64 ≤ length names → ((name : List ℕ) → Contains names name → (name ≢ project_name) × Contains (names_in files) name) → HoldsMost (held_in files)
+  unfolding most_files
   most_of names distinct many there = record {
     names = names;
     distinct = distinct;
@@ -129,7 +131,7 @@ module _ (files : Files) (apart : IsDistinct (names_in files)) where
       most_of (names_in files) apart enough (λ x h. (λ same. named_held files x h (ap (λ (z : List ℕ). file_of z files) same ∙ none), h))
 
   unfolded : (most : HoldsMost (held_in files)) → 64 ≤ length most.names
-  unfolding Rattle.project_manifest.specs.Lines.most_files
+  unfolding most_files
   unfolded most = most.many
 
   pub besides_most : file_of project_name files ≢ None → HoldsMost (held_in files) → 64 < length files

@@ -1,3 +1,3 @@
 mod Counting
-mod Lines
+mod Parted
 mod Rows

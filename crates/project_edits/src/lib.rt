@@ -5,10 +5,10 @@
 //! - [`apply`]: the files after an edit, which share the contents of the others with those before; or why it is refused.
 #![tactic(auto)]
 
-mod apply;
+mod applying;
 mod edit;
 mod files;
 mod lines;
 
-pub use apply::apply;
+pub use applying::apply;
 pub use edit::Edit;

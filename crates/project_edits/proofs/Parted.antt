@@ -144,24 +144,26 @@ line_end (c ∷ line) b = refl
 
 written_closed : (line front : List ℕ) → written (lines_from line (front ++ 10 ∷ [])) ≡ line ++ (front ++ 10 ∷ [])
 written_closed line [] = append-nil (line ++ 10 ∷ [])
-written_closed line (b ∷ front) = by (b == 10) refl where
-  by : (t : Bool) → (b == 10) ≡ t → written (cond t (line ∷ lines_of (front ++ 10 ∷ [])) (lines_from (line ++ b ∷ []) (front ++ 10 ∷ []))) ≡ line ++ (b ∷ (front ++ 10 ∷ []))
-  by true e =
+written_closed line (b ∷ front) = by (b == 10) refl (λ l. written_closed l front) where
+  by : (t : Bool) → (b == 10) ≡ t → ((l : List ℕ) → written (lines_from l (front ++ 10 ∷ [])) ≡ l ++ (front ++ 10 ∷ []))
+      → written (cond t (line ∷ lines_of (front ++ 10 ∷ [])) (lines_from (line ++ b ∷ []) (front ++ 10 ∷ []))) ≡ line ++ (b ∷ (front ++ 10 ∷ []))
+  by true e rest =
       let same : 10 ≡ b = grind (arith, nat_tests) in
-      ap (λ (l : List ℕ). (line ++ 10 ∷ []) ++ l) (written_closed [] front) ∙ append_assoc line (10 ∷ []) (front ++ 10 ∷ []) ∙ ap (λ (c : ℕ). line ++ (c ∷ (front ++ 10 ∷ []))) same
-  by false e = written_closed (line ++ b ∷ []) front ∙ append_assoc line (b ∷ []) (front ++ 10 ∷ [])
+      ap (λ (l : List ℕ). (line ++ 10 ∷ []) ++ l) (rest []) ∙ append_assoc line (10 ∷ []) (front ++ 10 ∷ []) ∙ ap (λ (c : ℕ). line ++ (c ∷ (front ++ 10 ∷ []))) same
+  by false e rest = rest (line ++ b ∷ []) ∙ append_assoc line (b ∷ []) (front ++ 10 ∷ [])
 
 written_open : (last : ℕ) → (last == 10) ≡ false → (line front : List ℕ) → written (lines_from line (front ++ last ∷ [])) ≡ (line ++ (front ++ last ∷ [])) ++ 10 ∷ []
 written_open last other line [] =
     ap (λ (t : Bool). written (cond t (line ∷ []) (some_of (line ++ last ∷ [])))) other ∙ ap written (line_end line last) ∙ append-nil ((line ++ last ∷ []) ++ 10 ∷ [])
-written_open last other line (b ∷ front) = by (b == 10) refl where
-  by : (t : Bool) → (b == 10) ≡ t → written (cond t (line ∷ lines_of (front ++ last ∷ [])) (lines_from (line ++ b ∷ []) (front ++ last ∷ []))) ≡ (line ++ (b ∷ (front ++ last ∷ []))) ++ 10 ∷ []
-  by true e =
+written_open last other line (b ∷ front) = by (b == 10) refl (λ l. written_open last other l front) where
+  by : (t : Bool) → (b == 10) ≡ t → ((l : List ℕ) → written (lines_from l (front ++ last ∷ [])) ≡ (l ++ (front ++ last ∷ [])) ++ 10 ∷ [])
+      → written (cond t (line ∷ lines_of (front ++ last ∷ [])) (lines_from (line ++ b ∷ []) (front ++ last ∷ []))) ≡ (line ++ (b ∷ (front ++ last ∷ []))) ++ 10 ∷ []
+  by true e rest =
       let same : 10 ≡ b = grind (arith, nat_tests) in
-      ap (λ (l : List ℕ). (line ++ 10 ∷ []) ++ l) (written_open last other [] front)
+      ap (λ (l : List ℕ). (line ++ 10 ∷ []) ++ l) (rest [])
       ∙ sym (append_assoc (line ++ 10 ∷ []) (front ++ last ∷ []) (10 ∷ []))
       ∙ ap (λ (l : List ℕ). l ++ 10 ∷ []) (append_assoc line (10 ∷ []) (front ++ last ∷ []) ∙ ap (λ (c : ℕ). line ++ (c ∷ (front ++ last ∷ []))) same)
-  by false e = written_open last other (line ++ b ∷ []) front ∙ ap (λ (l : List ℕ). l ++ 10 ∷ []) (append_assoc line (b ∷ []) (front ++ last ∷ []))
+  by false e rest = rest (line ++ b ∷ []) ∙ ap (λ (l : List ℕ). l ++ 10 ∷ []) (append_assoc line (b ∷ []) (front ++ last ∷ []))
 
 -- a last line that has no newline gets one
 pub written_lines : (content front : List ℕ) (last : ℕ) → content ≡ front ++ last ∷ [] → (ends : Bool) → (last == 10) ≡ ends → written (lines_of content) ≡ content ++ cond ends [] (10 ∷ [])
