@@ -154,17 +154,15 @@ impl Lines {
         ensures later { S.faults source.old ≤ S.faults source.new }
     {
         let mut lacks = false;
-        match self.advance_into(source, into, keep, &mut lacks) {
-            LineEvent::Line | LineEvent::Long => {
-                put(into, keep, b"\n", &mut lacks);
-                if lacks {
-                    Err(AllocError)
-                } else {
-                    Ok(LineEvent::Line)
-                }
-            }
-            event => Ok(event),
+        let event = self.advance_into(source, into, keep, &mut lacks);
+        if !tells_line(event) {
+            return Ok(event);
         }
+        put(into, keep, b"\n", &mut lacks);
+        if lacks {
+            return Err(AllocError);
+        }
+        Ok(LineEvent::Line)
     }
 
     /// Whether a whole line is ahead, so that the next event is that line and needs no read.
@@ -220,12 +218,26 @@ impl Lines {
             return LineEvent::End;
         }
         begin(&mut self.line, self.told);
-        let held = &mut self.held;
-        let step = gather_into(held, &mut self.line, &mut self.budget, source, into, keep, lacks);
+        let step = gather_into(
+            &mut self.held,
+            &mut self.line,
+            &mut self.budget,
+            source,
+            into,
+            keep,
+            lacks,
+        );
         self.told = step.is_told();
         self.ended = step.is_ended();
         event_after(step, self.line.as_slice())
     }
+}
+
+/// Whether an event tells a line.
+fn tells_line(event: LineEvent) -> bool
+    ensures { IsTrue result ↔ IsLineEvent event }
+{
+    matches!(event, LineEvent::Line | LineEvent::Long)
 }
 
 /// Lets go of a line that was told.
