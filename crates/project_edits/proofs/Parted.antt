@@ -1,5 +1,5 @@
 -- Lines of a content, one after another, and what they are when they are written.
-use Rattle.std.proofs.Common.{◌≡◌, ◌≢◌, ℕ, ◌+◌, ◌-◌, ◌<◌, ◌≤◌, ◌==◌, Bool, true, false, cond, List, [], ◌∷◌, ◌++◌, length, take, drop, ◌⊎◌, inl, inr, refl, sym, ap, subst, ◌∙◌, append_assoc, append-nil, arith, length-append, length-drop, drop-drop}
+use Rattle.std.proofs.Common.{◌≡◌, ◌≢◌, ℕ, ◌+◌, ◌-◌, ◌<◌, ◌≤◌, ◌==◌, Bool, true, false, not, cond, List, [], ◌∷◌, ◌++◌, length, take, drop, ◌⊎◌, inl, inr, refl, sym, ap, subst, ◌∙◌, append_assoc, append-nil, arith, length-append, length-drop, drop-drop}
 use Rattle.std.proofs.lemmas.Bool.Decides.{eqb_tells, nat_tests}
 use Rattle.std.proofs.lemmas.List.Concat.{flat_map-append}
 use Rattle.std.proofs.lemmas.List.{take-append-drop}
@@ -63,9 +63,16 @@ passes_last (b ∷ content) rest some within none = record {
 pub passes_none : (content : List ℕ) → Passes content content 0
 passes_none content = record { front = []; whole = refl; lines = []; many = refl; split = refl; alone = refl; closed = inr (λ more. refl) }
 
-pub passes_more : (content rest0 rest : List ℕ) (n : ℕ) → Passes content rest0 n → (rest0 ≡ [] → ⊥) → Passes rest0 rest 1 → Passes content rest (n + 1)
-passes_more content rest0 rest n a some b = elim a.closed [
-  | inl none ↦ absurd (some none)
+-- there is a line where one stands before a rest
+passes_some : (content rest : List ℕ) → Passes content rest 1 → content ≡ [] → ⊥
+passes_some content rest p none =
+    let no_lines : length (lines_of content) ≡ 0 = ap (λ (l : List ℕ). length (lines_of l)) none in
+    let many : length (lines_of content) ≡ length p.lines + length (lines_of rest) = ap length p.split ∙ length-append p.lines (lines_of rest) in
+    omega (arith, no_lines, many, p.many)
+
+pub passes_more : (content rest0 rest : List ℕ) (n : ℕ) → Passes content rest0 n → Passes rest0 rest 1 → Passes content rest (n + 1)
+passes_more content rest0 rest n a b = elim a.closed [
+  | inl none ↦ absurd (passes_some rest0 rest b none)
   | inr goes ↦ record {
     front = a.front ++ b.front;
     whole = a.whole ∙ ap (λ (l : List ℕ). a.front ++ l) b.whole ∙ sym (append_assoc a.front b.front rest);
@@ -166,7 +173,7 @@ written_open last other line (b ∷ front) = by (b == 10) refl (λ l. written_op
   by false e rest = rest (line ++ b ∷ []) ∙ ap (λ (l : List ℕ). l ++ 10 ∷ []) (append_assoc line (b ∷ []) (front ++ last ∷ []))
 
 -- a last line that has no newline gets one
-pub written_lines : (content front : List ℕ) (last : ℕ) → content ≡ front ++ last ∷ [] → (ends : Bool) → (last == 10) ≡ ends → written (lines_of content) ≡ content ++ cond ends [] (10 ∷ [])
+pub written_lines : (content front : List ℕ) (last : ℕ) → content ≡ front ++ last ∷ [] → (ends : Bool) → (last == 10) ≡ ends → written (lines_of content) ≡ content ++ cond (not ends) (10 ∷ []) []
 written_lines content front last is true e =
     let same : last ≡ 10 = grind (arith, nat_tests) in
     let all : content ≡ front ++ 10 ∷ [] = is ∙ ap (λ (b : ℕ). front ++ b ∷ []) same in

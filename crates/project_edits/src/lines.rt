@@ -29,6 +29,7 @@ fn behind_line(content: &[u8]) -> Option<&[u8]>
 }
 
 /// The first `count` lines, and what stands behind them; or `None` where there are fewer lines.
+#[tactic(auto, using(crate::proofs::Parted::inside))]
 fn split_lines(content: &[u8], count: u32) -> Option<(&[u8], &[u8])>
     ensures { MatchOption result (length (lines_of content.now) < count) (λ parts. IsSplit content.now count parts.0.now parts.1.now) }
 {
