@@ -339,18 +339,20 @@ pub ended_again : (left : Option (List ℕ)) (begun held text : List ℕ) (budge
 ended_again left begun held text budget ended old seen is none none_held =
     let is_old : old.ended ≡ true = ap (λ (r : LinesView). r.ended) (sym seen) ∙ is in
     let no_ahead : old.ahead ≡ [] = ap (λ (r : LinesView). r.ahead) (sym seen) ∙ none_held in
-    let no_begun : old.begun ≡ [] = ap (λ (r : LinesView). r.begun) (sym seen) ∙ none in
-    (record {
-      taken = [];
-      piece = [];
-      consumed = consumes_none left;
-      spent = omega arith;
-      within = within-nil;
-      divided = (append-nil old.ahead ∙ no_ahead, no_ahead);
-      tells = (append-nil old.begun ∙ no_begun, no_begun);
-      stopped = is_old;
-      at_end = λ going _. cc;
-      stays = λ _. (refl, refl, refl);
-      short = λ e. cc;
-      progress = λ e. absurd e;
-    }, refl)
+    let no_begun : old.begun ≡ [] = ap (λ (r : LinesView). r.begun) (sym seen) ∙ none in (
+      record {
+        taken = [];
+        piece = [];
+        consumed = consumes_none left;
+        spent = omega arith;
+        within = within-nil;
+        divided = (append-nil old.ahead ∙ no_ahead, no_ahead);
+        tells = (append-nil old.begun ∙ no_begun, no_begun);
+        stopped = is_old;
+        at_end = λ going _. cc;
+        stays = λ _. (refl, refl, refl);
+        short = λ e. cc;
+        progress = λ e. absurd e;
+      },
+      refl,
+    )

@@ -1,6 +1,6 @@
 -- What is put behind a caller's bytes, from piece to piece.
-use Rattle.std.proofs.Common.{◌≡◌, ℕ, zero, suc, ◌+◌, ◌-◌, ◌<◌, ◌≤◌, min, Bool, true, false, List, [], ◌∷◌, ◌++◌, length, take, Option, Result, Ok, Err, refl, sym, ap, ◌∙◌, append_assoc, append-nil, arith, length-append, length-take}
-use Rattle.std.proofs.lemmas.List.{take_all, take-append-le}
+use Rattle.std.proofs.Common.{◌≡◌, ℕ, zero, suc, ◌-◌, min, Bool, true, false, List, [], ◌∷◌, ◌++◌, length, take, Option, Ok, Err, refl, sym, ap, ◌∙◌, append_assoc, append-nil, arith, length-append, length-take}
+use Rattle.std.proofs.lemmas.List.{take-append-le}
 use Rattle.fsm_io.specs.Buffers.{BufferView}
 use Rattle.fsm_io.specs.Reading.{LinesView, IsLineEvent}
 use Rattle.fsm_io.specs.Taking.{filled, NextInto, Puts, PutsNext, TakesLine}
