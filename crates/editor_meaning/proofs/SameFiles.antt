@@ -57,9 +57,11 @@ module _ (readers : Readers) where
   has_fault files others same no_project found (none, is) = (sym (same project_name) ∙ none, is)
   has_fault files others same manifest_text found h = content_fault files others same project_name found h
   has_fault files others same (manifest_lines by) found (text, at, have, told, is) = (text, at, have_text files others same project_name text have, told, is)
-  has_fault files others same in_files found (text, have, first) =
-      (text, have_text files others same project_name text have,
-      first_same (NamedFault readers files) (NamedFault readers others) (named_fault files others same) (named_fault others files (flipped files others same)) (manifest_of text) found first)
+  has_fault files others same in_files found (text, have, first) = (
+    text,
+    have_text files others same project_name text have,
+    first_same (NamedFault readers files) (NamedFault readers others) (named_fault files others same) (named_fault others files (flipped files others same)) (manifest_of text) found first,
+  )
   has_fault files others same (in_said row) found (said, says, has) = (said, files_say files others same said says, has)
 
   first_fault : (files others : Files) → AreSame files others → (by : List Row) (found : Fault) → FirstFault readers files by found → FirstFault readers others by found

@@ -79,8 +79,10 @@ module _ (graph : List (List ℕ)) (itself : List Bool) (order : List ℕ) (orde
     where
       right_at : place < length graph → IsMarked marks place ↔ Touched graph itself place
       right_at less = let found = slice_get_from_Contains order place ((ordered.places place).1 less) in right found.0 place (slice_get_within order found.0 place found.1) found.1
+
       marked_inside : IsMarked marks place → place < length graph
       marked_inside h = let less : place < length marks = slice_get_within marks place true h in omega arith
+
       touched_inside : Touched graph itself place → place < length graph
       touched_inside (by_itself marked) = let less : place < length itself = slice_get_within itself place true marked in omega arith
       touched_inside (by_reference refers touched) = slice_get_within graph place refers.0 refers.1
@@ -116,6 +118,7 @@ module _ (marks : List Bool) (i : ℕ) (places : List ℕ) (before : AreBelow ma
         | inl had ↦ let it = (before.within place).0 had in let less = it.0 in (omega arith, it.1)
         | inr same ↦ (omega (arith, same), ap (slice_get marks) (sym same) ∙ at)
       ]
+
       back : (place : ℕ) → (place < i + 1) × IsMarked marks place → Contains (places ++ i ∷ []) place
       back place h = elim (cases_lt place i) [
         | inl under ↦ Contains-append_left places (i ∷ []) place ((before.within place).1 (under, h.1))
@@ -124,6 +127,7 @@ module _ (marks : List Bool) (i : ℕ) (places : List ℕ) (before : AreBelow ma
             let same : i ≡ place = omega arith in
             subst (λ (p : ℕ). Contains (places ++ i ∷ []) p) same (Contains-push places i)
       ]
+
       ascending : (k : ℕ) → k + 1 < length (places ++ i ∷ []) → get_or (places ++ i ∷ []) k 0 < get_or (places ++ i ∷ []) (k + 1) 0
       ascending k less =
           let many : length (places ++ i ∷ []) ≡ length places + 1 = length-append places (i ∷ []) in
