@@ -23,33 +23,33 @@ use Rattle.editor_meaning.proofs.SameFiles.{AreSame, same_answer}
 same_files : (files others : Files) → held_in files ≡ held_in others → AreSame files others
 same_files files others same name = ap (λ (held : Holding). held name) same
 
-ok_one : {T E : Type 0} (a b : T) → Ok {E = E} a ≡ Ok b → a ≡ b
-ok_one a b same = cc
+ok_one : {T E : Type 0} (a b : T) (r : Result T E) → r ≡ Ok a → r ≡ Ok b → a ≡ b
+ok_one a b r e f = let both = sym e ∙ f in cc
 
-err_one : {T E : Type 0} (a b : E) → Err {T = T} a ≡ Err b → a ≡ b
-err_one a b same = cc
+err_one : {T E : Type 0} (a b : E) (r : Result T E) → r ≡ Err a → r ≡ Err b → a ≡ b
+err_one a b r e f = let both = sym e ∙ f in cc
 
 module _ (readers : Readers) (exact : AreExact readers) (old : Version) (change : List Edit) where
   pub one_version : (a b : Version) → Changes readers old change (Ok a) → Changes readers old change (Ok b) → (a.number ≡ b.number) × (a.project ≡ b.project)
   one_version a b p q =
-      let held : held_in a.files ≡ held_in b.files = ok_one (held_in a.files) (held_in b.files) (one_outcome change (held_in old.files) (Ok (held_in a.files)) (Ok (held_in b.files)) p.0 q.0) in
+      let held : held_in a.files ≡ held_in b.files = ok_one (held_in a.files) (held_in b.files) (Ok (held_in a.files)) refl (one_outcome change (held_in old.files) (Ok (held_in a.files)) (Ok (held_in b.files)) p.0 q.0) in
       let says = same_answer readers a.files b.files (same_files a.files b.files held) rows (Ok a.project) p.1 in
-      (p.2 ∙ sym q.2, ok_one a.project b.project (one_answer readers exact b.files rows (Ok a.project) (Ok b.project) says q.1))
+      (p.2 ∙ sym q.2, ok_one a.project b.project (Ok a.project) refl (one_answer readers exact b.files rows (Ok a.project) (Ok b.project) says q.1))
 
   pub not_both : (a : Version) (found : Fault) → Changes readers old change (Ok a) → Changes readers old change (Err found) → ⊥
   not_both a found p (inl q) = let both = one_outcome change (held_in old.files) (Ok (held_in a.files)) (Err found) p.0 q in cc
   not_both a found p (inr (files, applied, says)) =
-      let held : held_in files ≡ held_in a.files = ok_one (held_in files) (held_in a.files) (one_outcome change (held_in old.files) (Ok (held_in files)) (Ok (held_in a.files)) applied p.0) in
+      let held : held_in files ≡ held_in a.files = ok_one (held_in files) (held_in a.files) (Ok (held_in files)) refl (one_outcome change (held_in old.files) (Ok (held_in files)) (Ok (held_in a.files)) applied p.0) in
       let both = one_answer readers exact a.files rows (Ok a.project) (Err found) p.1 (same_answer readers files a.files (same_files files a.files held) rows (Err found) says) in
       cc
 
   pub one_fault : (a b : Fault) → Changes readers old change (Err a) → Changes readers old change (Err b) → a ≡ b
-  one_fault a b (inl p) (inl q) = err_one a b (one_outcome change (held_in old.files) (Err a) (Err b) p q)
+  one_fault a b (inl p) (inl q) = err_one a b (Err a) refl (one_outcome change (held_in old.files) (Err a) (Err b) p q)
   one_fault a b (inl p) (inr (files, applied, says)) = let both = one_outcome change (held_in old.files) (Err a) (Ok (held_in files)) p applied in cc
   one_fault a b (inr (files, applied, says)) (inl q) = let both = one_outcome change (held_in old.files) (Ok (held_in files)) (Err b) applied q in cc
   one_fault a b (inr (files, applied, says)) (inr (others, applied2, says2)) =
-      let held : held_in files ≡ held_in others = ok_one (held_in files) (held_in others) (one_outcome change (held_in old.files) (Ok (held_in files)) (Ok (held_in others)) applied applied2) in
-      err_one a b (one_answer readers exact others rows (Err a) (Err b) (same_answer readers files others (same_files files others held) rows (Err a) says) says2)
+      let held : held_in files ≡ held_in others = ok_one (held_in files) (held_in others) (Ok (held_in files)) refl (one_outcome change (held_in old.files) (Ok (held_in files)) (Ok (held_in others)) applied applied2) in
+      err_one a b (Err a) refl (one_answer readers exact others rows (Err a) (Err b) (same_answer readers files others (same_files files others held) rows (Err a) says) says2)
 
 -- names of one set are one list
 one_names : (T : List ℕ → Type 0) (names others : List (List ℕ)) → AreNames T names → AreNames T others → names ≡ others
@@ -91,7 +91,7 @@ no_next present new none version is = let both : None ≡ Some version = sym non
 module _ (readers : Readers) where
   edit_next : (present : Version) (edit : Edit) (reply : List ℕ) (new : Option Version) → RepliesToEdit readers present edit reply new → Next present new
   edit_next present edit reply new (full many is made) = no_next present new made
-  edit_next present edit reply new (accepted next names few changes are is made) version found =
+  edit_next present edit reply new (accepted next names few changes are is made) = λ version found.
       let both : Some next ≡ Some version = sym made ∙ found in
       let same : next ≡ version = cc in
       ap (λ (v : Version). v.number) (sym same) ∙ changes.2

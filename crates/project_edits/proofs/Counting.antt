@@ -9,7 +9,8 @@ use Rattle.std.proofs.lemmas.Map.Made.{is_member-Decides, length-le_from_is_memb
 use Rattle.std.proofs.lemmas.Option.{slice_get-get_or}
 use Rattle.std.proofs.lemmas.Slice.Eq.{bytes_eq-Decides}
 use Rattle.word_relations.specs.Words.{IsDistinct}
-use Rattle.word_relations.proofs.Members.{Contains-nil_cases, Contains-head, Contains-tail, Contains-cons_cases, Contains-from_slice_get}
+use Rattle.word_relations.proofs.Members.{Contains-nil_cases, Contains-head, Contains-tail, Contains-cons_cases}
+use Rattle.word_relations.proofs.Places.{Contains-from_slice_get}
 use Rattle.fsm_base.proofs.AlphabetLemmas.{IsDistinct-tail, no_repeat}
 use Rattle.fsm_io.specs.Folders.{Files, file_of}
 use Rattle.project_manifest.specs.Lines.{most_files}

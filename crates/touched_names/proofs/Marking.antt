@@ -2,11 +2,11 @@
 use Rattle.std.proofs.Common.{◌≡◌, ◌≢◌, ◌↔◌, ℕ, zero, suc, ◌+◌, ◌<◌, ◌≤◌, Bool, true, false, List, [], ◌∷◌, ◌++◌, length, take, set, get_or, slice_get, Contains, Option, Some, ◌⊎◌, inl, inr, refl, sym, ap, subst, ◌∙◌, arith, length-append}
 use Rattle.std.proofs.lemmas.Option.{slice_get-get_or, slice_get_within}
 use Rattle.std.proofs.lemmas.List.Elements.{Contains-append_left, Contains-push, Contains-push_cases, Contains-get_or}
-use Rattle.word_relations.proofs.Members.{Contains-nil_cases, Contains-from_slice_get, slice_get_from_Contains}
+use Rattle.word_relations.proofs.Members.{Contains-nil_cases}
 use Rattle.std.proofs.lemmas.Bool.{cases_lt}
 use Rattle.std.proofs.Math.ListN.{get_or-append}
 use Rattle.std.proofs.Math.Seq.{get_or-append_seam}
-use Rattle.word_relations.proofs.Places.{slice_get-set_same, slice_get-set_other, same_at}
+use Rattle.word_relations.proofs.Places.{Contains-from_slice_get, slice_get_from_Contains, slice_get-set_same, slice_get-set_other, same_at}
 use Rattle.name_order.specs.Graph.{Refers}
 use Rattle.name_order.specs.Orders.{IsOrder}
 use Rattle.touched_names.specs.Touched.{AreMarked, ArePlaces, IsMarked, Touched, by_itself, by_reference}
