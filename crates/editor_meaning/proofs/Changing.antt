@@ -1,20 +1,19 @@
 -- What a change makes of a version is one thing, so an edit has one reply, and versions are numbered one after another.
-use Rattle.std.proofs.Common.{◌≡◌, ◌↔◌, ℕ, ◌+◌, ◌<◌, ◌≤◌, ◌++◌, List, [], ◌∷◌, Contains, Option, None, Some, Result, Ok, Err, ◌⊎◌, inl, inr, refl, sym, ap, subst, ◌∙◌, arith}
+use Rattle.std.proofs.Common.{◌≡◌, ℕ, ◌+◌, ◌++◌, List, [], ◌∷◌, Option, None, Some, Result, Ok, Err, ◌⊎◌, inl, inr, refl, sym, ap, subst, ◌∙◌, arith}
 use Rattle.std.specs.Option.{option_to_list, unwrap_or}
-use Rattle.fsm_io.specs.Folders.{Files, file_of}
-use Rattle.word_relations.specs.Answers.{IsInOrder}
+use Rattle.fsm_io.specs.Folders.{Files}
 use Rattle.regex_ast.specs.declared.fault.Fault.{Fault}
 use Rattle.project_meaning.specs.Projects.{Project}
 use Rattle.project_meaning.specs.Touched.{Touched}
-use Rattle.project_sources.specs.Edits.{Apply, Changes, Edit, Holding, Version, drops, held_in, put, splice}
-use Rattle.project_sources.specs.Faults.{SourcesSay, rows}
+use Rattle.project_sources.specs.Edits.{Changes, Edit, Holding, Version, held_in}
+use Rattle.project_sources.specs.Faults.{rows}
 use Rattle.project_sources.specs.Sources.{AreExact, Readers}
 use Rattle.project_sources.proofs.Editing.{one_outcome}
 use Rattle.project_sources.proofs.Once.{one_answer}
 use Rattle.reply_text.specs.Projects.{accepted_line, refused_line}
 use Rattle.edit_script.specs.declared.commands.EditCommand.TheVariants as commands
 use Rattle.editor_meaning.specs.Orders.{Order, bad, cut, whole}
-use Rattle.editor_meaning.specs.Editing.{AreNames, AreReplies, RepliesToEdit, RepliesToOrder, accepted, full, most_edits, no_memory, refused}
+use Rattle.editor_meaning.specs.Editing.{AreNames, AreReplies, RepliesToEdit, RepliesToOrder, accepted, full, no_memory, refused}
 use Rattle.editor_meaning.specs.Laws.{AreNumbered, IsNoMemory}
 use Rattle.editor_meaning.proofs.InOrder.{same_list}
 use Rattle.editor_meaning.proofs.SameFiles.{AreSame, same_answer}

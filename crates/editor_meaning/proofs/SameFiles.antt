@@ -1,5 +1,5 @@
 -- What sources say depends on the content of each file alone, not on the order in which files are listed.
-use Rattle.std.proofs.Common.{◌≡◌, ◌++◌, ℕ, List, [], ◌∷◌, Option, Result, Ok, Err, ◌⊎◌, inl, inr, sym, ◌∙◌}
+use Rattle.std.proofs.Common.{◌≡◌, ℕ, List, [], ◌∷◌, Result, Ok, Err, inl, inr, sym, ◌∙◌}
 use Rattle.fsm_io.specs.Folders.{Files, file_of}
 use Rattle.regex_ast.specs.declared.fault.Fault.{Fault}
 use Rattle.project_manifest.specs.Lines.{Placed, file_in, manifest_of}

@@ -1,5 +1,5 @@
 -- What an editor's output gets for the orders in its input, over the versions that its edits make.
-use Rattle.std.specs.Prelude.{◌≡◌, ◌<◌, ◌≤◌, ◌⊎◌, ◌↔◌, ◌++◌, ℕ, Bool, List, [], ◌∷◌, Contains, Option, None, Some, Result, Ok, Err, codes}
+use Rattle.std.specs.Prelude.{◌≡◌, ◌<◌, ◌≤◌, ◌↔◌, ◌++◌, ℕ, Bool, List, [], ◌∷◌, Contains, Option, None, Some, Ok, Err, codes}
 use Rattle.std.specs.List.{flat_map}
 use Rattle.std.specs.Option.{option_to_list, unwrap_or}
 use Rattle.fsm_base.specs.Normal.{nfc_of}
@@ -7,7 +7,7 @@ use Rattle.fsm_io.specs.Folders.{Files}
 use Rattle.word_relations.specs.Answers.{IsInOrder}
 use Rattle.regex_ast.specs.declared.fault.Fault.{Fault}
 use Rattle.lookup_answers.specs.declared.direction.Direction.TheVariants.{Up, Down}
-use Rattle.project_meaning.specs.Projects.{Project, Defines}
+use Rattle.project_meaning.specs.Projects.{Defines}
 use Rattle.project_meaning.specs.Touched.{Touched}
 use Rattle.project_sources.specs.Edits.{Changes, Edit, Version, drops, put, splice}
 use Rattle.project_sources.specs.Faults.{SourcesSay, rows}

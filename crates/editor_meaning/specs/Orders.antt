@@ -1,5 +1,5 @@
 -- The orders in an editor's input: its commands, each with the lines that follow it.
-use Rattle.std.specs.Prelude.{◌≡◌, ◌≢◌, ◌<◌, ◌≤◌, ℕ, Bool, List, [], ◌∷◌, drop, length, take, if◌then◌else◌}
+use Rattle.std.specs.Prelude.{◌≢◌, ◌<◌, ◌≤◌, ℕ, Bool, List, [], ◌∷◌, drop, length, take, if◌then◌else◌}
 use Rattle.edit_script.specs.Commands.{IsCommand, lines_behind}
 use Rattle.edit_script.specs.declared.commands.EditCommand.{EditCommand}
 use Rattle.edit_script.specs.declared.commands.EditCommand.TheVariants as commands

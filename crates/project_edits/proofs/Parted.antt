@@ -1,14 +1,13 @@
 -- Lines of a content, one after another, and what they are when they are written.
-use Rattle.std.proofs.Common.{◌≡◌, ◌≢◌, ℕ, ◌+◌, ◌-◌, ◌<◌, ◌≤◌, ◌==◌, Bool, true, false, not, cond, List, [], ◌∷◌, ◌++◌, length, take, drop, ◌⊎◌, inl, inr, refl, sym, ap, subst, ◌∙◌, append_assoc, append-nil, arith, length-append, length-drop, drop-drop}
+use Rattle.std.proofs.Common.{◌≡◌, ◌≢◌, ℕ, ◌+◌, ◌-◌, ◌<◌, ◌≤◌, ◌==◌, Bool, true, false, not, cond, List, [], ◌∷◌, ◌++◌, length, take, drop, inl, inr, refl, sym, ap, ◌∙◌, append_assoc, append-nil, arith, length-append, length-drop, drop-drop}
 use Rattle.std.proofs.lemmas.Bool.Decides.{eqb_tells, nat_tests}
 use Rattle.std.proofs.lemmas.List.Concat.{flat_map-append}
-use Rattle.std.proofs.lemmas.List.{take-append-drop}
 use Rattle.std.proofs.Math.Seq.{take-append_seam}
 use Rattle.fsm_io.specs.Gather.{IsNewline}
 use Rattle.fsm_io.specs.Lines.{IsWithinLine}
 use Rattle.fsm_io.proofs.Cuts.{within-cons}
 use Rattle.project_manifest.specs.Manifests.{lines_from, lines_of, some_of}
-use Rattle.project_sources.specs.Edits.{IsBadSplice, spliced}
+use Rattle.project_sources.specs.Edits.{IsBadSplice}
 use Rattle.project_edits.specs.Lines.{AreAround, IsSplit, IsSpliced, Passes, written}
 
 -- ---- a line, and what stands behind it

@@ -1,12 +1,12 @@
 -- What edits make of files, or the first of their faults, row by row.
-use Rattle.std.proofs.Common.{◌≡◌, ◌≢◌, ℕ, ◌<◌, ◌≤◌, Bool, true, false, cond, List, [], ◌∷◌, length, Option, None, Some, Result, Ok, Err, ◌⊎◌, inl, inr, refl, sym, ap, subst, ◌∙◌, arith}
+use Rattle.std.proofs.Common.{◌≡◌, ◌≢◌, ℕ, ◌<◌, ◌≤◌, Bool, true, false, cond, List, [], ◌∷◌, length, None, Some, Ok, Err, inl, inr, refl, sym, ap, subst, ◌∙◌, arith}
 use Rattle.std.proofs.lemmas.Slice.Eq.{bytes_eq-Decides}
 use Rattle.std.specs.Option.{option_map}
 use Rattle.std.specs.Str.{bytes_eq}
 use Rattle.fsm_io.specs.Folders.{Files, file_of}
 use Rattle.regex_ast.specs.declared.fault.Fault.{Fault}
 use Rattle.regex_ast.specs.declared.fault.Why.TheVariants as why
-use Rattle.project_files.specs.Refusals.{IsRefusal, IsRefusedBy}
+use Rattle.project_files.specs.Refusals.{IsRefusal}
 use Rattle.project_files.specs.declared.plan_error.PlanError.{PlanError}
 use Rattle.project_files.specs.declared.plan_error.PlanError.TheVariants.{Refused, Memory}
 use Rattle.project_manifest.specs.Manifests.{project_name}
