@@ -1,0 +1,6 @@
+pub mod Fits
+pub mod Forms
+pub mod Found
+pub mod Growing
+pub mod Sets
+pub mod Spelled

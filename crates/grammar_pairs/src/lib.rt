@@ -1,0 +1,20 @@
+//! The feasible pairs and the sets of a two-level grammar (Koskenniemi, Two-level Morphology, 1983), found by hashes. Read
+//! `specs/Plain.antt` and `Feasible.antt`.
+//!
+//! - [`PairTable`]: the feasible pairs with their numbers. [`feasible_pairs`]: the set of them.
+//! - [`NameTable`]: values under names. [`SymbolSet`], [`sets_of`]: the sets of a grammar.
+//! - [`numbers_fitting`], [`numbers_twice`]: the pairs that an atom, or the name of a set, stands for.
+//! - [`written`]: the pair that an atom names.
+#![tactic(auto)]
+
+mod fitting;
+mod name_table;
+mod pair_table;
+mod symbol_set;
+mod feasible;
+
+pub use fitting::{numbers_fitting, numbers_twice};
+pub use name_table::NameTable;
+pub use pair_table::PairTable;
+pub use symbol_set::{SymbolSet, sets_of};
+pub use feasible::{feasible_pairs, written};

@@ -1,0 +1,47 @@
+ghost use Rattle.std.specs.Prelude.{◌≡◌, IfOk};
+ghost use Rattle.expr_meaning.specs.Meaning.{In};
+ghost use Rattle.lang_algebra.specs.Languages.{IsLang};
+ghost use Rattle.network_algebra.specs.Networks.{all_letters};
+ghost use Rattle.network_algebra.specs.Renamed.{IsRenamed};
+ghost use Rattle.pair_languages.specs.Meaning.{IsScope, pair_at, stands};
+ghost use Rattle.grammar_pairs.specs.Plain.{IsPairForm, term_of};
+
+use crate::build::words_of;
+use grammar_pairs::PairTable;
+use crate::scope::Scope;
+use fsm_base::{Bound, Pair, Sym};
+use lang_algebra::Lang;
+use network_algebra::{Renaming, renamed};
+use regex_ast::{Atom, Expr, PairPart};
+use std::alloc::{AllocError, Global};
+use two_level::every_letter;
+
+impl Renaming<Bound<Sym>, Bound<Pair>> for PairTable {
+    ghost name = { λ table x. pair_at table x };
+
+    fn name_of(&self, letter: Bound<Sym>) -> Option<Bound<Pair>> {
+        match letter {
+            Bound::Edge => Some(Bound::Edge),
+            Bound::Inner(number) => match self.pair_of(number) {
+                Some(pair) => Some(Bound::Inner(pair)),
+                None => None,
+            },
+        }
+    }
+}
+
+/// The language of an expression over pairs, over the edge and the feasible pairs.
+pub fn language_of(
+    alloc: Global,
+    scope: &Scope,
+    expr: &Expr<PairPart<Atom>>,
+) -> Result<Lang<Bound<Pair>>, AllocError>
+    requires scope { IsScope scope.now }
+    requires form { IsPairForm (term_of expr.now) }
+    ensures { IfOk result (IsLang (all_letters scope.now.pairs) (IsRenamed (pair_at scope.now.pairs) (In (stands scope.now) scope.now.numbers.items (term_of expr.now)))) }
+{
+    let words = words_of(alloc, scope, expr)?;
+    let pairs = renamed(alloc, &words, &scope.pairs)?;
+    let letters = every_letter(alloc, scope.pairs.as_slice())?;
+    Lang::of(alloc, &letters, &pairs)
+}
