@@ -1,7 +1,7 @@
 -- The numbers of the pairs that an atom may be, or that are a symbol with itself.
-use Rattle.std.proofs.Common.{◌≡◌, ◌↔◌, ◌⊎◌, ◌+◌, ◌<◌, ◌≤◌, ℕ, Bool, true, false, IsTrue, List, [], ◌∷◌, ◌++◌, Option, None, Some, MatchOption, length, map, take, get_or, refl, sym, ap, subst, ◌∙◌, inl, inr, arith}
+use Rattle.std.proofs.Common.{◌≡◌, ◌↔◌, ◌⊎◌, ◌+◌, ◌<◌, ◌≤◌, ℕ, Bool, true, false, IsTrue, List, [], ◌∷◌, ◌++◌, Option, None, Some, MatchOption, length, take, refl, sym, ap, subst, ◌∙◌, inl, inr, arith}
 use Rattle.std.proofs.lemmas.Bool.{cases_lt}
-use Rattle.std.proofs.lemmas.List.{take_more, take_all}
+use Rattle.std.proofs.lemmas.List.{take_all}
 use Rattle.std.proofs.lemmas.Option.{slice_get_within, same_Some}
 use Rattle.std.specs.List.{Contains, slice_get}
 use Rattle.fsm_base.specs.declared.letters.Pair.{Pair as Letter}
@@ -106,15 +106,12 @@ pub tried_all : (pairs : List Letter) (Q : Letter → Type 0) (numbers : List Sy
 tried_all pairs Q numbers i all has n = (λ c. ((has n).0 c).1, λ (x, at, q). (has n).1 (omega (arith, slice_get_within pairs n.0 x at, all), (x, at, q)))
 
 -- one symbol more
-pub twice_more : (pairs : List Letter) → IsDistinct pairs → (symbols : List Sym) (i : ℕ) (s : Sym) (old new : List Sym) (found : Option Sym) → i < length symbols → s ≡ get_or symbols i s
+pub twice_more : (pairs : List Letter) → IsDistinct pairs → (symbols : List Sym) (i : ℕ) (s : Sym) (old new : List Sym) (found : Option Sym) → take (i + 1) symbols ≡ take i symbols ++ s ∷ []
     → MatchOption found (¬ Contains pairs (record { up = Some s; low = Some s })) (λ number. slice_get pairs number.0 ≡ Some (record { up = Some s; low = Some s }))
     → ((n : Sym) → Contains new n ↔ (Contains old n ⊎ (found ≡ Some n))) → ((n : Sym) → Contains old n ↔ IsNumber pairs (IsTwiceOf (take i symbols)) n) → (n : Sym) → Contains new n ↔ IsNumber pairs (IsTwiceOf (take (i + 1) symbols)) n
-twice_more pairs distinct symbols i s old new found below is says added so_far n =
+twice_more pairs distinct symbols i s old new found longer says added so_far n =
     subst (λ (z : List Sym). Contains new n ↔ IsNumber pairs (IsTwiceOf z) n) (sym longer) (there, back)
   where
-    longer : take (i + 1) symbols ≡ take i symbols ++ s ∷ []
-    longer = subst (λ (p : Sym). take (i + 1) symbols ≡ take i symbols ++ p ∷ []) (sym is) (take_more symbols i s below)
-
     f : (found ≡ Some n) ↔ IsNumber pairs (λ x. x ≡ record { up = Some s; low = Some s }) n
     f = number_found pairs distinct (record { up = Some s; low = Some s }) found says n
 

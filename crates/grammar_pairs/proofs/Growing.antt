@@ -96,6 +96,9 @@ pub image_more : {X Y : Type 0} (f : X → Y) (xs : List X) (i : ℕ) (x : X) �
 image_more {X} f xs i x below is =
     sym (map-append f (take i xs) (x ∷ [])) ∙ ap (map f) (sym (subst (λ (p : X). take (i + 1) xs ≡ take i xs ++ p ∷ []) (sym is) (take_more xs i x below)))
 
+pub image_at : {X Y : Type 0} (f : X → Y) (xs : List X) (i : ℕ) (d : X) → i < length xs → map f (take i xs) ++ f (get_or xs i d) ∷ [] ≡ map f (take (i + 1) xs)
+image_at f xs i d below = sym (map-append f (take i xs) (get_or xs i d ∷ [])) ∙ ap (map f) (sym (take_more xs i d below))
+
 -- what is listed behind references
 pub seen_listed : {X K : Type 0} (h : X → List K) (xs : List (Bor X)) → flat_map (λ (b : Bor X). h b.now) xs ≡ flat_map h (seen xs)
 seen_listed h [] = refl

@@ -4,3 +4,4 @@ pub mod Tables
 pub mod Fitting
 pub mod Mapped
 pub mod Texts
+pub mod Laws

@@ -60,13 +60,6 @@ impl PairTable {
         }
     }
 
-    /// The pair with a number, if there is one.
-    pub fn pair_of(&self, number: Sym) -> Option<Pair>
-        ensures { result ≡ slice_get self.now number.0 }
-    {
-        self.pairs.get_index(number.0 as usize).copied()
-    }
-
     /// The numbers of all pairs, in their order.
     pub fn numbers(&self, alloc: Global) -> Result<Vec<Sym>, AllocError>
         ensures { IfOk result (λ numbers. AreNumbers self.now numbers.items) }

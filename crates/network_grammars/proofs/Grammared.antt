@@ -99,6 +99,28 @@ begun g (d ∷ above) scope (old, m, before, words, more) =
       subst (λ (z : List (List ℕ × List Sym)). (name : List ℕ) (s : Sym) → HasSymbol z name s ↔ IsMember (map set_of g.sets.items) name s) (sym more.sets) r.1,
     )
 
+-- the rules are about feasible pairs, with contexts over them
+module _ (g : GrammarOf Atom) (scope : Scope) (built : IsBuilt g (reverse (map definition_of g.definitions.items)) scope) (rules : List LangRule) (ruled : Pairwise (IsRuleOf scope) g.rules.items rules) where
+  context_over : (c : Context (PairPart Atom)) (context : PairContext) → IsContextOf scope c context → IsContextOver scope.pairs context
+  context_over c context is = (is.left.over, is.right.over)
+
+  pub rule_over : (rule : LangRule) → Contains rules rule → IsRuleOver scope.pairs rule
+  rule_over rule among =
+      let r = pair_right (IsRuleOf scope) g.rules.items rules ruled rule among in
+      let start = begun g (reverse (map definition_of g.definitions.items)) scope built in
+      let own_pair : Contains (of_atom r.0.pair) rule.pair = subst (λ (z : List Letter). Contains z rule.pair) (sym r.2.pair) (Contains-head rule.pair []) in
+      let listed : Contains (flat_map of_rule g.rules.items) rule.pair = in_flat of_rule g.rules.items r.0 rule.pair r.1 (in_front (of_atom r.0.pair) (flat_map of_context r.0.contexts.items) rule.pair own_pair) in (
+        (start.0 rule.pair).1 (in_back (flat_map of_atom g.pairs.items ++ flat_map of_definition g.definitions.items) (flat_map of_rule g.rules.items) rule.pair listed),
+        λ context has. let s = pair_right (IsContextOf scope) r.0.contexts.items rule.contexts.items r.2.contexts context has in context_over s.0 context s.2,
+      )
+
+-- elements that are added at the ends
+pub pair_more : {A B : Type 0} (R : A → B → Type 0) (xs : List A) (ys : List B) (x : A) (y : B) → Pairwise R xs ys → R x y → Pairwise R (xs ++ x ∷ []) (ys ++ y ∷ [])
+pair_more R [] [] x y all here = (here, tt)
+pair_more R [] (b ∷ ys) x y all here = absurd all
+pair_more R (a ∷ xs) [] x y all here = absurd all
+pair_more R (a ∷ xs) (b ∷ ys) x y (first, rest) here = (first, pair_more R xs ys x y rest here)
+
 -- symbols on a side of pairs that are over an alphabet
 module _ (symbols : List Sym) (side : Letter → Option Sym) where
   on_side : (p : List Letter) → All (λ x. (s : Sym) → side x ≡ Some s → Contains symbols s) p → IsOver symbols (symbols_on side p)
@@ -264,18 +286,6 @@ module _ (text : Sym → List ℕ) (g : GrammarOf Atom) (formed : IsFormed (gram
       contexts = contexts_same r.contexts.items rule.contexts.items is.contexts (formed_at r among).2;
     }
 
-    context_over : (c : Context (PairPart Atom)) (context : PairContext) → IsContextOf scope c context → IsContextOver P context
-    context_over c context is = (is.left.over, is.right.over)
-
-    pub rule_over : (rule : LangRule) → Contains rules rule → IsRuleOver P rule
-    rule_over rule among =
-        let r = pair_right (IsRuleOf scope) g.rules.items rules ruled rule among in
-        let own_pair : Contains (of_atom r.0.pair) rule.pair = subst (λ (z : List Letter). Contains z rule.pair) (sym r.2.pair) (Contains-head rule.pair []) in
-        let listed : Contains (flat_map of_rule g.rules.items) rule.pair = in_flat of_rule g.rules.items r.0 rule.pair r.1 (in_front (of_atom r.0.pair) (flat_map of_context r.0.contexts.items) rule.pair own_pair) in (
-          (start.0 rule.pair).1 (in_back (flat_map of_atom g.pairs.items ++ flat_map of_definition g.definitions.items) (flat_map of_rule g.rules.items) rule.pair listed),
-          λ context has. let s = pair_right (IsContextOf scope) r.0.contexts.items rule.contexts.items r.2.contexts context has in context_over s.0 context s.2,
-        )
-
     symbol_among : (s : Sym) → StandsIn P s → Contains symbols s
     symbol_among s (x, among, on_side) = elim on_side as (λ _. Contains symbols s) [ inl up ↦ (pairs_over x among).up s up | inr low ↦ (pairs_over x among).low s low ]
 
@@ -290,7 +300,7 @@ module _ (text : Sym → List ℕ) (g : GrammarOf Atom) (formed : IsFormed (gram
             let r = Contains-map_cases (letter_in text) P x among in
             subst (λ (z : List TextLetter). Contains z x) (sym (feasible_same text g formed)) (subst (Contains (map (letter_in text) (feasible g))) r.2 (Contains-map (letter_in text) (feasible g) r.0 ((start.0 r.0).0 r.1))),
       );
-      over = rule_over;
+      over = rule_over g scope built rules ruled;
       rules_are = λ r among.
           let first = Contains-map_cases (mapped_rule (in_text text)) (map rule_of g.rules.items) r among in
           let second = Contains-map_cases rule_of g.rules.items first.0 first.1 in

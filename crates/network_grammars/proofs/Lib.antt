@@ -1,2 +1,3 @@
-pub mod Standing
 pub mod Grammared
+pub mod Networked
+pub mod Standing

@@ -4,6 +4,7 @@
 #![tactic(auto)]
 
 mod build;
+mod languages;
 mod rules;
 
 pub use build::network_of_grammar;

@@ -4,9 +4,10 @@ ghost use Rattle.grammar_pairs.specs.Plain.{ContextsArePairForms, IsFormedRule, 
 ghost use Rattle.network_grammars.specs.Rules.{IsContextOf, IsRuleOf, Pairwise};
 ghost use Rattle.pair_languages.specs.Meaning.{IsScope};
 
+use crate::languages::language_of;
 use fsm_base::Pair;
 use grammar_pairs::written;
-use pair_languages::{Scope, language_of};
+use pair_languages::Scope;
 use regex_ast::{Atom, Context, PairAtom, PairPart, TwoLevelRule};
 use std::alloc::{AllocError, Global};
 use two_level::{LangRule, PairContext};

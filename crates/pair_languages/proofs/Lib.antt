@@ -1,2 +1,4 @@
+pub mod Defined
+pub mod Leaf
 pub mod Rows
 pub mod Weights

@@ -4,15 +4,14 @@
 //!
 //! - [`Scope`]: what leaves of expressions stand for: the feasible pairs, the sets and the definitions so far.
 //! - [`scope_of`]: the scope of a grammar, with all definitions, each of which is built once.
-//! - [`language_of`]: the language of an expression over pairs.
+//! - [`words_of`]: the automaton of an expression over the numbers of pairs.
 #![tactic(auto)]
 
 mod build;
 mod definitions;
-mod languages;
 mod leaf;
 mod scope;
 
+pub use build::words_of;
 pub use definitions::scope_of;
-pub use languages::language_of;
 pub use scope::Scope;

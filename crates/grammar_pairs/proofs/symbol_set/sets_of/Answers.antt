@@ -19,7 +19,7 @@ sets-preserved c =
     let taken = rw c.as_str.ensures at c.taken_out-symbols.ensures.symbols in
     let others = rw c.as_str.ensures at c.taken_out-symbols.ensures.others in
     let added = rw c.deref.ensures.value at c.in_ok-add_symbols.ensures in
-    let put = rw c.as_str-2.ensures at c.in_ok-put.ensures in
+    let put = rw c.as_str-in-sets.ensures at c.in_ok-put.ensures in
     subst (λ (z : List (Set Atom)). (name : List ℕ) (s : Sym) → HasSymbol table name s ↔ IsMember z name s) (sym front)
     (set_more c.sets.table c.taken_out-symbols.new.table table (map set_of (take i sets)) (set_of set) c.taken_out-symbols.result c.add_symbols.new.set c.sets.invariant taken others added put)
 

@@ -6,24 +6,28 @@ ghost use Rattle.network_algebra.specs.Renamed.{IsRenamed};
 ghost use Rattle.pair_languages.specs.Meaning.{IsScope, pair_at, stands};
 ghost use Rattle.grammar_pairs.specs.Plain.{IsPairForm, term_of};
 
-use crate::build::words_of;
-use grammar_pairs::PairTable;
-use crate::scope::Scope;
 use fsm_base::{Bound, Pair, Sym};
 use lang_algebra::Lang;
 use network_algebra::{Renaming, renamed};
+use pair_languages::{Scope, words_of};
 use regex_ast::{Atom, Expr, PairPart};
 use std::alloc::{AllocError, Global};
 use two_level::every_letter;
 
-impl Renaming<Bound<Sym>, Bound<Pair>> for PairTable {
-    ghost name = { λ table x. pair_at table x };
+/// The pairs in place of their numbers.
+struct AsPairs<'a> {
+    /// The pairs.
+    pairs: &'a [Pair],
+}
+
+impl Renaming<Bound<Sym>, Bound<Pair>> for AsPairs<'_> {
+    ghost name = { λ renaming x. pair_at renaming.pairs.now x };
 
     fn name_of(&self, letter: Bound<Sym>) -> Option<Bound<Pair>> {
         match letter {
             Bound::Edge => Some(Bound::Edge),
-            Bound::Inner(number) => match self.pair_of(number) {
-                Some(pair) => Some(Bound::Inner(pair)),
+            Bound::Inner(number) => match self.pairs.get(number.0 as usize) {
+                Some(pair) => Some(Bound::Inner(*pair)),
                 None => None,
             },
         }
@@ -41,7 +45,7 @@ pub fn language_of(
     ensures { IfOk result (IsLang (all_letters scope.now.pairs) (IsRenamed (pair_at scope.now.pairs) (In (stands scope.now) scope.now.numbers.items (term_of expr.now)))) }
 {
     let words = words_of(alloc, scope, expr)?;
-    let pairs = renamed(alloc, &words, &scope.pairs)?;
-    let letters = every_letter(alloc, scope.pairs.as_slice())?;
-    Lang::of(alloc, &letters, &pairs)
+    let pairs = scope.pairs.as_slice();
+    let over_pairs = renamed(alloc, &words, &AsPairs { pairs })?;
+    Lang::of(alloc, &every_letter(alloc, pairs)?, &over_pairs)
 }
