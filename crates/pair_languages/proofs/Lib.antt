@@ -1,4 +1,5 @@
 pub mod Defined
-pub mod Leaf
+pub mod LeafWords
 pub mod Rows
 pub mod Weights
+pub mod Words

@@ -1,16 +1,17 @@
 -- Rows of operands in two parts, and what their automata accept.
-use Rattle.std.proofs.Common.{◌≡◌, ◌↔◌, ◌⊎◌, ◌<◌, ◌≤◌, ℕ, Bool, true, false, IsTrue, List, [], ◌∷◌, ◌++◌, All, length, take, drop, get_or, arith, map, refl, sym, ap, subst, ◌∙◌, inl, inr}
+use Rattle.std.proofs.Common.{◌≡◌, ◌↔◌, ◌⊎◌, ◌<◌, ◌≤◌, ℕ, Bool, true, false, IsTrue, Option, None, Some, List, [], ◌∷◌, ◌++◌, All, length, take, drop, get_or, arith, map, refl, sym, ap, subst, ◌∙◌, inl, inr}
 use Rattle.std.proofs.lemmas.List.{map-append, take-append-drop}
 use Rattle.std.proofs.lemmas.List.Elements.{All-nil, All-cons, All-head, All-tail}
-use Rattle.std.specs.List.{Contains}
+use Rattle.std.specs.List.{Contains, slice_get}
 use Rattle.fsm_base.specs.declared.letters.Bound.{Bound}
 use Rattle.fsm_base.specs.declared.letters.Sym.{Sym}
 use Rattle.word_relations.specs.Words.{IsConcatenation}
 use Rattle.word_relations.specs.Operations.{IsIgnoring}
+use Rattle.word_relations.proofs.Members.{Contains-nil_cases}
 use Rattle.word_relations.proofs.Laws.{IsConcatenation-more, IsConcatenation-assoc, IsConcatenation-empty_left, IsConcatenation-empty_right}
-use Rattle.fsa.specs.Automaton.{Automaton}
-use Rattle.fsa.specs.Language.{Accepts}
-use Rattle.regex_ast.specs.Terms.{Term, Terms, Links, term, no_term, then_term, no_link, or, and, less, terms_of, links_of}
+use Rattle.fsa.specs.Automaton.{Automaton, UsesLetter}
+use Rattle.fsa.specs.Language.{Accepts, stop, read, skip}
+use Rattle.regex_ast.specs.Terms.{Term, Terms, Links, ignore, term, no_term, then_term, no_link, or, and, less, terms_of, links_of}
 use Rattle.regex_ast.specs.declared.expr.Atom.{Atom}
 use Rattle.regex_ast.specs.declared.expr.Expr.{Expr}
 use Rattle.regex_ast.specs.declared.expr.Link.{Link, Or, And, Less}
@@ -118,6 +119,13 @@ module _ (leaf : Part Atom → List Sym → List Sym → Type 0) (alphabet : Lis
           (put_in_same (terms_in ys) (Accepts first) (InIgnoring leaf alphabet P (terms_in xs)) f)
           (words_back (InIgnoring leaf alphabet P (terms_in (xs ++ ys))) (InIgnoring leaf alphabet (InIgnoring leaf alphabet P (terms_in xs)) (terms_in ys)) (put_in_split xs ys P))))
 
+  -- a row of `/` begins with its first operand
+  pub ignore_row : (xs ys whole : List (Expr (PairPart Atom))) (first m : Automaton (Bound Sym)) → xs ++ ys ≡ whole → 0 < length xs → HasWords first (In leaf alphabet (ignore (terms_in xs)))
+      → HasWords m (InIgnoring leaf alphabet (Accepts first) (terms_in ys)) → HasWords m (In leaf alphabet (ignore (terms_in whole)))
+  ignore_row [] ys whole first m is some f h = absurd (omega arith)
+  ignore_row (x ∷ xs) ys whole first m is some f h =
+      subst (λ (z : List (Expr (PairPart Atom))). HasWords m (In leaf alphabet (ignore (terms_in z)))) is (ignore_two xs ys (xs ++ ys) (In leaf alphabet (term_of x)) first m refl f h)
+
   pub chain_two : (xs ys whole : List (Link (PairPart Atom))) (P : List (Bound Sym) → Type 0) (first m : Automaton (Bound Sym)) → xs ++ ys ≡ whole → HasWords first (InChain leaf alphabet P (links_in xs))
       → HasWords m (InChain leaf alphabet (Accepts first) (links_in ys)) → HasWords m (InChain leaf alphabet P (links_in whole))
   chain_two xs ys whole P first m is f h =
@@ -177,3 +185,19 @@ one_item (x ∷ y ∷ xs) first some few is = absurd (omega arith)
 
 pub halves_joined : {X : Type 0} (front back whole : List X) (n : ℕ) → front ≡ take n whole → back ≡ drop n whole → front ++ back ≡ whole
 halves_joined front back whole n first second = ap (λ z. z ++ back) first ∙ ap (λ z. take n whole ++ z) second ∙ take-append-drop n whole
+
+-- an automaton that uses no letter, and one that uses those of two
+pub empty_only : {L : Type 0} (letters : List L) (m : Automaton L) → ((x : L) → UsesLetter m x → Contains [] x) → (x : L) → UsesLetter m x → Contains letters x
+empty_only letters m none x used = absurd (Contains-nil_cases x (none x used))
+
+pub two_only : {L : Type 0} (letters : List L) (a b m : Automaton L) → ((x : L) → UsesLetter m x → UsesLetter a x ⊎ UsesLetter b x) → ((x : L) → UsesLetter a x → Contains letters x) → ((x : L) → UsesLetter b x → Contains letters x) → (x : L) → UsesLetter m x → Contains letters x
+two_only letters a b m used first second x h = elim (used x h) as (λ _. Contains letters x) [ inl p ↦ first x p | inr q ↦ second x q ]
+
+pub less_only : {L : Type 0} (letters : List L) (a m : Automaton L) → ((x : L) → UsesLetter m x → UsesLetter a x) → ((x : L) → UsesLetter a x → Contains letters x) → (x : L) → UsesLetter m x → Contains letters x
+less_only letters a m used only x h = only x (used x h)
+
+-- an automaton without edges, whose only state isn't final
+pub none_accepted : {L : Type 0} (m : Automaton L) → m ≡ record { edges = []; finals = false ∷ [] } → (v : List L) → Accepts m v → ⊥
+none_accepted {L} m is v (stop f) = let h : Some false ≡ Some true = subst (λ (z : Automaton L). slice_get z.finals 0 ≡ Some true) is f in cc
+none_accepted {L} m is v (read {q = q} {x = x} has rest) = Contains-nil_cases (record { from = 0; letter = Some x; to = q }) (subst (λ (z : Automaton L). Contains z.edges (record { from = 0; letter = Some x; to = q })) is has)
+none_accepted {L} m is v (skip {q = q} has rest) = Contains-nil_cases (record { from = 0; letter = None; to = q }) (subst (λ (z : Automaton L). Contains z.edges (record { from = 0; letter = None; to = q })) is has)
