@@ -62,3 +62,14 @@ module _ (scope : Scope) (name : List ℕ) where
       λ a. let (u, is, h) = (language w).0 a in (u, is, (h, refl)),
       λ (u, is, (h, same)). (language w).1 (u, is, h),
     )
+
+-- the words without the edge
+module _ (words m : Automaton (Bound Sym)) (inside : Automaton Sym) where
+  pub edge_only : ((x : Sym) → UsesLetter inside x → UsesLetter words (Inner x)) → ((x : Bound Sym) → UsesLetter m x → (s : Sym) × UsesLetter inside s × (x ≡ Inner s)) → (symbols : List Sym) → UsesOnly (all_letters symbols) words → UsesOnly (all_letters symbols) m
+  edge_only first second symbols only x used = let (s, has, is) = second x used in subst (Contains (all_letters symbols)) (sym is) (only (Inner s) (first s has))
+
+  pub edge_words : ((u : List Sym) → Accepts inside u ↔ Accepts words (inner u)) → ((w : List (Bound Sym)) → Accepts m w ↔ WithEdge (Accepts inside) w) → (w : List (Bound Sym)) → Accepts m w ↔ WithEdge (λ u. Accepts words (inner u)) w
+  edge_words first second w = (
+    λ a. let (u, is, h) = (second w).0 a in (u, is, (first u).0 h),
+    λ (u, is, h). (second w).1 (u, is, (first u).1 h),
+  )
