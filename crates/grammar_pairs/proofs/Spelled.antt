@@ -121,7 +121,7 @@ module _ (text : Sym → List ℕ) where
 
   -- sets, and what a side may be
   module _ (g : Grammar Atom) where
-    member_there : (name : List ℕ) (s : Sym) → IsMember g.sets name s → IsMemberInTexts (in_texts text g) name (text s)
+    pub member_there : (name : List ℕ) (s : Sym) → IsMember g.sets name s → IsMemberInTexts (in_texts text g) name (text s)
     member_there name s (set, among, is, has) =
         let r = Contains-map_cases symbol_in set.symbols s has in (
           mapped_set (in_text text) set,
@@ -130,7 +130,7 @@ module _ (text : Sym → List ℕ) where
           subst (Contains (map text_in (map (in_text text) set.symbols))) (ap text r.2) (Contains-map text_in (map (in_text text) set.symbols) (in_text text r.0) (Contains-map (in_text text) set.symbols r.0 r.1)),
         )
 
-    member_back : (name : List ℕ) (s : Sym) → ((b : Sym) → text s ≡ text b → s ≡ b) → IsMemberInTexts (in_texts text g) name (text s) → IsMember g.sets name s
+    pub member_back : (name : List ℕ) (s : Sym) → ((b : Sym) → text s ≡ text b → s ≡ b) → IsMemberInTexts (in_texts text g) name (text s) → IsMember g.sets name s
     member_back name s own (found, among, is, has) =
         let r = Contains-map_cases (mapped_set (in_text text)) g.sets found among in
         let inside = subst (λ (x : Set Leaf). Contains (map text_in x.symbols) (text s)) (sym r.2) has in
@@ -140,14 +140,14 @@ module _ (text : Sym → List ℕ) where
         (r.0, r.1, ap (λ (x : Set Leaf). x.name) r.2 ∙ is, subst (Contains (map symbol_in r.0.symbols)) (sym (own (symbol_in atom.0) (sym same))) (Contains-map symbol_in r.0.symbols atom.0 atom.1))
 
     module _ (table : List (List ℕ × List Sym)) (sets : (name : List ℕ) (s : Sym) → HasSymbol table name s ↔ IsMember g.sets name s) where
-      side_there : (side : Side Atom) (found : Option Sym) → MayBe table side found → MayBeInTexts (in_texts text g) (mapped_side (in_text text) side) (option_map text found)
+      pub side_there : (side : Side Atom) (found : Option Sym) → MayBe table side found → MayBeInTexts (in_texts text g) (mapped_side (in_text text) side) (option_map text found)
       side_there nothing found is = ap (option_map text) is
       side_there anything found is = tt
       side_there (one leaf) found is = ap (option_map text) is
       side_there (member name) None is = absurd is
       side_there (member name) (Some s) is = member_there name s ((sets name s).0 is)
 
-      side_back : (side : Side Atom) (found : Option Sym) → ((s b : Sym) → found ≡ Some s → text s ≡ text b → s ≡ b) → MayBeInTexts (in_texts text g) (mapped_side (in_text text) side) (option_map text found) → MayBe table side found
+      pub side_back : (side : Side Atom) (found : Option Sym) → ((s b : Sym) → found ≡ Some s → text s ≡ text b → s ≡ b) → MayBeInTexts (in_texts text g) (mapped_side (in_text text) side) (option_map text found) → MayBe table side found
       side_back nothing None own is = refl
       side_back nothing (Some s) own is = let e : Some (text s) ≡ None = is in absurd (cc)
       side_back anything found own is = tt

@@ -45,7 +45,7 @@ use Rattle.pair_languages.specs.Meaning.{IsScope, pair_at, stands}
 use Rattle.pair_languages.specs.declared.scope.Scope.{Scope}
 use Rattle.network_grammars.specs.Meaning.{IsNetworkOf, IsOverSymbols}
 use Rattle.network_grammars.specs.Rules.{IsContextOf, IsLanguageOf, IsRuleOf, Pairwise}
-use Rattle.network_grammars.proofs.Standing.{Agree, IsOn, agree, expression_back, expression_there, letters_apart}
+use Rattle.pair_languages.proofs.Standing.{Agree, IsOn, agree, expression_back, expression_there, letters_apart}
 use Rattle.two_level.specs.Rules.{GrammarRelates, Holds, IsContextOver, IsRuleOver}
 use Rattle.two_level.specs.Spelled.{GrammarIsSpelled, IsRuleFor, StandsFor, StandsIn}
 use Rattle.two_level.specs.declared.rule.LangRule.{LangRule}
@@ -151,7 +151,7 @@ module _ (text : Sym → List ℕ) (g : GrammarOf Atom) (formed : IsFormed (gram
   pairs_over x among = All-contains (IsPairOver symbols) (feasible g) x over ((start.0 x).0 among)
 
   abbrev Spot : Type 0
-  Spot = Rattle.network_grammars.proofs.Standing.Place text g formed symbols own P is_scope.distinct pairs_over start.0
+  Spot = Rattle.pair_languages.proofs.Standing.Place text g formed symbols own P is_scope.distinct pairs_over start.0
 
   abbrev number : Spot → Sym
   number k = k.0

@@ -1,3 +1,2 @@
 pub mod Grammared
 pub mod Networked
-pub mod Standing

@@ -87,7 +87,7 @@ module _ (leaf : Part Atom → List Sym → List Sym → Type 0) (alphabet : Lis
   -- a row with something before that has no word
   choice_alone : (xs : List (Link (PairPart Atom))) → All IsChoice xs → (P : List (Bound Sym) → Type 0) → SameWords (InChain leaf alphabet P (links_in xs)) (λ v. P v ⊎ InChain leaf alphabet (λ u. ⊥) (links_in xs) v)
   choice_alone xs all P w =
-      let same = chain_words (links_in xs) P (λ v. P v ⊎ ⊥) (λ v. (λ p. inl p, λ h. elim h as (λ _. P v) [ inl p ↦ p | inr no ↦ absurd no ])) w in
+      let same = chain_words (links_in xs) P (λ v. P v ⊎ ⊥) (λ v. (λ p. inl p, λ h. elim h as (λ _. P v) [ inl p ↦ p | inr never ↦ absurd never ])) w in
       let split = choice_words xs all P (λ v. ⊥) w in
       (λ h. split.0 (same.0 h), λ h. same.1 (split.1 h))
 

@@ -1,9 +1,11 @@
 -- Automata of expressions over pairs, by their forms.
 use Rattle.std.proofs.Common.{◌≡◌, ◌↔◌, ◌⊎◌, ℕ, Bool, true, false, List, [], ◌∷◌, Option, None, Some, MatchOption, refl, sym, ap, subst, ◌∙◌, inl, inr}
+use Rattle.std.specs.List.{Contains}
 use Rattle.fsm_base.specs.declared.letters.Bound.{Bound}
 use Rattle.fsm_base.specs.declared.letters.Sym.{Sym}
 use Rattle.word_relations.specs.Relations.{AreSame}
-use Rattle.fsa.specs.Automaton.{Automaton}
+use Rattle.word_relations.proofs.Members.{Contains-nil_cases}
+use Rattle.fsa.specs.Automaton.{Automaton, UsesLetter}
 use Rattle.fsa.specs.Language.{Accepts}
 use Rattle.regex_ast.specs.Terms.{Term, Terms, Links, empty, any, edge, atom, group, maybe, not_one, suffixed, prefixed, ignore, concat, chain, no_term, then_term, no_link, or, and, less}
 use Rattle.regex_ast.specs.declared.expr.Atom.{Atom}
@@ -18,6 +20,7 @@ use Rattle.expr_meaning.specs.Meaning.{In, Relates}
 use Rattle.expr_meaning.specs.Operators.{AreSuffixed, ArePrefixed, IsEmpty, IsItself, IsNotOne, inner}
 use Rattle.expr_meaning.proofs.Languages.{language_itself}
 use Rattle.network_affixes.proofs.Alike.{SameWords, not_one_same, prefixes_same, suffixes_words, words_then}
+use Rattle.network_algebra.specs.Networks.{UsesOnly, all_letters}
 use Rattle.project_meaning.specs.Trees.{Pair, Part, pair, called}
 use Rattle.grammar_pairs.specs.Fitting.{IsOneOf, IsTwice}
 use Rattle.grammar_pairs.specs.Plain.{IsPairForm, ArePairForms, LinksArePairForms}
@@ -29,6 +32,17 @@ use Rattle.pair_languages.proofs.Rows.{HasWords}
 -- all leaves are languages
 abbrev languages : Leaves (Part Atom)
 languages = record { kind = λ (a : Part Atom). Language; same = λ (a b : Part Atom). false }
+
+-- a language stays one behind suffixes
+pub language_suffixes : (suffixes : List Suffix) → with_suffixes Language suffixes ≡ Language
+language_suffixes [] = refl
+language_suffixes (Star ∷ suffixes) = language_suffixes suffixes
+language_suffixes (Plus ∷ suffixes) = language_suffixes suffixes
+language_suffixes (Power n ∷ suffixes) = language_suffixes suffixes
+language_suffixes (Upper ∷ suffixes) = language_suffixes suffixes
+language_suffixes (Lower ∷ suffixes) = language_suffixes suffixes
+language_suffixes (Inverse ∷ suffixes) = language_suffixes suffixes
+language_suffixes (Reverse ∷ suffixes) = language_suffixes suffixes
 
 -- and so are expressions over pairs
 mutual
@@ -56,16 +70,6 @@ mutual
   language_chain (or e links) form = ap (λ k. kind_of_chain languages k links) (language_form e form.0) ∙ language_chain links form.1
   language_chain (and e links) form = ap (λ k. kind_of_chain languages k links) (language_form e form.0) ∙ language_chain links form.1
   language_chain (less e links) form = ap (λ k. kind_of_chain languages k links) (language_form e form.0) ∙ language_chain links form.1
-
-  pub language_suffixes : (suffixes : List Suffix) → with_suffixes Language suffixes ≡ Language
-  language_suffixes [] = refl
-  language_suffixes (Star ∷ suffixes) = language_suffixes suffixes
-  language_suffixes (Plus ∷ suffixes) = language_suffixes suffixes
-  language_suffixes (Power n ∷ suffixes) = language_suffixes suffixes
-  language_suffixes (Upper ∷ suffixes) = language_suffixes suffixes
-  language_suffixes (Lower ∷ suffixes) = language_suffixes suffixes
-  language_suffixes (Inverse ∷ suffixes) = language_suffixes suffixes
-  language_suffixes (Reverse ∷ suffixes) = language_suffixes suffixes
 
 module _ (scope : Scope) where
   leaf_itself : (c : Part Atom) (u w : List Sym) → stands scope c u w → u ≡ w
@@ -112,3 +116,16 @@ module _ (scope : Scope) where
 
     pub alone_words : SameWords (In (stands scope) N e) (In (stands scope) N (group e))
     alone_words w = (λ h. h, λ h. h)
+
+-- the empty word, or a word of a language
+module _ (empty words either m : Automaton (Bound Sym)) where
+  pub perhaps_only : ((x : Bound Sym) → UsesLetter empty x → Contains [] x) → ((x : Bound Sym) → UsesLetter either x → UsesLetter empty x ⊎ UsesLetter words x) → ((x : Bound Sym) → UsesLetter m x → UsesLetter either x)
+      → (symbols : List Sym) → UsesOnly (all_letters symbols) words → UsesOnly (all_letters symbols) m
+  perhaps_only none two smaller symbols within x used =
+      elim (two x (smaller x used)) as (λ _. Contains (all_letters symbols) x) [ inl e ↦ absurd (Contains-nil_cases x (none x e)) | inr h ↦ within x h ]
+
+  pub perhaps_words : HasWords empty IsEmpty → HasWords either (λ w. Accepts empty w ⊎ Accepts words w) → HasWords m (Accepts either) → HasWords m (λ w. IsEmpty w ⊎ Accepts words w)
+  perhaps_words none two smaller w = (
+    λ a. elim ((two w).0 ((smaller w).0 a)) as (λ _. IsEmpty w ⊎ Accepts words w) [ inl e ↦ inl ((none w).0 e) | inr h ↦ inr h ],
+    λ b. (smaller w).1 ((two w).1 (elim b as (λ _. Accepts empty w ⊎ Accepts words w) [ inl e ↦ inl ((none w).1 e) | inr h ↦ inr h ])),
+  )

@@ -1,4 +1,4 @@
-ghost use Rattle.std.specs.Prelude.{◌∷◌, [], ◌↔◌, All, IfOk, IsTrue, List};
+ghost use Rattle.std.specs.Prelude.{◌∷◌, [], ◌↔◌, ◌⊎◌, All, IfOk, IsTrue, List};
 ghost use Rattle.fsm_base.specs.declared.letters.Bound.{Bound};
 ghost use Rattle.fsm_base.specs.declared.letters.Sym.{Sym};
 ghost use Rattle.fsa.specs.Language.{Accepts};

@@ -1,9 +1,8 @@
-ghost use Rattle.std.specs.Prelude.{◌↔◌, Contains, IfOk, List, ℕ};
+ghost use Rattle.std.specs.Prelude.{◌↔◌, IfOk, List};
 ghost use Rattle.fsm_base.specs.declared.letters.Bound.{Bound};
 ghost use Rattle.fsm_base.specs.declared.letters.Sym.{Sym};
-ghost use Rattle.fsa.specs.Automaton.{Automaton};
 ghost use Rattle.fsa.specs.Language.{Accepts};
-ghost use Rattle.expr_meaning.specs.Operators.{inner};
+ghost use Rattle.expr_meaning.specs.Operators.{WithEdge, inner};
 ghost use Rattle.network_algebra.specs.Networks.{UsesOnly, all_letters};
 ghost use Rattle.word_relations.specs.Operations.{IsOneLetter};
 ghost use Rattle.pair_languages.specs.Meaning.{HasWordsOf, IsScope};

@@ -1,5 +1,5 @@
 -- What the leaves of a grammar relate in numbers of pairs they relate in texts, definition by definition.
-use Rattle.std.proofs.Common.{◌≡◌, ◌≢◌, ◌↔◌, ◌⊎◌, ◌<◌, ℕ, Bool, true, false, cond, IsTrue, List, [], ◌∷◌, ◌++◌, Option, None, Some, All, MatchOption, length, map, refl, sym, ap, subst, ◌∙◌, inl, inr, arith, true≢false}
+use Rattle.std.proofs.Common.{◌≡◌, ◌≢◌, ◌↔◌, ◌⊎◌, ◌<◌, ℕ, zero, suc, Bool, true, false, cond, IsTrue, List, [], ◌∷◌, ◌++◌, Option, None, Some, All, MatchOption, length, map, refl, sym, ap, subst, ◌∙◌, inl, inr, arith, true≢false}
 use Rattle.std.proofs.lemmas.List.Elements.{All-head, All-tail}
 use Rattle.std.proofs.lemmas.Option.{slice_get_within, same_Some}
 use Rattle.std.proofs.lemmas.Slice.Eq.{bytes_eq-Decides}
@@ -75,7 +75,7 @@ carried_more : {K S M : Type 0} (f : K → S) (g : K → M) {R : List S → List
 carried_more f g {T'} more a = record { pair = λ u w r. let c = a.pair u w r in (c.0, c.1, c.2, c.3, more (map g c.0) (map g c.1) c.4) }
 
 carried_less : {K S M : Type 0} (f : K → S) (g : K → M) {R R' : List S → List S → Type 0} {T : List M → List M → Type 0} → ((u w : List S) → R' u w → R u w) → CarriesPairs f g R T → CarriesPairs f g R' T
-carried_less f g less a = record { pair = λ u w r. a.pair u w (less u w r) }
+carried_less f g smaller a = record { pair = λ u w r. a.pair u w (smaller u w r) }
 
 -- and a set of words that is the same
 carried_same : {K S M : Type 0} (f : K → S) (g : K → M) {P P' : List S → Type 0} {Q : List M → Type 0} → ((w : List S) → P' w → P w) → Carries f g P Q → Carries f g P' Q
@@ -85,16 +85,17 @@ carried_to : {K S M : Type 0} (f : K → S) (g : K → M) {P : List S → Type 0
 carried_to f g same a = record { word = λ w p. let c = a.word w p in (c.0, c.1, same (map g c.0) c.2) }
 
 -- the element at a place that is there
+missing : {X : Type 0} (ys : List X) (j : ℕ) → j < length ys → slice_get ys j ≡ None → ⊥
+missing [] j low none = omega arith
+missing (y ∷ ys) zero low none = let e : Some y ≡ None = none in cc
+missing (y ∷ ys) (suc j) low none = missing ys j (omega arith) none
+
 element_at : {X : Type 0} (xs : List X) (k : ℕ) → k < length xs → (x : X) × (slice_get xs k ≡ Some x)
-element_at xs k below = by (slice_get xs k) refl
+element_at {X} xs k below = by (slice_get xs k) refl
   where
     by : (o : Option X) → slice_get xs k ≡ o → (x : X) × (slice_get xs k ≡ Some x)
     by (Some x) is = (x, is)
     by None is = absurd (missing xs k below is)
-
-    missing : (ys : List X) (j : ℕ) → j < length ys → slice_get ys j ≡ None → ⊥
-    missing [] j low none = omega arith
-    missing (y ∷ ys) j low none = grind (arith, none)
 
 cases_of : (b : Bool) → (b ≡ true) ⊎ (b ≡ false)
 cases_of true = inl refl
@@ -217,18 +218,15 @@ module _ (text : Sym → List ℕ) (g : GrammarOf Atom) (formed : IsFormed (gram
 
   -- a pair
   module _ (scope : Scope) (on : IsOn scope) where
-    at_place : (n : Sym) (x : Letter) → slice_get scope.pairs n.0 ≡ Some x → Place
+    abbrev at_place : (n : Sym) (x : Letter) → slice_get scope.pairs n.0 ≡ Some x → Place
     at_place n x at = (n, x, subst (λ (q : List Letter). slice_get q n.0 ≡ Some x) on.pairs at)
 
     in_scope : (k : Place) → slice_get scope.pairs k.0.0 ≡ Some k.1
     in_scope k = subst (λ (q : List Letter). slice_get q k.0.0 ≡ Some k.1) (sym on.pairs) k.2
 
-    own_at : (k : Place) (s b : Sym) → Contains symbols s → text s ≡ text b → s ≡ b
-    own_at k s b among same = own s b among same
-
     pair_there : (above : List (PairDefinition Leaf)) (p : Pair Atom) → CarriesPairs number spelling (stands scope (pair p)) (PartRelates G above (pair (mapped_pair (in_text text) p)))
     pair_there above p = record {
-      pair = λ u w ((n, (x, at, up, low), is), same).
+      pair = λ u w ((n, (x, at, (up, low)), is), same).
           let k = at_place n x at in (
             k ∷ [], k ∷ [], is, sym same ∙ is,
             (letter_in text x, known_spelling k, side_there text (grammar_of g) scope.sets on.sets p.up x.up up, side_there text (grammar_of g) scope.sets on.sets p.low x.low low, refl, refl),
