@@ -89,9 +89,9 @@ module _ {A B D : Type 0} (f : A → B) (h : B → D) (k : A → D) (passes : A 
       let a = map_twice (λ p. IsTrue (pair_passes passes p)) (mapped_pair h) (mapped_pair f) (mapped_pair k) pair_twice g.pairs has.pairs in
       let b = map_twice (λ s. All (λ leaf. IsTrue (passes leaf)) s.symbols) (mapped_set h) (mapped_set f) (mapped_set k) set_twice g.sets has.sets in
       let c = map_twice (λ d. IsPairForm d.term × IsBuilt (part_passes passes) d.term) (mapped_definition h) (mapped_definition f) (mapped_definition k) definition_twice g.definitions
-          (both_all (λ d. IsPairForm d.term) (λ d. IsBuilt (part_passes passes) d.term) g.definitions formed.definitions has.definitions) in
+      (both_all (λ d. IsPairForm d.term) (λ d. IsBuilt (part_passes passes) d.term) g.definitions formed.definitions has.definitions) in
       let d = map_twice (λ r. IsFormedRule r × (IsTrue (pair_passes passes r.centre) × ContextsAreBuilt (part_passes passes) r.contexts)) (mapped_rule h) (mapped_rule f) (mapped_rule k) rule_twice g.rules
-          (both_all IsFormedRule (λ r. IsTrue (pair_passes passes r.centre) × ContextsAreBuilt (part_passes passes) r.contexts) g.rules formed.rules has.rules) in
+      (both_all IsFormedRule (λ r. IsTrue (pair_passes passes r.centre) × ContextsAreBuilt (part_passes passes) r.contexts) g.rules formed.rules has.rules) in
       λ i. record { pairs = a i; sets = b i; definitions = c i; rules = d i }
 
 pub in_texts_mapped : {C : Type 0} → GrammarIsInTexts C

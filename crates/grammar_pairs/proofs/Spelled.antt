@@ -104,12 +104,12 @@ module _ (text : Sym → List ℕ) where
         flat_over (λ (d : PairDefinition Leaf). listed part_in_texts d.term) (mapped_definition (in_text text)) (map definition_of g.definitions.items)
         ∙ flat_over (λ (d : PairDefinition Atom). listed part_in_texts (mapped (mapped_part (in_text text)) d.term)) definition_of g.definitions.items
         ∙ flat_image (λ d. IsPairForm (term_of d.expr)) (λ (d : PairDefine Atom). listed part_in_texts (mapped (mapped_part (in_text text)) (term_of d.expr))) of_definition (letter_in text) expression_same g.definitions.items
-            (All-over (λ (d : PairDefinition Atom). IsPairForm d.term) definition_of g.definitions.items formed.definitions) in
+        (All-over (λ (d : PairDefinition Atom). IsPairForm d.term) definition_of g.definitions.items formed.definitions) in
         let third : flat_map (λ (r : Rule Leaf). written_in_texts r.centre ++ listed_contexts part_in_texts r.contexts) G.rules ≡ map (letter_in text) (flat_map of_rule g.rules.items) =
         flat_over (λ (r : Rule Leaf). written_in_texts r.centre ++ listed_contexts part_in_texts r.contexts) (mapped_rule (in_text text)) (map rule_of g.rules.items)
         ∙ flat_over (λ (r : Rule Atom). written_in_texts (mapped_pair (in_text text) r.centre) ++ listed_contexts part_in_texts (mapped_contexts (mapped_part (in_text text)) r.contexts)) rule_of g.rules.items
         ∙ flat_image (λ r. IsFormedRule (rule_of r)) (λ (r : TwoLevelRule Atom). written_in_texts (mapped_pair (in_text text) (pair_of r.pair)) ++ listed_contexts part_in_texts (mapped_contexts (mapped_part (in_text text)) (contexts_in r.contexts.items))) of_rule (letter_in text) rule_same g.rules.items
-            (All-over IsFormedRule rule_of g.rules.items formed.rules) in
+        (All-over IsFormedRule rule_of g.rules.items formed.rules) in
         three (flat_map of_atom g.pairs.items) (flat_map of_definition g.definitions.items) (flat_map of_rule g.rules.items) first second third
       where
         any_of : {X : Type 0} (xs : List X) → All (λ (x : X). Unit {0}) xs
@@ -178,6 +178,6 @@ module _ (alphabet : List (Sym × List ℕ)) (formed : IsAlphabet alphabet) wher
       let place = slice_get_from_Contains alphabet (b, text_of alphabet b) held in
       let one_place : at.0 ≡ place.0 =
       formed.apart at.0 place.0 entry.1 (slice_get-map (λ (e : Sym × List ℕ). e.1) alphabet at.0 ∙ ap (option_map (λ (e : Sym × List ℕ). e.1)) at.1)
-          (slice_get-map (λ (e : Sym × List ℕ). e.1) alphabet place.0 ∙ ap (option_map (λ (e : Sym × List ℕ). e.1)) place.1 ∙ ap (λ (t : List ℕ). Some t) other) in
+      (slice_get-map (λ (e : Sym × List ℕ). e.1) alphabet place.0 ∙ ap (option_map (λ (e : Sym × List ℕ). e.1)) place.1 ∙ ap (λ (t : List ℕ). Some t) other) in
       let one_entry : entry ≡ (b, text_of alphabet b) = same_at alphabet place.0 entry (b, text_of alphabet b) (subst (λ (k : ℕ). slice_get alphabet k ≡ Some entry) one_place at.1) place.1 in
       sym r.2 ∙ ap (λ (e : Sym × List ℕ). e.0) one_entry

@@ -155,10 +155,7 @@ fn add_rules(
 }
 
 /// The feasible pairs of a grammar, each once.
-pub fn feasible_pairs(
-    alloc: Global,
-    grammar: &Grammar<Atom>,
-) -> Result<IndexSet<Pair>, AllocError>
+pub fn feasible_pairs(alloc: Global, grammar: &Grammar<Atom>) -> Result<IndexSet<Pair>, AllocError>
     ensures { IfOk result (λ pairs. (x : Letter) → Contains pairs.keys x ↔ Contains (feasible grammar.now) x) }
 {
     let mut pairs = IndexSet::new(alloc);

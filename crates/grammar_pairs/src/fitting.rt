@@ -3,10 +3,10 @@ ghost use Rattle.fsm_base.specs.declared.letters.Sym.{Sym as Symbol};
 ghost use Rattle.grammar_pairs.specs.Fitting.{Fits, IsNumber, IsTwice, IsTwiceOf, MayBe};
 ghost use Rattle.grammar_pairs.specs.Plain.{pair_of, side_of};
 
+use crate::feasible::written;
 use crate::name_table::NameTable;
 use crate::pair_table::PairTable;
 use crate::symbol_set::{SymbolSet, has_symbol, symbol_of};
-use crate::feasible::written;
 use fsm_base::{Pair, Sym};
 use regex_ast::{Atom, PairAtom, PairSide};
 use std::alloc::{AllocError, Global};

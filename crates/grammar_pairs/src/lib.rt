@@ -8,16 +8,16 @@
 //! - [`grammar_is_in_texts`], [`resolved_is_mapped`]: laws of grammars whose leaves are replaced.
 #![tactic(auto)]
 
+mod feasible;
 mod fitting;
 mod laws;
 mod name_table;
 mod pair_table;
 mod symbol_set;
-mod feasible;
 
+pub use feasible::{feasible_pairs, written};
 pub use fitting::{numbers_fitting, numbers_twice};
 pub use laws::{grammar_is_in_texts, resolved_is_mapped};
 pub use name_table::NameTable;
 pub use pair_table::PairTable;
 pub use symbol_set::{SymbolSet, sets_of};
-pub use feasible::{feasible_pairs, written};

@@ -92,10 +92,7 @@ fn taken_out(alloc: Global, table: &mut NameTable<SymbolSet>, name: &str) -> Sym
 }
 
 /// The sets of a grammar, each under its name. Sets of one name are taken together.
-pub fn sets_of(
-    alloc: Global,
-    sets: &[SetOf<Atom>],
-) -> Result<NameTable<SymbolSet>, AllocError>
+pub fn sets_of(alloc: Global, sets: &[SetOf<Atom>]) -> Result<NameTable<SymbolSet>, AllocError>
     ensures { IfOk result (λ table. (name : List ℕ) (s : Symbol) → HasSymbol table name s ↔ IsMember (map set_of sets.now) name s) }
 {
     let mut table = NameTable::new(alloc);

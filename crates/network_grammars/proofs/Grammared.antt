@@ -169,7 +169,7 @@ module _ (text : Sym → List ℕ) (g : GrammarOf Atom) (formed : IsFormed (gram
   agreeing =
       subst (Agree text g formed symbols own P is_scope.distinct pairs_over start.0 scope) (spelled_reverse (mapped_definition (in_text text)) (map definition_of g.definitions.items))
       (agree text g formed symbols own P is_scope.distinct pairs_over start.0 (reverse (map definition_of g.definitions.items)) scope
-          (all_reversed (λ (d : PairDefinition Atom). IsPairForm d.term) (map definition_of g.definitions.items) formed.definitions) on built)
+      (all_reversed (λ (d : PairDefinition Atom). IsPairForm d.term) (map definition_of g.definitions.items) formed.definitions) on built)
 
   -- the language of an expression, over pairs and over pairs of texts
   abbrev InTexts : Expr (PairPart Atom) → List (Bound TextLetter) → Type 0

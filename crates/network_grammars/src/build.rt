@@ -13,10 +13,7 @@ use std::alloc::{AllocError, Global};
 
 /// The network of a grammar: what its rules allow of strings of its feasible pairs. The expressions have the forms that stand in a
 /// text, and each rule is about one pair. Each definition is built once.
-pub fn network_of_grammar(
-    alloc: Global,
-    grammar: &Grammar<Atom>,
-) -> Result<Network, AllocError>
+pub fn network_of_grammar(alloc: Global, grammar: &Grammar<Atom>) -> Result<Network, AllocError>
     requires { IsFormed (grammar_of grammar.now) }
     ensures letters { IfOk result (λ n. (symbols : List Sym) → IsOverSymbols symbols grammar.now → IsNetwork symbols n) }
     ensures kind { IfOk result (λ n. kind_of_network n ≡ Kind.Relation) }

@@ -59,9 +59,9 @@ module _ (scope : Scope) (name : List ℕ) where
   pub named_words : (words m : Automaton (Bound Sym)) → Some words ≡ under name scope.definitions → ((w : List (Bound Sym)) → Accepts m w ↔ WithEdge (λ u. Accepts words (inner u)) w) → HasWords m (InLeaf (stands scope) scope.numbers.items (called name))
   named_words words m found language w =
       subst (λ (o : Option (Automaton (Bound Sym))). Accepts m w ↔ WithEdge (λ u. Relates o u u) w) found (
-      λ a. let (u, is, h) = (language w).0 a in (u, is, (h, refl)),
-      λ (u, is, (h, same)). (language w).1 (u, is, h),
-    )
+        λ a. let (u, is, h) = (language w).0 a in (u, is, (h, refl)),
+        λ (u, is, (h, same)). (language w).1 (u, is, h),
+      )
 
 -- the words without the edge
 module _ (words m : Automaton (Bound Sym)) (inside : Automaton Sym) where

@@ -116,8 +116,8 @@ module _ (leaf : Part Atom → List Sym → List Sym → Type 0) (alphabet : Lis
       subst (λ (z : List (Expr (PairPart Atom))). HasWords m (InIgnoring leaf alphabet P (terms_in z))) is
       (words_then (Accepts m) (InIgnoring leaf alphabet (Accepts first) (terms_in ys)) (InIgnoring leaf alphabet P (terms_in (xs ++ ys))) h
       (words_then (InIgnoring leaf alphabet (Accepts first) (terms_in ys)) (InIgnoring leaf alphabet (InIgnoring leaf alphabet P (terms_in xs)) (terms_in ys)) (InIgnoring leaf alphabet P (terms_in (xs ++ ys)))
-          (put_in_same (terms_in ys) (Accepts first) (InIgnoring leaf alphabet P (terms_in xs)) f)
-          (words_back (InIgnoring leaf alphabet P (terms_in (xs ++ ys))) (InIgnoring leaf alphabet (InIgnoring leaf alphabet P (terms_in xs)) (terms_in ys)) (put_in_split xs ys P))))
+      (put_in_same (terms_in ys) (Accepts first) (InIgnoring leaf alphabet P (terms_in xs)) f)
+      (words_back (InIgnoring leaf alphabet P (terms_in (xs ++ ys))) (InIgnoring leaf alphabet (InIgnoring leaf alphabet P (terms_in xs)) (terms_in ys)) (put_in_split xs ys P))))
 
   -- a row of `/` begins with its first operand
   pub ignore_row : (xs ys whole : List (Expr (PairPart Atom))) (first m : Automaton (Bound Sym)) → xs ++ ys ≡ whole → 0 < length xs → HasWords first (In leaf alphabet (ignore (terms_in xs)))
@@ -132,8 +132,8 @@ module _ (leaf : Part Atom → List Sym → List Sym → Type 0) (alphabet : Lis
       subst (λ (z : List (Link (PairPart Atom))). HasWords m (InChain leaf alphabet P (links_in z))) is
       (words_then (Accepts m) (InChain leaf alphabet (Accepts first) (links_in ys)) (InChain leaf alphabet P (links_in (xs ++ ys))) h
       (words_then (InChain leaf alphabet (Accepts first) (links_in ys)) (InChain leaf alphabet (InChain leaf alphabet P (links_in xs)) (links_in ys)) (InChain leaf alphabet P (links_in (xs ++ ys)))
-          (chain_words (links_in ys) (Accepts first) (InChain leaf alphabet P (links_in xs)) f)
-          (words_back (InChain leaf alphabet P (links_in (xs ++ ys))) (InChain leaf alphabet (InChain leaf alphabet P (links_in xs)) (links_in ys)) (chain_split xs ys P))))
+      (chain_words (links_in ys) (Accepts first) (InChain leaf alphabet P (links_in xs)) f)
+      (words_back (InChain leaf alphabet P (links_in (xs ++ ys))) (InChain leaf alphabet (InChain leaf alphabet P (links_in xs)) (links_in ys)) (chain_split xs ys P))))
 
   pub chain_choice : (xs : List (Link (PairPart Atom))) → All IsChoice xs → (before choice m : Automaton (Bound Sym)) → HasWords choice (InChain leaf alphabet (λ v. ⊥) (links_in xs)) → HasWords m (λ v. Accepts before v ⊎ Accepts choice v) → HasWords m (InChain leaf alphabet (Accepts before) (links_in xs))
   chain_choice xs all before choice m f h w =

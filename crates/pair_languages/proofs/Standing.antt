@@ -228,7 +228,10 @@ module _ (text : Sym → List ℕ) (g : GrammarOf Atom) (formed : IsFormed (gram
     pair_there above p = record {
       pair = λ u w ((n, (x, at, (up, low)), is), same).
           let k = at_place n x at in (
-            k ∷ [], k ∷ [], is, sym same ∙ is,
+            k ∷ [],
+            k ∷ [],
+            is,
+            sym same ∙ is,
             (letter_in text x, known_spelling k, side_there text (grammar_of g) scope.sets on.sets p.up x.up up, side_there text (grammar_of g) scope.sets on.sets p.low x.low low, refl, refl),
           );
     }
@@ -256,7 +259,10 @@ module _ (text : Sym → List ℕ) (g : GrammarOf Atom) (formed : IsFormed (gram
           let k = at_place n x at in
           let t = text s in
           let spelled : spelling k ≡ record { up = Some t; low = Some t } = ap (letter_in text) is_twice in (
-            k ∷ [], k ∷ [], is, sym same ∙ is,
+            k ∷ [],
+            k ∷ [],
+            is,
+            sym same ∙ is,
             (t, member_there text (grammar_of g) name s ((on.sets name s).0 has), subst (Contains (feasible_in_texts G)) spelled (known_spelling k), ap (λ (z : TextLetter). z ∷ []) spelled, refl),
           );
     }
@@ -305,13 +311,13 @@ module _ (text : Sym → List ℕ) (g : GrammarOf Atom) (formed : IsFormed (gram
     own_there name is found =
         carried_less number spelling (found_as new.pairs new.sets name (under name new.definitions) (Some m) found)
         (carried_more number spelling (λ u w h. inl (is, h.0, h.1))
-            (itself number spelling (carried_same (bound number) (bound spelling) (λ w h. (words w).0 h) (expression_there old old_on above agree d.term form))))
+        (itself number spelling (carried_same (bound number) (bound spelling) (λ w h. (words w).0 h) (expression_there old old_on above agree d.term form))))
 
     own_back : (name : List ℕ) → d.name ≡ name → under name new.definitions ≡ Some m → CarriesPairs spelling number (PartRelates G (D ∷ above) (called name)) (stands new (called name))
     own_back name is found =
         carried_more spelling number (found_as new.pairs new.sets name (Some m) (under name new.definitions) (sym found))
         (carried_less spelling number only
-            (itself spelling number (carried_to (bound spelling) (bound number) (λ w h. (words w).1 h) (expression_back old old_on above agree d.term form))))
+        (itself spelling number (carried_to (bound spelling) (bound number) (λ w h. (words w).1 h) (expression_back old old_on above agree d.term form))))
       where
         only : (u w : List TextLetter) → PartRelates G (D ∷ above) (called name) u w → IsItself (In (PartRelates G above) (feasible_in_texts G) (mapped (mapped_part (in_text text)) d.term)) u w
         only u w (inl (same, h, e)) = (h, e)

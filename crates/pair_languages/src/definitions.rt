@@ -4,10 +4,8 @@ ghost use Rattle.pair_languages.specs.Meaning.{IsScope};
 ghost use Rattle.grammar_pairs.specs.Plain.{IsPairForm, definition_of};
 
 use crate::build::words_of;
-use grammar_pairs::NameTable;
-use grammar_pairs::PairTable;
 use crate::scope::Scope;
-use grammar_pairs::sets_of;
+use grammar_pairs::{NameTable, PairTable, sets_of};
 use regex_ast::{Atom, Grammar};
 use std::alloc::{AllocError, Global};
 

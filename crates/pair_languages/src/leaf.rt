@@ -9,10 +9,10 @@ ghost use Rattle.pair_languages.specs.Meaning.{HasWordsOf, IsScope};
 ghost use Rattle.grammar_pairs.specs.Plain.{part_of};
 ghost use Rattle.regex_ast.specs.Terms.{atom};
 
-use grammar_pairs::{numbers_fitting, numbers_twice};
 use crate::scope::Scope;
 use fsa::Fsa;
 use fsm_base::{Bound, Sym};
+use grammar_pairs::{numbers_fitting, numbers_twice};
 use lang_algebra::one_letter;
 use network_algebra::{inner_letters, inside, with_edge};
 use regex_ast::{Atom, PairPart};

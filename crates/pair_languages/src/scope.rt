@@ -1,8 +1,6 @@
-use grammar_pairs::NameTable;
-use grammar_pairs::PairTable;
-use grammar_pairs::SymbolSet;
 use fsa::Fsa;
 use fsm_base::{Bound, Sym};
+use grammar_pairs::{NameTable, PairTable, SymbolSet};
 
 /// What the leaves of a grammar's expressions stand for.
 #[derive(Drop)]

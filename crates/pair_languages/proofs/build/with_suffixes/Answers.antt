@@ -3,7 +3,6 @@ use Rattle.fsa.specs.Language.{Accepts}
 use Rattle.expr_meaning.specs.Operators.{AreSuffixed, IsItself}
 use Rattle.network_algebra.specs.Networks.{WordsOf}
 use Rattle.network_algebra.specs.declared.network.Network.{Network}
-use Rattle.pair_languages.proofs.Standing.{agree}
 use Rattle.pair_languages.proofs.Words.{language_suffixes}
 use Rattle.pair_languages.proofs.build.with_suffixes.Goals as goal
 
