@@ -20,7 +20,7 @@ use Rattle.flag_diacritics.specs.declared.tape.Tape.TheVariants.{Pair as OfPair,
 use Rattle.flag_diacritics.specs.declared.actions.Action.{Action}
 use Rattle.flag_diacritics.specs.declared.idle.Idle.{Idle}
 use Rattle.flag_diacritics.specs.Numbers.{Features, passes_by, number_behind, behind_if, with_upper, with_lower, behind}
-use Rattle.flag_diacritics.specs.Idle.{does_test, does_set, is_idle, Sets, TestsNone, KeepsIdle, upper_action, lower_action, upper_row, lower_row, IsIdleAlong, AreIdle, masked, masked_at, behind_edge, live_behind}
+use Rattle.flag_diacritics.specs.Idle.{does_test, does_set, is_idle, Sets, KeepsIdle, upper_action, lower_action, upper_row, lower_row, IsIdleAlong, AreIdle, masked, masked_at, behind_edge, live_behind}
 use Rattle.flag_diacritics.specs.Search.{IsPlaceBehind}
 use Rattle.flag_diacritics.specs.declared.tables.Place.{Place}
 use Rattle.flag_diacritics.proofs.Passing.{Runs}
@@ -197,21 +197,19 @@ module _ (actions : List Action) (idle : Idle) where
     one_letter (Some (OfPair pair)) up low is = (then, refl, stays up low (same_Some now next is))
     one_letter (Some (UpFlag n)) up low is =
         let r = with_upper_some now (behind_if now.upper (slice_get actions n)) next is in
-        let s = one_action (upper_row idle from) (upper_row idle to) now.upper then.upper agree.upper (slice_get actions n) up r.0 r.1 in
-        (
+        let s = one_action (upper_row idle from) (upper_row idle to) now.upper then.upper agree.upper (slice_get actions n) up r.0 r.1 in (
           record { upper = s.0; lower = then.lower },
           ap (with_upper then) s.1,
           subst (λ (z : Features). AgreeAt idle to z (record { upper = s.0; lower = then.lower })) r.2
-          (record { upper = s.2; lower = agree_on (lower_row idle from) (lower_row idle to) now.lower then.lower agree.lower low }),
+              (record { upper = s.2; lower = agree_on (lower_row idle from) (lower_row idle to) now.lower then.lower agree.lower low }),
         )
     one_letter (Some (LowFlag n)) up low is =
         let r = with_lower_some now (behind_if now.lower (slice_get actions n)) next is in
-        let s = one_action (lower_row idle from) (lower_row idle to) now.lower then.lower agree.lower (slice_get actions n) low r.0 r.1 in
-        (
+        let s = one_action (lower_row idle from) (lower_row idle to) now.lower then.lower agree.lower (slice_get actions n) low r.0 r.1 in (
           record { upper = then.upper; lower = s.0 },
           ap (with_lower then) s.1,
           subst (λ (z : Features). AgreeAt idle to z (record { upper = then.upper; lower = s.0 })) r.2
-          (record { upper = agree_on (upper_row idle from) (upper_row idle to) now.upper then.upper agree.upper up; lower = s.2 }),
+              (record { upper = agree_on (upper_row idle from) (upper_row idle to) now.upper then.upper agree.upper up; lower = s.2 }),
         )
 
   module _ (net : Automaton Tape) (are : AreIdle actions idle net.edges) where
@@ -256,20 +254,6 @@ module _ (actions : List Action) (idle : Idle) (edges : List (Edge Tape)) (i : �
 
   pub idle_all : length edges ≤ i → AreIdle actions idle (take i edges) → AreIdle actions idle edges
   idle_all past h = subst (AreIdle actions idle) (take_all i edges past) h
-
--- where there are no rows
-pub idle_none : (actions : List Action) (idle : Idle) (edges : List (Edge Tape)) → idle.upper.items ≡ [] → idle.lower.items ≡ [] → AreIdle actions idle edges
-idle_none actions idle edges up low e held = record {
-  upper = nothing (upper_action actions e.letter) (upper_row idle e.from) (upper_row idle e.to) (ap (λ rows. slice_index_or (map (λ row. row.items) rows) e.from []) up);
-  lower = nothing (lower_action actions e.letter) (lower_row idle e.from) (lower_row idle e.to) (ap (λ rows. slice_index_or (map (λ row. row.items) rows) e.from []) low);
-}
-  where
-    awake : (o : Option Action) → TestsNone [] o
-    awake None = tt
-    awake (Some a) t = refl
-
-    nothing : (o : Option Action) (before behind : List Bool) → before ≡ [] → KeepsIdle o before behind
-    nothing o before behind none = subst (λ (row : List Bool). KeepsIdle o row behind) (sym none) (record { tests = awake o; stays = λ f idle. absurd (false≢true idle) })
 
 -- the place behind an edge, with its idle features neutral
 module _ (actions : List Action) (idle : Idle) (edge : Edge Tape) (now : Features) where
