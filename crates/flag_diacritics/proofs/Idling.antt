@@ -4,10 +4,10 @@ use Rattle.std.specs.Prelude.{slice_index_or, slice_set}
 use Rattle.std.specs.List.{Contains, slice_get, enumerate_from}
 use Rattle.std.specs.Option.{option_map, option_to_list, unwrap_or}
 use Rattle.std.proofs.lemmas.Bool.{cases_eq, cases_lt, false≢true}
-use Rattle.std.proofs.lemmas.List.{length-map, length-set, get_or_past, take_more, take_all}
+use Rattle.std.proofs.lemmas.List.{length-map, length-set, ext_get_or, take_more, take_all}
 use Rattle.std.proofs.lemmas.List.Elements.{Contains-push_cases}
 use Rattle.std.proofs.lemmas.List.FromFn.{length-enumerate_from, get_or-enumerate_from}
-use Rattle.std.proofs.lemmas.Option.{slice_get_past, slice_get-map, same_Some, slice_get-get_or, unwrap_or-slice_get}
+use Rattle.std.proofs.lemmas.Option.{slice_get_past, slice_get-map, same_Some, slice_get-get_or, get_or_from_slice_get, unwrap_or-slice_get}
 use Rattle.word_relations.proofs.Places.{slice_get-set_same, slice_get-set_other}
 use Rattle.fsa.specs.Automaton.{Automaton}
 use Rattle.fsa.specs.Language.{AcceptsFrom}
@@ -149,24 +149,47 @@ module _ (before behind : List Bool) (xs ys : List (Option ℕ)) (agree : Agree 
       )
 
 -- what features are, with the idle ones neutral
-agree_masked : (row : List Bool) (xs : List (Option ℕ)) → Agree row (masked row xs) xs
-agree_masked row xs =
+masked_get : (row : List Bool) (xs : List (Option ℕ)) (f : ℕ) → f < length xs → slice_get (masked row xs) f ≡ Some (cond (is_idle row f) None (get_or xs f None))
+masked_get row xs f within =
     let v : ℕ × Option ℕ → Option ℕ = λ p. cond (is_idle row p.0) None p.1 in
     let es = enumerate_from 0 xs in
     let long_es : length es ≡ length xs = length-enumerate_from 0 xs in
-    let long : length (masked row xs) ≡ length xs = length-map es v ∙ long_es in
+    let d : Option ℕ = None in
+    let value : Option ℕ = get_or xs f d in
+    let zero : 0 + f ≡ f = omega arith in
+    let at : get_or es f (0, d) ≡ (f, value) = get_or-enumerate_from 0 xs f (0, d) within ∙ ap (λ (k : ℕ). (k, value)) zero in
+    slice_get-map v es f ∙ ap (option_map v) (slice_get-get_or es f (0, d) (omega arith)) ∙ ap (λ (p : ℕ × Option ℕ). Some (v p)) at
+
+masked_long : (row : List Bool) (xs : List (Option ℕ)) → length (masked row xs) ≡ length xs
+masked_long row xs = length-map (enumerate_from 0 xs) (λ p. cond (is_idle row p.0) None p.1) ∙ length-enumerate_from 0 xs
+
+agree_masked : (row : List Bool) (xs : List (Option ℕ)) → Agree row (masked row xs) xs
+agree_masked row xs =
+    let long = masked_long row xs in
     record {
       long = long;
       same = λ f live. elim (cases_lt f (length xs)) [
-        | inl within ↦
-            let d : Option ℕ = None in
-            let value : Option ℕ = get_or xs f d in
-            let zero : 0 + f ≡ f = omega arith in
-            let at : get_or es f (0, d) ≡ (f, value) = get_or-enumerate_from 0 xs f (0, d) within ∙ ap (λ (k : ℕ). (k, value)) zero in
-            slice_get-map v es f ∙ ap (option_map v) (slice_get-get_or es f (0, d) (omega arith)) ∙ ap (λ (p : ℕ × Option ℕ). Some (v p)) at ∙ ap (λ (b : Bool). Some (cond b None value)) live ∙ sym (slice_get-get_or xs f d within)
+        | inl within ↦ masked_get row xs f within ∙ ap (λ (b : Bool). Some (cond b None (get_or xs f None))) live ∙ sym (slice_get-get_or xs f None within)
         | inr past ↦ slice_get_past (masked row xs) f (omega arith) ∙ sym (slice_get_past xs f past)
       ];
     }
+
+-- a list whose idle features are neutral already
+abbrev pub IsNeutral : List Bool → List (Option ℕ) → ℕ → Type 0
+IsNeutral row xs f = is_idle row f ≡ true → slice_index_or xs f None ≡ None
+
+pub masked_same : (row : List Bool) (xs : List (Option ℕ)) (i : ℕ) → length xs ≤ i → ((f : ℕ) → f < i → IsNeutral row xs f) → masked row xs ≡ xs
+masked_same row xs i past neutral =
+    let long = masked_long row xs in
+    ext_get_or None (masked row xs) xs long
+    (λ f below.
+    let within : f < length xs = omega arith in
+    let value : Option ℕ = get_or xs f None in
+    let is : cond (is_idle row f) None value ≡ value = elim (by_bool (is_idle row f)) [
+      | inl idle ↦ ap (λ (b : Bool). cond b None value) idle ∙ sym (neutral f (omega arith) idle)
+      | inr awake ↦ ap (λ (b : Bool). cond b None value) awake
+    ] in
+    get_or_from_slice_get (masked row xs) f (cond (is_idle row f) None value) None (masked_get row xs f within) ∙ is)
 
 -- both sides
 pub record AgreeAt (idle : Idle) (state : ℕ) (now then : Features) : Type 0 where
@@ -235,12 +258,6 @@ module _ (actions : List Action) (idle : Idle) where
 -- the rows are looked at feature by feature
 abbrev pub Stays : Option Action → List Bool → List Bool → ℕ → Type 0
 Stays action before behind f = is_idle before f ≡ true → (is_idle behind f ≡ true) ⊎ Sets action f
-
-pub stays_all : (action : Option Action) (before behind : List Bool) (i : ℕ) → length before ≤ i → ((f : ℕ) → f < i → Stays action before behind f) → (f : ℕ) → Stays action before behind f
-stays_all action before behind i past h f idle = elim (cases_lt f i) [
-  | inl below ↦ h f below idle
-  | inr above ↦ absurd (false≢true (sym (get_or_past before f false (omega arith)) ∙ idle))
-]
 
 -- and edge by edge
 module _ (actions : List Action) (idle : Idle) (edges : List (Edge Tape)) (i : ℕ) where

@@ -281,6 +281,20 @@ pub fn masked(
         .collect(alloc)
 }
 
+/// Whether the idle features are neutral already, so that nothing need be made.
+pub fn is_masked(row: &[bool], now: &[Option<usize>]) -> bool
+    ensures { IsTrue result → masked row.now now.now ≡ now.now }
+{
+    let mut feature = 0;
+    'features: while feature < now.len() {
+        if is_idle(row, feature) && now[feature].is_some() {
+            return false;
+        }
+        feature += 1;
+    }
+    true
+}
+
 /// A value, or none where its feature is idle.
 fn value_if(is_idle: bool, value: Option<usize>) -> Option<usize>
     ensures { result ≡ cond is_idle None value }

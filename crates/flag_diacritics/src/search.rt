@@ -6,7 +6,7 @@ ghost use Rattle.flag_diacritics.specs.Idle.{behind_edge, live_behind, masked};
 ghost use Rattle.flag_diacritics.specs.Search.{Names, Shows, IsPlaceBehind, AddsEdges, IsResolved, letter_for};
 
 use crate::actions::{Action, Actions, behind_action};
-use crate::idle::{Idle, masked, row_at};
+use crate::idle::{Idle, is_masked, masked, row_at};
 use crate::tables::{FeatureTable, Place, PlaceTable};
 use crate::tape::Tape;
 use fsa::{Edge, Fsa};
@@ -180,7 +180,11 @@ fn masked_number(
     if number >= features.len() {
         return Ok(number);
     }
-    let list = masked(alloc, row, features.get(number))?;
+    let now = features.get(number);
+    if is_masked(row, now) {
+        return Ok(number);
+    }
+    let list = masked(alloc, row, now)?;
     features.number_of(list)
 }
 
