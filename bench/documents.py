@@ -1,6 +1,6 @@
 #!/usr/bin/env python3
-"""Copies README.md, docs/FROM-XFST.md and examples/ to where the gate tries the documents' commands, crates/document_rows/data, and writes what
-that program must print. Says what changed: where nothing did, the gate tries what the documents have.
+"""Copies the documents that crates/document_rows/stdin names and examples/ to where the gate tries the documents' commands,
+crates/document_rows/data, and writes what that program must print. Says what changed: where nothing did, the gate tries what the documents have.
 
 usage: bench/documents.py
 """

@@ -37,6 +37,7 @@ BY_HAND = [
     ('Groups with contexts of their own.', 'a b x', 'a -> b || x _ ,, b -> a || _ x', [('down x a b x', 'xbax')]),
     ('A choice for one match contradicts the other.', 'a b', 'a -> b \\/ _ a , b _', [('down a a', 'no text')]),
     ('A result that has the centre again.', 'a b', 'a -> a b', [('down a a', 'abab')]),
+    ('A copied symbol, the two brackets of a replacement, and its symbol on either side.', 'a', 'a -> a', [('marks 1', '5 marks')]),
     ('A result language without words: only words without a match are left.', 'a b', 'a -> .#.', [('down a', 'no text'), ('down b', 'b')]),
 ]
 

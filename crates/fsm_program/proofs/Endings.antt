@@ -10,13 +10,14 @@ use Rattle.project_meaning.specs.Projects.{Project}
 use Rattle.reply_meaning.specs.Replies.{Replies}
 use Rattle.project_sources.specs.Sources.{Said, project_in}
 use Rattle.project_sources.specs.Faults.{rows_so_far}
-use Rattle.project_sources.specs.Laws.{unbuilt as no_readers}
-use Rattle.project_sources.proofs.Once.{one_answer, unbuilt_exact}
-use Rattle.fsm_program.specs.Loaded.{AreNames, IsLoadedFrom, LoadedView}
+use Rattle.project_sources.specs.Laws.{readers_so_far}
+use Rattle.project_sources.proofs.Once.{one_answer, exact_so_far}
+use Rattle.project_store.specs.Loaded.{AreNames, IsLoadedFrom, LoadedView}
 use Rattle.reply_text.specs.Projects.{accepted_line, refused_line}
 use Rattle.fsm_program.specs.Ends.{Ends, Asked, for_check, for_look, for_help, Loads, Query, no_words, helped, refused, folder_failed, no_memory, checked, answered, IsAnswered, IsNotLoaded, IsWhyUnread, usage_text, status_of}
 use Rattle.fsm_program.specs.Outside.{Outside, ReadNothing, WroteNothing, Wrote, FolderFailed, IsSaid}
-use Rattle.fsm_program.specs.Files.{Reads, IsLoaded, IsLoadError, most_read}
+use Rattle.fsm_program.specs.Files.{IsLoaded, IsLoadError, most_read}
+use Rattle.project_store.specs.Projects.{Reads}
 use Rattle.project_sources.specs.Limits.{most_bytes}
 use Rattle.fsm_program.specs.Running.{most_taken}
 use Rattle.fsm_program.specs.declared.load.LoadError.{LoadError}
@@ -71,7 +72,7 @@ ends_answered version query before after status loaded name (said, from, told) i
 -- files say one thing
 one_told : (files : Option Files) (r q : Result Project Fault) → IsTold files (λ fs. Reads fs r) → Told files (λ fs. Reads fs q) → r ≡ q
 one_told None r q told other = absurd told
-one_told (Some fs) r q told other = one_answer no_readers unbuilt_exact fs rows_so_far r q told other
+one_told (Some fs) r q told other = one_answer readers_so_far exact_so_far fs rows_so_far r q told other
 
 same_fault : (a b : Fault) → ◌≡◌ {A = Result Project Fault} (Err a) (Err b) → a ≡ b
 same_fault a b e = cc

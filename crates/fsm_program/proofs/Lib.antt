@@ -1,15 +1,7 @@
-pub mod Trying
 pub mod Endings
 pub mod LastByte
-pub mod Lawful
 pub mod Loading
 pub mod Gathering
-pub mod Named
-pub mod Networks
-pub mod Ordered
-pub mod Parts
 pub mod Runs
 pub mod Sending
-pub mod Shown
-pub mod Spelled
 pub mod Unread

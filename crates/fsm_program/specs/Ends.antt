@@ -12,9 +12,9 @@ use Rattle.lookup_answers.specs.declared.direction.Direction.{Direction}
 use Rattle.lookup_answers.specs.declared.direction.Direction.TheVariants.{Up, Down}
 use Rattle.reply_meaning.specs.Replies.{Replies, line_of}
 use Rattle.reply_meaning.specs.Transcripts.{HasAnswered, WithoutState}
-use Rattle.fsm_program.specs.Loaded.{AreNames}
+use Rattle.project_store.specs.Loaded.{AreNames}
 use Rattle.reply_text.specs.Projects.{accepted_line, refused_line}
-use Rattle.fsm_program.specs.Files.{Reads}
+use Rattle.project_store.specs.Projects.{Reads}
 use Rattle.fsm_program.specs.Outside.{Outside, ReadNothing, WroteNothing, Wrote, FolderFailed, IsSaid}
 use Rattle.fsm_program.specs.declared.load.LoadError.{LoadError}
 use Rattle.fsm_program.specs.declared.load.LoadError.TheVariants.{Failed, Memory, Refused}

@@ -1,23 +1,18 @@
 -- What was read of a folder, and which project its files are.
-use Rattle.std.specs.Prelude.{◌≡◌, ◌+◌, ◌++◌, ℕ, List, [], ◌∷◌, map, take, Option, Some, Result, Ok, Err, ⊤}
+use Rattle.std.specs.Prelude.{◌≡◌, ◌+◌, ◌++◌, ℕ, List, [], ◌∷◌, map, take, Option, Some, Ok, Err, ⊤}
 use Rattle.fsm_io.specs.Causes.{Rose}
 use Rattle.fsm_io.specs.Folders.{Asked, AsksFor, Files, file_of, Told}
-use Rattle.regex_ast.specs.declared.fault.Fault.{Fault}
-use Rattle.project_meaning.specs.Projects.{Project}
 use Rattle.project_manifest.specs.Lines.{Placed, files_in}
 use Rattle.project_manifest.specs.Manifests.{project_name}
 use Rattle.project_sources.specs.Sources.{Said, project_in}
 use Rattle.project_sources.specs.Limits.{most_bytes}
-use Rattle.project_sources.specs.Faults.{SourcesSay, rows_so_far}
-use Rattle.project_sources.specs.Laws.{unbuilt}
 use Rattle.project_model.specs.Answers.{IsManifestFile}
-use Rattle.fsm_program.specs.Loaded.{LoadedView, IsLoadedFrom}
+use Rattle.project_store.specs.Loaded.{LoadedView, IsLoadedFrom}
+use Rattle.project_store.specs.Projects.{Reads}
+use Rattle.project_store.specs.declared.store_error.StoreError.{StoreError}
+use Rattle.project_store.specs.declared.store_error.StoreError.TheVariants as store
 use Rattle.fsm_program.specs.declared.load.LoadError.{LoadError}
 use Rattle.fsm_program.specs.declared.load.LoadError.TheVariants.{Failed, Memory, Refused}
-
--- the project that files are, or their first fault, by the readers and the rows that there are so far
-abbrev pub Reads : Files → Result Project Fault → Type 0
-Reads files answer = SourcesSay unbuilt files rows_so_far answer
 
 -- the most bytes that are read of a file: one more than a file may have
 unfoldable pub most_read : ℕ
@@ -59,6 +54,11 @@ abbrev pub IsLoadError : LoadError → Option Files → ℕ → ℕ → Type 0
 IsLoadError Failed files before now = Rose before now
 IsLoadError (Memory refused) files before now = Unit {0}
 IsLoadError (Refused fault) files before now = Told files (λ files. Reads files (Err fault)) × ¬ (Rose before now)
+
+-- why a project isn't loaded whose sources have none
+abbrev pub load_error : StoreError → LoadError
+load_error (store.Memory refused) = Memory refused
+load_error (store.Refused fault) = Refused fault
 
 -- what was loaded is the project that the files are
 abbrev pub IsLoaded : LoadedView → Option Files → Type 0

@@ -1,16 +1,12 @@
 -- The files of a folder that are read for its project.
-use Rattle.std.specs.Prelude.{◌≡◌, ℕ, List, All, Some, Ok, Err, cond, take}
+use Rattle.std.specs.Prelude.{◌≡◌, ℕ, List, All, Some, cond, take}
 use Rattle.std.specs.Option.{option_map}
 use Rattle.std.specs.Str.{bytes_eq}
 use Rattle.fsm_io.specs.Folders.{Files, file_of}
 use Rattle.project_manifest.specs.Lines.{Placed, files_in}
 use Rattle.project_manifest.specs.Manifests.{project_name}
 use Rattle.project_model.specs.Answers.{IsManifestFile}
-use Rattle.project_sources.specs.Sources.{Said, project_in}
-use Rattle.fsm_program.specs.Files.{Reads, most_read}
-use Rattle.fsm_program.specs.Loaded.{LoadedView, IsLoadedFrom}
-use Rattle.fsm_program.specs.declared.load.LoadError.{LoadError}
-use Rattle.fsm_program.specs.declared.load.LoadError.TheVariants.{Failed, Memory, Refused}
+use Rattle.fsm_program.specs.Files.{most_read}
 
 -- the first bytes of the folder's file of this name were put beside the sources, or it has none and they stay
 abbrev pub HasAdded : List ℕ → ℕ → Files → Files → Files → Type 0
@@ -28,13 +24,3 @@ SourcesDeclare sources lines = (content : List ℕ) × (file_of project_name sou
 pub record IsGathered (sources files : Files) : Type 0 where
   pub manifest : IsSeen sources files project_name
   pub named : (lines : List Placed) → SourcesDeclare sources lines → All (IsSeen sources files) (files_in lines)
-
--- the project that sources are
-abbrev pub IsOfSources : Files → LoadedView → Type 0
-IsOfSources sources loaded = (said : Said) × IsLoadedFrom said loaded × Reads sources (Ok (project_in said))
-
--- the first fault of sources, or want of memory
-abbrev pub IsWhyNot : Files → LoadError → Type 0
-IsWhyNot sources Failed = ⊥
-IsWhyNot sources (Memory refused) = Unit {0}
-IsWhyNot sources (Refused fault) = Reads sources (Err fault)

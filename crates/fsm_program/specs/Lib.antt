@@ -1,5 +1,3 @@
-pub mod Loaded
-pub mod Networks
 pub mod Sending
 pub mod Running
 pub mod Steps
@@ -7,5 +5,3 @@ pub mod Files
 pub mod Gathered
 pub mod Outside
 pub mod Ends
-pub mod Building
-pub mod Centres

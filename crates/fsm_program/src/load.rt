@@ -1,21 +1,16 @@
-ghost use Rattle.std.specs.Prelude.{◌≡◌, ◌≤◌, ℕ, List, All, Contains, None, MatchOption, IfOk, IfErr, OnOk};
-ghost use Rattle.regex_ast.specs.declared.fault.Why.TheVariants as why;
-ghost use Rattle.project_sources.specs.Faults.{fault};
-ghost use Rattle.fsm_program.specs.Centres.{HasNoEmptyCentre, IsCentreError};
+ghost use Rattle.std.specs.Prelude.{◌≡◌, ◌≤◌, ℕ, List, All, Contains, None, MatchOption, IfOk, IfErr};
 ghost use Rattle.fsm_io.specs.Folders.{Finds, HasAsked, Told, file_of};
 ghost use Rattle.fsm_program.specs.Files.{AskedForFiles, AsksForFront, IsLoadError, IsLoaded, IsReadError, most_read};
-ghost use Rattle.fsm_program.specs.Gathered.{HasAdded, IsGathered, IsOfSources, IsSeen, IsWhyNot, SourcesDeclare};
+ghost use Rattle.fsm_program.specs.Gathered.{HasAdded, IsGathered, IsSeen, SourcesDeclare};
 ghost use Rattle.project_manifest.specs.Lines.{Placed};
 ghost use Rattle.project_model.specs.Answers.{IsManifestFile};
 ghost use Rattle.word_relations.specs.Words.{IsDistinct};
 
-use crate::centres::try_centres;
-use crate::project::Project;
-use crate::ready::Ready;
-use fsm_base::{SymbolTable, Text};
+use fsm_base::Text;
 use fsm_io::{Folder, FolderError, Found, rose};
-use project_model::{Definition, Manifest, PlanError, Sources, manifest_of, read_project};
-use regex_ast::{Fault, Why};
+use project_model::{Manifest, PlanError, Sources, manifest_of};
+use project_store::{Ready, StoreError, project_of};
+use regex_ast::Fault;
 use std::alloc::{AllocError, Global};
 use thiserror::Error;
 
@@ -41,6 +36,20 @@ impl From<AllocError> for LoadError {
 
     fn from(refused: AllocError) -> LoadError {
         LoadError::Memory(refused)
+    }
+}
+
+impl From<StoreError> for LoadError {
+    ghost use Rattle.std.specs.Prelude.{◌≡◌};
+    ghost use Rattle.fsm_program.specs.Files.{load_error};
+
+    ghost from_gives = { λ refused error. error ≡ load_error refused };
+
+    fn from(refused: StoreError) -> LoadError {
+        match refused {
+            StoreError::Refused(fault) => LoadError::Refused(fault),
+            StoreError::Memory(error) => LoadError::Memory(error),
+        }
     }
 }
 
@@ -151,44 +160,6 @@ fn gather<F: Folder>(alloc: Global, folder: &mut F, most: usize) -> Result<Sourc
     }
 }
 
-/// The fault of a definition with an empty centre.
-fn empty_centre(definition: &Definition) -> Result<Fault, AllocError>
-    ensures { IfOk result (λ found. found ≡ fault definition.now.file definition.now.line why.EmptyCentre) }
-{
-    Ok(Fault {
-        file: definition.file.clone()?,
-        line: definition.line,
-        why: Why::EmptyCentre,
-    })
-}
-
-/// The project with the networks that tell of its centres, or its fault where a definition has an empty centre.
-fn with_centres(alloc: Global, project: Project) -> Result<Ready, LoadError>
-    ensures same { IfOk result (λ new. new ≡ project) }
-    ensures filled { OnOk result (HasNoEmptyCentre project) }
-    ensures error { IfErr result (IsCentreError project) }
-{
-    let tried = try_centres(alloc, &project)?;
-    let Some(place) = tried.first_empty() else {
-        return Ok(Ready::of(project, tried.built));
-    };
-    let fault = empty_centre(&project.plan().definitions()[place])?;
-    Err(LoadError::Refused(fault))
-}
-
-/// The project of sources.
-fn project_of(alloc: Global, sources: &Sources) -> Result<Ready, LoadError>
-    ensures project { IfOk result (IsOfSources sources.now) }
-    ensures error { IfErr result (IsWhyNot sources.now) }
-{
-    let mut table = SymbolTable::new(alloc);
-    match read_project(alloc, sources, &mut table) {
-        Ok(plan) => with_centres(alloc, Project::of(alloc, plan, &table)?),
-        Err(PlanError::Refused(fault)) => Err(LoadError::Refused(fault)),
-        Err(PlanError::Memory(error)) => Err(LoadError::Memory(error)),
-    }
-}
-
 /// Loads the project of a folder, which has failed too where its count of faults rose and a read went well. At most `most`
 /// bytes of each of its files are read.
 pub fn load<F: Folder>(alloc: Global, folder: &mut F, most: usize) -> Result<Ready, LoadError>
@@ -203,5 +174,5 @@ pub fn load<F: Folder>(alloc: Global, folder: &mut F, most: usize) -> Result<Rea
     if rose(before, folder.faults()) {
         return Err(LoadError::Failed);
     }
-    project_of(alloc, &sources)
+    Ok(project_of(alloc, &sources)?)
 }

@@ -6,13 +6,13 @@ ghost use Rattle.fsm_io.specs.Sinks.{Gathers};
 ghost use Rattle.project_meaning.specs.Projects.{Project};
 ghost use Rattle.reply_meaning.specs.Replies.{Replies, RepliesToWord, headed};
 ghost use Rattle.reply_text.specs.Heads.{head_word};
-ghost use Rattle.fsm_program.specs.Networks.{Shows};
+ghost use Rattle.project_store.specs.Networks.{Shows};
 ghost use Rattle.fsm_program.specs.Sending.{Sends};
 
-use crate::network::Network;
 use fsm_base::nfc;
 use fsm_io::{Failed, Outbox, Sink};
 use lookup_answers::Direction;
+use project_store::Network;
 use reply_meaning::without_return;
 use reply_text::{Head, short};
 use std::alloc::{AllocError, Global};

@@ -4,7 +4,7 @@ ghost use Rattle.fsm_io.specs.Reading.{at_start, size_of};
 ghost use Rattle.fsm_io.specs.Sinks.{Gathers};
 ghost use Rattle.project_meaning.specs.Projects.{Project};
 ghost use Rattle.reply_meaning.specs.Transcripts.{HasAnswered};
-ghost use Rattle.fsm_program.specs.Networks.{Shows};
+ghost use Rattle.project_store.specs.Networks.{Shows};
 ghost use Rattle.fsm_program.specs.Steps.{steps};
 ghost use Rattle.fsm_program.specs.Running.{MayRead, Sofar, Turns, flushed, most_taken};
 

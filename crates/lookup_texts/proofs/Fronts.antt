@@ -3,7 +3,7 @@
 use Rattle.std.proofs.Common.{◌≡◌, ℕ, zero, suc, ◌+◌, ◌<◌, ◌≤◌, ◌⊎◌, ◌↔◌, List, [], ◌∷◌, ◌++◌, Option, None, Some, length, get_or, take, drop, map, option_map, refl, sym, subst, ap, inl, inr, arith, ◌∙◌, option_to_list, length-append}
 use Rattle.std.specs.List.{Contains, slice_get}
 use Rattle.std.proofs.lemmas.List.{append-nil, map-append, length-map, length-take-le, take_all, take_more, take-append-le, take-append-drop}
-use Rattle.std.proofs.lemmas.List.Elements.{Contains-push_cases, Contains-push, Contains-append_left}
+use Rattle.std.proofs.lemmas.List.Elements.{Contains-append_cases, Contains-append_left, Contains-append_right, Contains-push_cases, Contains-push}
 use Rattle.std.proofs.lemmas.Option.{slice_get_within, slice_get-map, slice_get_read, same_Some}
 use Rattle.word_relations.proofs.Members.{Contains-nil_cases, Contains-head}
 use Rattle.word_relations.proofs.Places.{slice_get-append_left, slice_get-append_cases}
@@ -11,10 +11,10 @@ use Rattle.fsa.specs.declared.automaton.Edge.{Edge}
 use Rattle.fsa_explore.specs.Marks.{Marks, Adds}
 use Rattle.fsa_explore.specs.Reaches.{Reaches, IsReached, here, along}
 use Rattle.fsa_explore.specs.Targets.{IsTarget}
-use Rattle.fsa_explore.proofs.Added.{Adds-none, Adds-then}
+use Rattle.fsa_explore.proofs.Added.{Adds-same}
 use Rattle.lookup_graph.specs.Graph.{Connects, IsPath, letters_of, start}
 use Rattle.lookup_graph.proofs.Paths.{connects-append, connects_edge}
-use Rattle.lookup_texts.specs.Walks.{AreFronts, Enters, IsFront, word_of}
+use Rattle.lookup_texts.specs.Walks.{AreFrom, AreFronts, Enters, IsFront, word_of}
 use Rattle.lookup_texts.specs.declared.walk.Byte.{Byte}
 
 module _ {L : Type 0} (edges : List (Edge L)) where
@@ -98,29 +98,37 @@ module _ (edges : List (Edge Byte)) where
     λ (p, h, letters). adds.all q (start, subst (λ ks. Contains ks start) (sym is) (Contains-head start []), epsilon_connects edges start q p h letters),
   )
 
-  -- the nodes that edges with a byte enter, from one node of the front after another
+  -- the edges that leave some nodes, from one node after another
+  module _ (front : List ℕ) where
+    pub from_none : AreFrom edges (take 0 front) []
+    from_none e = (λ h. absurd (Contains-nil_cases e h), λ (held, has). absurd (Contains-nil_cases e.from has))
+
+    pub from_more : (i node : ℕ) (out some : List (Edge Byte)) → i < length front → node ≡ get_or front i node
+        → ((e : Edge Byte) → Contains out e ↔ (Contains edges e × (e.from ≡ node))) → AreFrom edges (take i front) some → AreFrom edges (take (i + 1) front) (some ++ out)
+    from_more i node out some inside at is are e =
+        let more : take (i + 1) front ≡ take i front ++ node ∷ [] = take_more front i node inside ∙ ap (λ y. take i front ++ y ∷ []) (sym at) in (
+          λ h. elim (Contains-append_cases some out e h) [
+            | inl old ↦ let r = (are e).0 old in (r.0, subst (λ ks. Contains ks e.from) (sym more) (Contains-append_left (take i front) (node ∷ []) e.from r.1))
+            | inr new ↦
+                let r = (is e).0 new in
+                (r.0, subst (λ x. Contains (take (i + 1) front) x) (sym r.1) (subst (λ ks. Contains ks node) (sym more) (Contains-push (take i front) node)))
+          ],
+          λ (held, has). elim (Contains-push_cases (take i front) node e.from (subst (λ ks. Contains ks e.from) more has)) [
+            | inl old ↦ Contains-append_left some out e ((are e).1 (held, old))
+            | inr same ↦ Contains-append_right some out e ((is e).1 (held, sym same))
+          ],
+        )
+
+    pub from_all : (i : ℕ) (some : List (Edge Byte)) → length front ≤ i → AreFrom edges (take i front) some → AreFrom edges front some
+    from_all i some past are = subst (λ ks. AreFrom edges ks some) (take_all i front past) are
+
+  -- the nodes that edges with a byte enter
   module _ (front : List ℕ) (byte : ℕ) where
-    pub enters_none : (m : Marks) → Adds m m (Enters edges (take 0 front) byte)
-    enters_none m = Adds-none m (Enters edges (take 0 front) byte) (λ k (e, held, has, letter, to). Contains-nil_cases e.from has)
-
-    pub enters_more : (i node : ℕ) (out : List (Edge Byte)) (a b c : Marks) → i < length front → node ≡ get_or front i node
-        → ((e : Edge Byte) → Contains out e ↔ (Contains edges e × (e.from ≡ node)))
-        → Adds a b (Enters edges (take i front) byte) → Adds b c (IsTarget out (Some (record { 0 = byte }))) → Adds a c (Enters edges (take (i + 1) front) byte)
-    enters_more i node out a b c inside at is first second =
-        let more : take (i + 1) front ≡ take i front ++ node ∷ [] = take_more front i node inside ∙ ap (λ y. take i front ++ y ∷ []) (sym at) in
-        Adds-then a b c (Enters edges (take i front) byte) (IsTarget out (Some (record { 0 = byte }))) (Enters edges (take (i + 1) front) byte)
-        (λ k (e, held, has, letter, to). elim (Contains-push_cases (take i front) node e.from (subst (λ ks. Contains ks e.from) more has)) [
-          | inl old ↦ inl (e, held, old, letter, to)
-          | inr same ↦ inr (e, (is e).1 (held, sym same), letter, to)
-        ])
-        (λ k (e, held, has, letter, to). (e, held, subst (λ ks. Contains ks e.from) (sym more) (Contains-append_left (take i front) (node ∷ []) e.from has), letter, to))
-        (λ k (e, in', letter, to).
-        let r = (is e).0 in' in
-        (e, r.0, subst (λ x. Contains (take (i + 1) front) x) (sym r.1) (subst (λ ks. Contains ks node) (sym more) (Contains-push (take i front) node)), letter, to))
-        first second
-
-    pub enters_all : (i : ℕ) (a b : Marks) → length front ≤ i → Adds a b (Enters edges (take i front) byte) → Adds a b (Enters edges front byte)
-    enters_all i a b past h = subst (λ ks. Adds a b (Enters edges ks byte)) (take_all i front past) h
+    pub enters_from : (leaving : List (Edge Byte)) (a b : Marks) → AreFrom edges front leaving → Adds a b (IsTarget leaving (Some (record { 0 = byte }))) → Adds a b (Enters edges front byte)
+    enters_from leaving a b are h =
+        Adds-same a b (IsTarget leaving (Some (record { 0 = byte }))) (Enters edges front byte)
+        (λ k (e, held, letter, to). let r = (are e).0 held in (e, r.0, r.1, letter, to))
+        (λ k (e, held, has, letter, to). (e, (are e).1 (held, has), letter, to)) h
 
     -- a byte more, and what epsilon edges lead to from there
     pub front_next : (a b c : Marks) → a.found ≡ [] → Adds a b (Enters edges front byte) → Adds b c (IsReached edges b.found)

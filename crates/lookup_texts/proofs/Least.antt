@@ -1,12 +1,12 @@
 -- The least number that passes a test, from a part of the numbers and then from more.
-use Rattle.std.proofs.Common.{◌≡◌, ℕ, ◌+◌, ◌<◌, ◌≤◌, ◌⊎◌, ◌↔◌, List, [], ◌∷◌, ◌++◌, Option, None, Some, length, get_or, take, refl, sym, subst, ap, inl, inr, arith, ◌∙◌}
+use Rattle.std.proofs.Common.{◌≡◌, ℕ, ◌+◌, ◌<◌, ◌≤◌, ◌⊎◌, List, [], ◌∷◌, ◌++◌, Option, None, Some, length, get_or, take, refl, sym, subst, ap, inl, inr, arith, ◌∙◌}
 use Rattle.std.specs.List.{Contains}
 use Rattle.std.proofs.lemmas.List.{take_all, take_more}
 use Rattle.std.proofs.lemmas.List.Elements.{Contains-push_cases, Contains-push, Contains-append_left}
 use Rattle.std.proofs.lemmas.Option.{same_Some}
 use Rattle.word_relations.proofs.Members.{Contains-nil_cases}
 use Rattle.fsa.specs.declared.automaton.Edge.{Edge}
-use Rattle.lookup_texts.specs.Walks.{Carries, Follows, HasByte, IsFront, IsLeast, IsLesser}
+use Rattle.lookup_texts.specs.Walks.{AreFrom, Carries, HasByte, IsLeast, IsLesser}
 use Rattle.lookup_texts.specs.declared.walk.Byte.{Byte}
 
 pub least_none : (P : ℕ → Type 0) → ((k : ℕ) → P k → ⊥) → IsLeast P None
@@ -49,9 +49,6 @@ module _ (floor : ℕ) where
   abbrev pub OnEdges : List (Edge Byte) → ℕ → Type 0
   OnEdges edges byte = (floor ≤ byte) × HasByte edges byte
 
-  abbrev pub OnFront : List (Edge Byte) → List ℕ → ℕ → Type 0
-  OnFront edges front byte = (floor ≤ byte) × Carries edges front byte
-
   pub on_edges_none : (edges : List (Edge Byte)) → IsLeast (OnEdges (take 0 edges)) None
   on_edges_none edges = least_none (OnEdges (take 0 edges)) (λ k h. Contains-nil_cases h.1.0 h.1.1)
 
@@ -71,32 +68,10 @@ module _ (floor : ℕ) where
   pub on_edges_all : (edges : List (Edge Byte)) (i : ℕ) (found : Option ℕ) → length edges ≤ i → IsLeast (OnEdges (take i edges)) found → IsLeast (OnEdges edges) found
   on_edges_all edges i found past l = subst (λ es. IsLeast (OnEdges es) found) (take_all i edges past) l
 
-  module _ (edges : List (Edge Byte)) where
-    pub on_front_none : (front : List ℕ) → IsLeast (OnFront edges (take 0 front)) None
-    on_front_none front = least_none (OnFront edges (take 0 front)) (λ k h. Contains-nil_cases h.1.0.from h.1.2)
-
-    pub on_front_more : (front : List ℕ) (i node : ℕ) (out : List (Edge Byte)) (a b found : Option ℕ) → i < length front → node ≡ get_or front i node
-        → ((e : Edge Byte) → Contains out e ↔ (Contains edges e × (e.from ≡ node))) → IsLesser a b found
-        → IsLeast (OnFront edges (take i front)) a → IsLeast (OnEdges out) b → IsLeast (OnFront edges (take (i + 1) front)) found
-    on_front_more front i node out a b found inside at are is p q =
-        let more : take (i + 1) front ≡ take i front ++ node ∷ [] = take_more front i node inside ∙ ap (λ y. take i front ++ y ∷ []) (sym at) in
-        least_of (OnFront edges (take i front)) (OnEdges out) (OnFront edges (take (i + 1) front))
-        (λ k (low, (f, held, has, letter)). elim (Contains-push_cases (take i front) node f.from (subst (λ ks. Contains ks f.from) more has)) [
-          | inl old ↦ inl (low, (f, held, old, letter))
-          | inr same ↦ inr (low, (f, (are f).1 (held, sym same), letter))
-        ])
-        (λ k (low, (f, held, has, letter)). (low, (f, held, subst (λ ks. Contains ks f.from) (sym more) (Contains-append_left (take i front) (node ∷ []) f.from has), letter)))
-        (λ k (low, (f, in', letter)).
-        let r = (are f).0 in' in
-        (low, (f, r.0, subst (λ x. Contains (take (i + 1) front) x) (sym r.1) (subst (λ ks. Contains ks node) (sym more) (Contains-push (take i front) node)), letter)))
-        a b found is p q
-
-    pub on_front_all : (front : List ℕ) (i : ℕ) (found : Option ℕ) → length front ≤ i → IsLeast (OnFront edges (take i front)) found → IsLeast (OnFront edges front) found
-    on_front_all front i found past l = subst (λ ks. IsLeast (OnFront edges ks) found) (take_all i front past) l
-
-    -- what leaves the nodes that a text leads to may follow it
-    pub on_text : (text front : List ℕ) (found : Option ℕ) → IsFront edges text front → IsLeast (OnFront edges front) found → IsLeast (λ byte. (floor ≤ byte) × Follows edges text byte) found
-    on_text text front found is l =
-        least_same (OnFront edges front) (λ byte. (floor ≤ byte) × Follows edges text byte) found
-        (λ k (low, (e, held, has, letter)). (low, (e, held, letter, (is e.from).0 has)))
-        (λ k (low, (e, held, letter, way)). (low, (e, held, (is e.from).1 way, letter))) l
+  -- what is on the edges that leave the nodes leaves the nodes
+  pub least_from : (edges leaving : List (Edge Byte)) (front : List ℕ) (found : Option ℕ) → AreFrom edges front leaving → IsLeast (OnEdges leaving) found
+      → IsLeast (λ byte. (floor ≤ byte) × Carries edges front byte) found
+  least_from edges leaving front found are l =
+      least_same (OnEdges leaving) (λ byte. (floor ≤ byte) × Carries edges front byte) found
+      (λ k (low, (e, held, letter)). let r = (are e).0 held in (low, (e, r.0, r.1, letter)))
+      (λ k (low, (e, held, has, letter)). (low, (e, (are e).1 (held, has), letter))) l

@@ -42,6 +42,10 @@ Enters edges front byte q =
 abbrev pub Carries : List (Edge Byte) → List ℕ → ℕ → Type 0
 Carries edges front byte = (e : Edge Byte) × Contains edges e × Contains front e.from × (e.letter ≡ Some (record { 0 = byte }))
 
+-- the edges are those that leave one of the nodes
+abbrev pub AreFrom : List (Edge Byte) → List ℕ → List (Edge Byte) → Type 0
+AreFrom edges front leaving = (e : Edge Byte) → Contains leaving e ↔ (Contains edges e × Contains front e.from)
+
 -- one of the edges has the byte
 abbrev pub HasByte : List (Edge Byte) → ℕ → Type 0
 HasByte edges byte = (e : Edge Byte) × Contains edges e × (e.letter ≡ Some (record { 0 = byte }))

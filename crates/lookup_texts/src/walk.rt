@@ -5,7 +5,7 @@ ghost use Rattle.lookup_texts.specs.declared.walk.Byte.{Byte};
 ghost use Rattle.lookup_texts.specs.declared.walk.Leaving.{Leaving};
 ghost use Rattle.lookup_texts.specs.declared.walk.Move.{Move};
 ghost use Rattle.fsa_explore.specs.Targets.{AreWithin};
-ghost use Rattle.lookup_texts.specs.Walks.{AreInOrder, AreLearnt, AreMore, AreMoves, Carries, Follows, HasByte, HasMove, IsFront, IsKnown, IsLeast, IsLesser, IsWalk, LeadsOn, WritesText};
+ghost use Rattle.lookup_texts.specs.Walks.{AreFrom, AreInOrder, AreLearnt, AreMore, AreMoves, Follows, HasByte, HasMove, IsFront, IsKnown, IsLeast, IsLesser, IsWalk, LeadsOn, WritesText};
 
 use fsa::Edge;
 use fsa_explore::{EdgesByState, ListTable, NumberSet, add_targets, close};
@@ -165,22 +165,36 @@ fn first_front(
     Ok(front)
 }
 
-/// The nodes that a text leads to, from those that it leads to without its last byte.
+/// The edges that leave one of some nodes.
+fn edges_from(
+    alloc: Global,
+    rows: &EdgesByState<Byte>,
+    front: &[usize],
+) -> Result<Vec<Edge<Byte>>, AllocError>
+    ensures { IfOk result (λ edges. AreFrom rows.now front.now edges.items) }
+{
+    let mut edges = Vec::new(alloc);
+    'nodes: for node in front {
+        edges.extend_from_slice(rows.out(*node))?;
+    }
+    Ok(edges)
+}
+
+/// The nodes that a text leads to, from the edges that leave those that it leads to without its last byte.
 fn next_front(
     alloc: Global,
     rows: &EdgesByState<Byte>,
     marked: &mut NumberSet,
-    front: &[usize],
+    leaving: &[Edge<Byte>],
     byte: u8,
 ) -> Result<Vec<usize>, AllocError>
-    requires { AreWithin rows.now marked.old.bound }
+    requires within { AreWithin rows.now marked.old.bound }
+    requires leaving { (e : Edge Byte) → Contains leaving.now e → Contains rows.now e }
     ensures bound { OnOk result (marked.new.bound ≡ marked.old.bound) }
-    ensures front { IfOk result (λ next. LeadsOn rows.now front.now byte next.items) }
+    ensures front { IfOk result (λ next. (front : List ℕ) → AreFrom rows.now front leaving.now → LeadsOn rows.now front byte next.items) }
 {
     marked.clear();
-    'nodes: for node in front {
-        add_targets(rows.out(*node), Some(Byte(byte)), marked)?;
-    }
+    add_targets(leaving, Some(Byte(byte)), marked)?;
     close(rows, marked)?;
     let next = Vec::from_slice(alloc, marked.found())?;
     Ok(next)
@@ -260,10 +274,12 @@ fn moves_from(
     ensures more { OnOk result (AreMore sets.old sets.new) }
     ensures moves { IfOk result (λ moves. AreMoves rows.now sets.new front.now moves.items) }
 {
+    let kept = edges_from(alloc, rows, front)?;
+    let leaving = kept.as_slice();
     let mut moves = Vec::new(alloc);
     let mut floor = 0;
-    'bytes: while let Some(byte) = least_from(rows, front, floor) {
-        let next = next_front(alloc, rows, marked, front, byte)?;
+    'bytes: while let Some(byte) = least_on(leaving, floor) {
+        let next = next_front(alloc, rows, marked, leaving, byte)?;
         let to = sets.number_of(alloc, &next)?;
         moves.push(Move { byte, to })?;
         floor = above(byte);
@@ -315,17 +331,6 @@ fn has(nodes: &[usize], node: usize) -> bool
         }
     }
     false
-}
-
-/// The least byte, from a floor on, on the edges that leave one of the nodes.
-fn least_from(rows: &EdgesByState<Byte>, front: &[usize], floor: usize) -> Option<u8>
-    ensures { IsLeast (λ byte. (floor ≤ byte) × Carries rows.now front.now byte) result }
-{
-    let mut least = None;
-    'nodes: for node in front {
-        least = lesser(least, least_on(rows.out(*node), floor));
-    }
-    least
 }
 
 /// The least byte, from a floor on, on the edges.

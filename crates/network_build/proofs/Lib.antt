@@ -1,4 +1,6 @@
+pub mod Bodies
 pub mod Built
 mod Free
+mod Ones
 mod Sounds
 mod Uses

@@ -1,7 +1,7 @@
--- An expression is built over its alphabet and over its own symbols, and which symbols its network has.
+-- A body is built over its alphabet and over its own symbols, and which symbols its network has.
 use Rattle.std.proofs.Common.{◌≡◌, ◌↔◌, ◌⊎◌, ◌==◌, ◌||◌, ℕ, Bool, true, false, List, [], ◌∷◌, All, Contains, IsTrue, Result, Ok, Err, IfOk, refl, sym, subst, ap, ◌∙◌, inl, inr, eq-eqb}
 use Rattle.std.proofs.lemmas.Bool.{eqb-true}
-use Rattle.std.proofs.lemmas.List.Elements.{All-nil, All-contains, All-contains_itself, All-weaker}
+use Rattle.std.proofs.lemmas.List.Elements.{All-nil, All-head, All-contains, All-contains_itself, All-weaker}
 use Rattle.std.proofs.lemmas.Map.Views.{Contains-from_any}
 use Rattle.std.specs.Borrow.{Bor}
 use Rattle.std.specs.List.{list_any}
@@ -22,20 +22,31 @@ use Rattle.regex_ast.specs.declared.expr.Atom.TheVariants.{Sym, Name}
 use Rattle.regex_ast.specs.Terms.{Term}
 use Rattle.expr_kinds.specs.Atoms.{is_symbol_of}
 use Rattle.expr_kinds.specs.Built.{IsBuiltBy}
-use Rattle.expr_meaning.specs.Meaning.{Relates}
+use Rattle.expr_kinds.specs.declared.form.Kind.TheVariants.{Relation}
 use Rattle.expr_meaning.specs.Operators.{inner}
 use Rattle.expr_leaves.specs.Alphabet.{uses_alphabet}
-use Rattle.expr_leaves.specs.Leaves.{leaves_in, seen}
-use Rattle.network_algebra.specs.Networks.{IsNetwork, UsesSymbols, all_letters}
+use Rattle.expr_leaves.specs.Leaves.{seen}
+use Rattle.expr_spelling.proofs.Alphabets.{alphabet_free}
+use Rattle.lexicon_spelling.proofs.Alphabets.{lexicons_free}
+use Rattle.project_meaning.specs.Trees.{Lexicon, Body, xfst, lexc, twolc}
+use Rattle.project_meaning.specs.Leaves.{expressions_of}
+use Rattle.project_meaning.specs.Lexicons.{LexiconsRelate}
+use Rattle.project_sources.specs.Built.{BodyIsBuiltBy}
+use Rattle.project_model.specs.Bodies.{BodyFitsBy, IsFormed}
+use Rattle.network_algebra.specs.Networks.{IsNetwork, PairsOf, UsesSymbols, all_letters, kind_of_network}
 use Rattle.network_algebra.specs.declared.network.Network.{Network}
 use Rattle.network_algebra.specs.declared.network.Network.TheVariants.{Words, Pairs}
 use Rattle.network_rules.specs.Rules.{IsFilled}
 use Rattle.network_expr.specs.Built.{IsBuiltOver, IsMeant}
-use Rattle.network_expr.specs.Parts.{IsGround, is_leaf_of, stands}
+use Rattle.network_expr.specs.Parts.{IsGround, is_leaf_of, kinds, stands}
 use Rattle.network_expr.specs.declared.parts.Part.{Part}
+use Rattle.network_lexicons.specs.Plain.{symbol_in}
 use Rattle.network_centres.proofs.Filled.{filled_built}
-use Rattle.network_build.specs.Networks.{IsNetworkOf, MayUse, PartsUse, UsesSymbol}
-use Rattle.network_build.proofs.Built.{built_alone, built_by, leaves_pass}
+use Rattle.network_centres.proofs.Seen.{filled_over}
+use Rattle.network_build.specs.Made.{IsMade, IsReady}
+use Rattle.network_build.specs.Networks.{BodyHasEmptyCentre, BodyRelates, IsNetworkOf, MayUse, PartsUse, UsesSymbol, body_leaves, body_uses_alphabet}
+use Rattle.network_build.proofs.Bodies.{body_has, body_passes, body_ready, none_uses_it}
+use Rattle.network_build.proofs.Built.{built_by}
 use Rattle.network_build.proofs.Free.{no_centres}
 
 same_number : (a b : Symbol) → (b.0 == a.0) ≡ true → a ≡ b
@@ -64,11 +75,11 @@ letter_is_leaf : (parts : List Part) (alphabet : List Symbol) (a : Atom) → IsT
 letter_is_leaf parts alphabet (Sym s) h = h
 letter_is_leaf parts alphabet (Name name) h = absurd (never h)
 
--- a symbol that stands in an expression that is built is of the alphabet
-stands_within : (parts : List Part) (alphabet : List Symbol) (e : Term Atom) → IsBuiltBy (is_leaf_of parts alphabet) (is_symbol_of alphabet) e → (s : Symbol) → Contains (leaves_in e) (Sym s) → Contains alphabet s
-stands_within parts alphabet e built s at =
-    let alone = built_alone (is_leaf_of parts alphabet) (is_symbol_of alphabet) (letter_is_leaf parts alphabet) e built in
-    symbol_held alphabet s (All-contains (λ (x : Atom). IsTrue (is_leaf_of parts alphabet x)) (leaves_in e) (Sym s) (leaves_pass (is_leaf_of parts alphabet) e alone) at)
+-- a symbol that stands in a body that is built is of the alphabet
+stands_within : (parts : List Part) (alphabet : List Symbol) (body : Body Atom) → BodyIsBuiltBy (is_leaf_of parts alphabet) (is_symbol_of alphabet) body → (s : Symbol) → Contains (body_leaves body) (Sym s) → Contains alphabet s
+stands_within parts alphabet body built s at =
+    let pass = body_passes (is_leaf_of parts alphabet) (is_symbol_of alphabet) (letter_is_leaf parts alphabet) body built in
+    symbol_held alphabet s (All-contains (λ (x : Atom). IsTrue (is_leaf_of parts alphabet x)) (body_leaves body) (Sym s) pass at)
 
 -- a network is over symbols just where those that stand in it are among them
 letter_within : (symbols : List Symbol) (x : Bound Symbol) → ((s : Symbol) → x ≡ Inner s → Contains symbols s) → Contains (all_letters symbols) x
@@ -93,15 +104,15 @@ network_has symbols (Words m) over s used = inner_within symbols s (over (Inner 
 network_has symbols (Pairs m) over s (pair, used, side) =
     elim side as (λ _. Contains symbols s) [ inl up ↦ over.upper s (pair, used, up) | inr low ↦ over.lower s (pair, used, low) ]
 
--- the symbols are those that stand in the expression and in its parts
-abbrev pub AreOwn : List Symbol → Term Atom → List Part → Type 0
-AreOwn own e parts = (s : Symbol) → Contains own s ↔ (Contains (leaves_in e) (Sym s) ⊎ PartsUse parts s)
+-- the symbols are those that stand in the body and in its parts
+abbrev pub AreOwn : List Symbol → Body Atom → List Part → Type 0
+AreOwn own body parts = (s : Symbol) → Contains own s ↔ (Contains (body_leaves body) (Sym s) ⊎ PartsUse parts s)
 
-pub own_by_leaves : (own : List Symbol) (e : Term Atom) (parts : List Part) (given found : List (Bor Atom)) → given ≡ found → seen found ≡ leaves_in e
-    → ((s : Symbol) → Contains own s ↔ (Contains (seen given) (Sym s) ⊎ PartsUse parts s)) → AreOwn own e parts
-own_by_leaves own e parts given found is leaves among s = subst (λ (xs : List Atom). Contains own s ↔ (Contains xs (Sym s) ⊎ PartsUse parts s)) (ap seen is ∙ leaves) (among s)
+pub own_by_leaves : (own : List Symbol) (body : Body Atom) (parts : List Part) (given found : List (Bor Atom)) → given ≡ found → seen found ≡ body_leaves body
+    → ((s : Symbol) → Contains own s ↔ (Contains (seen given) (Sym s) ⊎ PartsUse parts s)) → AreOwn own body parts
+own_by_leaves own body parts given found is leaves among s = subst (λ (xs : List Atom). Contains own s ↔ (Contains xs (Sym s) ⊎ PartsUse parts s)) (ap seen is ∙ leaves) (among s)
 
-module _ (parts : List Part) (alphabet own : List Symbol) (e : Term Atom) (mine : AreOwn own e parts) where
+module _ (parts : List Part) (alphabet own : List Symbol) (body : Body Atom) (mine : AreOwn own body parts) where
   -- the parts are over the own symbols
   pub ground_over_own : IsDistinct own → IsGround alphabet parts → IsGround own parts
   ground_over_own distinct ground = record {
@@ -112,40 +123,72 @@ module _ (parts : List Part) (alphabet own : List Symbol) (e : Term Atom) (mine 
         (λ part among. network_within own part.network.now (λ s used. (mine s).1 (inr (part, among, used)))) parts (All-contains_itself parts);
   }
 
+  -- a symbol of the body is one of its own
+  letter_own : (a : Atom) → Contains (body_leaves body) a → IsTrue (is_symbol_of alphabet a) → IsTrue (is_symbol_of own a)
+  letter_own (Sym s) at h = symbol_passes own s ((mine s).1 (inl at))
+  letter_own (Name name) at h = absurd (never h)
+
+  leaf_own : (a : Atom) → Contains (body_leaves body) a → IsTrue (is_leaf_of parts alphabet a) → IsTrue (is_leaf_of parts own a)
+  leaf_own (Sym s) at h = symbol_passes own s ((mine s).1 (inl at))
+  leaf_own (Name name) at h = h
+
   -- an expression that doesn't use the alphabet has no centre
-  pub built_over_own : uses_alphabet e ≡ false → IsBuiltBy (is_leaf_of parts alphabet) (is_symbol_of alphabet) e → IsBuiltOver parts own e
-  built_over_own free built =
+  expression_own : (e : Term Atom) → Contains (expressions_of body) e → uses_alphabet e ≡ false → IsBuiltBy (is_leaf_of parts alphabet) (is_symbol_of alphabet) e → IsBuiltOver parts own e
+  expression_own e among free built =
       let Filled = IsFilled (stands parts) own in
       filled_built (is_leaf_of parts own) (is_symbol_of own) Filled e
-      (built_by (is_leaf_of parts alphabet) (is_symbol_of alphabet) (is_leaf_of parts own) (is_symbol_of own) e built (leaf, letter))
+      (built_by (is_leaf_of parts alphabet) (is_symbol_of alphabet) (is_leaf_of parts own) (is_symbol_of own) e built (
+        λ a at. leaf_own a (body_has body e among a at),
+        λ a at. letter_own a (body_has body e among a at),
+      ))
       (subst (All Filled) (sym (no_centres e free)) (All-nil Filled))
-    where
-      leaf : (a : Atom) → Contains (leaves_in e) a → IsTrue (is_leaf_of parts alphabet a) → IsTrue (is_leaf_of parts own a)
-      leaf (Sym s) at h = symbol_passes own s ((mine s).1 (inl at))
-      leaf (Name name) at h = h
 
-      letter : (a : Atom) → Contains (leaves_in e) a → IsTrue (is_symbol_of alphabet a) → IsTrue (is_symbol_of own a)
-      letter (Sym s) at h = symbol_passes own s ((mine s).1 (inl at))
-      letter (Name name) at h = absurd (never h)
+  pub ready_over_own : body_uses_alphabet body ≡ false → IsFormed body → BodyFitsBy (kinds parts) body → BodyIsBuiltBy (is_leaf_of parts alphabet) (is_symbol_of alphabet) body → IsReady parts own body
+  ready_over_own free formed fits built =
+      body_ready parts alphabet own body letter_own
+      (λ e among. expression_own e among (All-contains (λ (f : Term Atom). uses_alphabet f ≡ false) (expressions_of body) e (none_uses_it body free) among)) formed fits built
 
   -- the own symbols are of the alphabet
-  pub own_within : IsGround alphabet parts → IsBuiltBy (is_leaf_of parts alphabet) (is_symbol_of alphabet) e → (s : Symbol) → Contains own s → Contains alphabet s
+  pub own_within : IsGround alphabet parts → BodyIsBuiltBy (is_leaf_of parts alphabet) (is_symbol_of alphabet) body → (s : Symbol) → Contains own s → Contains alphabet s
   own_within ground built s at = elim ((mine s).0 at) as (λ _. Contains alphabet s) [
-    | inl stood ↦ stands_within parts alphabet e built s stood
+    | inl stood ↦ stands_within parts alphabet body built s stood
     | inr (part, among, used) ↦ network_has alphabet part.network.now (All-contains (λ (p : Part). IsNetwork alphabet p.network.now) parts part ground.over among) s used
   ]
 
--- the network over given symbols of the alphabet, which means the same over both
-pub network_made : {E : Type 0} (parts : List Part) (alphabet given : List Symbol) (e : Term Atom) (r : Result Network E) → ((s : Symbol) → Contains given s → Contains alphabet s)
-    → ((s : Symbol) → Contains given s → MayUse parts alphabet e s) → AreSame (Relates (stands parts) given e) (Relates (stands parts) alphabet e)
-    → IfOk r (IsNetwork given) → IfOk r (IsMeant parts given e) → IfOk r (IsNetworkOf parts alphabet e)
-network_made parts alphabet given e (Err error) within may same over meant = over
-network_made parts alphabet given e (Ok n) within may same over meant = record {
-  kind = meant.kind_is;
-  relation = λ u w. (λ r. (same u w).0 ((meant.pairs u w).0 r), λ r. (meant.pairs u w).1 ((same u w).1 r));
-  symbols = λ s used. may s (network_has given n over s used);
-  over = network_within alphabet n (λ s used. within s (network_has given n over s used));
+-- a body without an empty centre can be built over the alphabet
+pub ready_over_alphabet : (parts : List Part) (alphabet : List Symbol) (body : Body Atom) → (BodyHasEmptyCentre parts alphabet body → ⊥) → IsFormed body → BodyFitsBy (kinds parts) body
+    → BodyIsBuiltBy (is_leaf_of parts alphabet) (is_symbol_of alphabet) body → IsReady parts alphabet body
+ready_over_alphabet parts alphabet body filled formed fits built =
+    body_ready parts alphabet alphabet body (λ a at h. h) (λ e among h. filled_over parts alphabet e h (λ empty. filled (e, among, empty))) formed fits built
+
+-- a body that doesn't use the alphabet relates the same over every one
+pub body_free : (parts : List Part) (alphabet other : List Symbol) (body : Body Atom) → body_uses_alphabet body ≡ false → AreSame (BodyRelates parts alphabet body) (BodyRelates parts other body)
+body_free parts alphabet other (xfst e) free =
+    (alphabet_free (stands parts) alphabet other e (All-head (λ (f : Term Atom). uses_alphabet f ≡ false) e [] (none_uses_it (xfst e) free))).1
+body_free parts alphabet other (lexc lexicons) free = lexicons_free symbol_in (stands parts) alphabet other lexicons (none_uses_it (lexc lexicons) free)
+body_free parts alphabet other (twolc grammar) free = λ u w. (λ r. r, λ r. r)
+
+-- the network over given symbols of the alphabet, where the body relates the same over both
+pub network_made : {E : Type 0} (parts : List Part) (alphabet given : List Symbol) (body : Body Atom) (r : Result Network E) → ((s : Symbol) → Contains given s → Contains alphabet s)
+    → ((s : Symbol) → Contains given s → MayUse parts alphabet body s) → AreSame (BodyRelates parts given body) (BodyRelates parts alphabet body)
+    → IfOk r (IsMade parts given body) → IfOk r (IsNetworkOf parts alphabet body)
+network_made parts alphabet given body (Err error) within may same made = made
+network_made parts alphabet given body (Ok n) within may same made = record {
+  kind = made.kind;
+  relation = λ u w. (λ r. (same u w).0 ((made.relation u w).0 r), λ r. (made.relation u w).1 ((same u w).1 r));
+  symbols = λ s used. may s (network_has given n made.over s used);
+  over = network_within alphabet n (λ s used. within s (network_has given n made.over s used));
 }
+
+-- what is made of an expression, and of lexicons
+pub expression_made : {E : Type 0} (parts : List Part) (symbols : List Symbol) (e : Term Atom) (r : Result Network E) → IfOk r (IsNetwork symbols) → IfOk r (IsMeant parts symbols e) → IfOk r (IsMade parts symbols (xfst e))
+expression_made parts symbols e (Err error) over meant = over
+expression_made parts symbols e (Ok n) over meant = record { over = over; kind = meant.kind_is; relation = meant.pairs }
+
+pub lexicons_made : {E : Type 0} (parts : List Part) (symbols : List Symbol) (lexicons : List (Lexicon Atom)) (r : Result Network E) → IfOk r (IsNetwork symbols) → IfOk r (λ n. kind_of_network n ≡ Relation)
+    → IfOk r (λ n. AreSame (PairsOf n) (LexiconsRelate symbol_in (stands parts) symbols lexicons)) → IfOk r (IsMade parts symbols (lexc lexicons))
+lexicons_made parts symbols lexicons (Err error) over kind relation = over
+lexicons_made parts symbols lexicons (Ok n) over kind relation = record { over = over; kind = kind; relation = relation }
 
 -- an automaton of the same language, with no other letters
 pub same_relation : (m n : Automaton Pair) (R : List Symbol → List Symbol → Type 0) → ((w : List Pair) → Accepts n w ↔ Accepts m w) → AreSame (IsRelated m) R → AreSame (IsRelated n) R

@@ -1,5 +1,6 @@
 -- The network of a definition, and which symbols stand in it.
-use Rattle.std.specs.Prelude.{◌≡◌, ◌⊎◌, true, List, Some, Contains}
+use Rattle.std.specs.Prelude.{◌≡◌, ◌⊎◌, ◌++◌, Bool, IsTrue, List, [], Some, Contains}
+use Rattle.std.specs.List.{flat_map, list_any}
 use Rattle.fsm_base.specs.declared.letters.Bound.TheVariants.{Inner}
 use Rattle.fsm_base.specs.declared.letters.Sym.{Sym as Symbol}
 use Rattle.fsm_base.specs.declared.letters.Pair.{Pair}
@@ -8,17 +9,21 @@ use Rattle.fsa.specs.Automaton.{Automaton, UsesLetter}
 use Rattle.regex_ast.specs.declared.expr.Atom.{Atom}
 use Rattle.regex_ast.specs.declared.expr.Atom.TheVariants.{Sym}
 use Rattle.regex_ast.specs.Terms.{Term}
-use Rattle.expr_kinds.specs.Kinds.{kind_of}
 use Rattle.expr_meaning.specs.Meaning.{Relates}
 use Rattle.expr_leaves.specs.Alphabet.{uses_alphabet}
 use Rattle.expr_leaves.specs.Leaves.{leaves_in}
+use Rattle.project_meaning.specs.Trees.{Form, sides, pairs, Body, xfst, lexc, twolc}
+use Rattle.project_meaning.specs.Leaves.{expressions_of, forms_in}
+use Rattle.project_meaning.specs.Lexicons.{LexiconsRelate, letters_of}
 use Rattle.network_algebra.specs.Networks.{IsNetwork, PairsOf, kind_of_network}
 use Rattle.network_algebra.specs.declared.network.Network.{Network}
 use Rattle.network_algebra.specs.declared.network.Network.TheVariants.{Words, Pairs}
 use Rattle.network_centres.specs.Centres.{HasEmptyCentre}
 use Rattle.network_expr.specs.Parts.{kinds, stands}
 use Rattle.network_expr.specs.declared.parts.Part.{Part}
-use Rattle.project_model.specs.Plans.{body_term}
+use Rattle.network_lexicons.specs.Plain.{symbol_in}
+use Rattle.project_model.specs.Bodies.{kind_of_body}
+use Rattle.project_model.specs.Plain.{body_of}
 use Rattle.project_model.specs.declared.definition.Definition.{Definition}
 use Rattle.network_build.specs.declared.compiled.BuildError.{BuildError}
 use Rattle.network_build.specs.declared.compiled.BuildError.TheVariants.{Memory, EmptyCentre}
@@ -40,19 +45,43 @@ UsesSymbol (Pairs m) s = (pair : Pair) × UsesLetter m pair × IsOn pair s
 abbrev pub PartsUse : List Part → Symbol → Type 0
 PartsUse parts s = (part : Part) × Contains parts part × UsesSymbol part.network.now s
 
--- the symbol stands in the expression, in a part, or, where the expression uses the alphabet, in the alphabet
-abbrev pub MayUse : List Part → List Symbol → Term Atom → Symbol → Type 0
-MayUse parts alphabet e s = (Contains (leaves_in e) (Sym s) ⊎ PartsUse parts s) ⊎ ((uses_alphabet e ≡ true) × Contains alphabet s)
+-- the leaves that stand in a form, those of the upper side first, and in a body. Grammars aren't built yet
+abbrev pub form_leaves : Form Atom → List Atom
+form_leaves (sides upper lower) = flat_map letters_of upper ++ flat_map letters_of lower
+form_leaves (pairs e) = leaves_in e
 
--- the network is of the kind of the expression, relates what this relates over the alphabet, and has such symbols alone, which are of the
+abbrev pub body_leaves : Body Atom → List Atom
+body_leaves (xfst e) = leaves_in e
+body_leaves (lexc lexicons) = flat_map form_leaves (forms_in lexicons)
+body_leaves (twolc grammar) = []
+
+-- an expression of the body uses the alphabet
+abbrev pub body_uses_alphabet : Body Atom → Bool
+body_uses_alphabet body = list_any (λ e. uses_alphabet e) (expressions_of body)
+
+-- the symbol stands in the body, in a part, or, where an expression of the body uses the alphabet, in the alphabet
+abbrev pub MayUse : List Part → List Symbol → Body Atom → Symbol → Type 0
+MayUse parts alphabet body s = (Contains (body_leaves body) (Sym s) ⊎ PartsUse parts s) ⊎ (IsTrue (body_uses_alphabet body) × Contains alphabet s)
+
+-- what the body relates over the alphabet, where each name relates what its part does
+abbrev pub BodyRelates : List Part → List Symbol → Body Atom → List Symbol → List Symbol → Type 0
+BodyRelates parts alphabet (xfst e) u w = Relates (stands parts) alphabet e u w
+BodyRelates parts alphabet (lexc lexicons) u w = LexiconsRelate symbol_in (stands parts) alphabet lexicons u w
+BodyRelates parts alphabet (twolc grammar) u w = ⊥
+
+-- the network is of the kind of the body, relates what this relates over the alphabet, and has such symbols alone, which are of the
 -- alphabet
-pub record IsNetworkOf (parts : List Part) (alphabet : List Symbol) (e : Term Atom) (n : Network) : Type 0 where
-  pub kind : kind_of_network n ≡ kind_of (kinds parts) e
-  pub relation : AreSame (PairsOf n) (Relates (stands parts) alphabet e)
-  pub symbols : (s : Symbol) → UsesSymbol n s → MayUse parts alphabet e s
+pub record IsNetworkOf (parts : List Part) (alphabet : List Symbol) (body : Body Atom) (n : Network) : Type 0 where
+  pub kind : kind_of_network n ≡ kind_of_body (kinds parts) body
+  pub relation : AreSame (PairsOf n) (BodyRelates parts alphabet body)
+  pub symbols : (s : Symbol) → UsesSymbol n s → MayUse parts alphabet body s
   pub over : IsNetwork alphabet n
+
+-- one of the centres in an expression of the body has the empty word
+abbrev pub BodyHasEmptyCentre : List Part → List Symbol → Body Atom → Type 0
+BodyHasEmptyCentre parts alphabet body = (e : Term Atom) × Contains (expressions_of body) e × HasEmptyCentre parts alphabet e
 
 -- one of the definition's own centres has the empty word, or there is no memory
 abbrev pub IsWhyNotBuilt : List Part → List Symbol → Definition → BuildError → Type 0
 IsWhyNotBuilt parts alphabet d (Memory refused) = Unit {0}
-IsWhyNotBuilt parts alphabet d (EmptyCentre line) = (line ≡ d.line) × HasEmptyCentre parts alphabet (body_term d.body)
+IsWhyNotBuilt parts alphabet d (EmptyCentre line) = (line ≡ d.line) × BodyHasEmptyCentre parts alphabet (body_of d.body)

@@ -4,15 +4,18 @@
 //!   its [`Part`]s.
 //! - [`BuildError`]: why there is none.
 //! - [`Compiled`]: such a network, ready for look-ups.
+//! - [`body_expressions`], [`body_leaves`]: the expressions and the leaves that stand in a definition.
 #![tactic(auto)]
 
+mod body;
 mod compiled;
-mod expression;
+mod listing;
 mod network;
 mod straight;
 mod symbols;
 
 pub use compiled::{BuildError, Compiled};
+pub use listing::{body_expressions, body_leaves};
 pub use network::build;
 pub use network_algebra::Network;
 pub use network_expr::Part;

@@ -13,7 +13,7 @@ use std::alloc::{AllocError, Global};
 const STEPS_FOR_AN_EDGE: usize = 16;
 
 /// How many steps may be taken at least, so that each small transducer is made deterministic.
-const STEPS: usize = 65_536;
+const STEPS: usize = 262_144;
 
 /// How many edges more than twice as many there may be.
 const EDGES_MORE: usize = 1_024;

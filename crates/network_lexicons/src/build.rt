@@ -9,7 +9,9 @@ ghost use Rattle.network_lexicons.specs.Built.{AreBuilt};
 ghost use Rattle.network_lexicons.specs.Plain.{lexicon_of, names_of, symbol_in};
 
 use crate::entries::lexicons_of;
+use crate::flags::Flags;
 use crate::names::Names;
+use crate::small::small;
 use flag_diacritics::resolve;
 use fsm_base::Sym;
 use lexc_compile::lexicon;
@@ -19,8 +21,8 @@ use regex_ast::{Atom, Lexicon};
 use std::alloc::{AllocError, Global};
 
 /// The network of lexicons: the two sides of each path from the lexicon `Root` on which the flags of each side pass by
-/// themselves, without these flags. It is made of one automaton of all entries, each of which is built once, and it is
-/// reduced once.
+/// themselves, without these flags. It is made of one automaton of all entries, each of which is built once. That is made
+/// small before its flags are resolved, and reduced once behind that.
 pub fn network_of_lexicons(
     alloc: Global,
     alphabet: &[Sym],
@@ -39,9 +41,10 @@ pub fn network_of_lexicons(
     let Some(root) = names.place_of("Root") else {
         unreachable!()
     };
-    let mut flags = Vec::new(alloc);
+    let mut flags = Flags::new(alloc);
     let entries = lexicons_of(alloc, alphabet, parts, &names, lexicons, &mut flags)?;
-    let tapes = lexicon(alloc, &entries, root)?;
-    let pairs = resolve(alloc, &tapes, &flags)?;
+    let whole = lexicon(alloc, &entries, root)?;
+    let tapes = small(alloc, &whole)?;
+    let pairs = resolve(alloc, &tapes, flags.as_slice())?;
     reduced(alloc, &Network::Pairs(pairs))
 }

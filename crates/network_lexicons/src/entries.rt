@@ -5,12 +5,13 @@ ghost use Rattle.network_lexicons.specs.Built.{AreBuilt, EntriesAreBuilt};
 ghost use Rattle.network_lexicons.specs.Entries.{AreEntriesFor, AreLexiconsFor};
 ghost use Rattle.network_lexicons.specs.Plain.{entry_of, lexicon_of};
 
+use crate::flags::Flags;
 use crate::names::Names;
 use crate::nets::net_of;
 use fsm_base::Sym;
 use lexc_compile::LexEntry;
 use network_expr::Part;
-use regex_ast::{Atom, Entry, FlagOp, Lexicon};
+use regex_ast::{Atom, Entry, Lexicon};
 use std::alloc::{AllocError, Global};
 
 /// The entries of a lexicon, each by the automaton of its tapes. An entry that names no lexicon is on no path, and left out.
@@ -20,12 +21,12 @@ fn entries_of(
     parts: &[Part],
     names: &Names,
     entries: &[Entry<Atom>],
-    flags: &mut Vec<FlagOp>,
+    flags: &mut Flags,
 ) -> Result<Vec<LexEntry>, AllocError>
     requires ground { IsGround alphabet.now parts.now }
     requires built { EntriesAreBuilt parts.now alphabet.now (map entry_of entries.now) }
-    ensures kept { OnOk result (Keeps flags.old.items flags.new.items) }
-    ensures entries { IfOk result (λ built. AreEntriesFor parts.now alphabet.now names.now flags.new.items (map entry_of entries.now) built.items) }
+    ensures kept { OnOk result (Keeps flags.old flags.new) }
+    ensures entries { IfOk result (λ built. AreEntriesFor parts.now alphabet.now names.now flags.new (map entry_of entries.now) built.items) }
 {
     let mut built = Vec::new(alloc);
     'entries: for entry in entries {
@@ -44,12 +45,12 @@ pub fn lexicons_of(
     parts: &[Part],
     names: &Names,
     lexicons: &[Lexicon<Atom>],
-    flags: &mut Vec<FlagOp>,
+    flags: &mut Flags,
 ) -> Result<Vec<Vec<LexEntry>>, AllocError>
     requires ground { IsGround alphabet.now parts.now }
     requires built { AreBuilt parts.now alphabet.now (map lexicon_of lexicons.now) }
-    ensures kept { OnOk result (Keeps flags.old.items flags.new.items) }
-    ensures lexicons { IfOk result (λ built. AreLexiconsFor parts.now alphabet.now names.now flags.new.items (map lexicon_of lexicons.now) (map (λ entries. entries.items) built.items)) }
+    ensures kept { OnOk result (Keeps flags.old flags.new) }
+    ensures lexicons { IfOk result (λ built. AreLexiconsFor parts.now alphabet.now names.now flags.new (map lexicon_of lexicons.now) (map (λ entries. entries.items) built.items)) }
 {
     let mut built = Vec::new(alloc);
     'lexicons: for lexicon in lexicons {

@@ -5,6 +5,7 @@ ghost use Rattle.flag_diacritics.specs.Tapes.{flag_of};
 ghost use Rattle.network_lexicons.specs.Plain.{symbol_in};
 ghost use Rattle.network_lexicons.specs.Sides.{HasSides, IsFirst, first_flag, first_symbol};
 
+use crate::flags::Flags;
 use flag_diacritics::Tape;
 use fsm_base::{Pair, Sym};
 use regex_ast::{Atom, FlagOp, Piece};
@@ -22,15 +23,15 @@ pub struct First {
 }
 
 /// The tape of two sides: their symbols in pairs, from the left, as far as both have some, and each flag alone on its
-/// side. Flags get the next numbers of a list, and are put behind the others there.
+/// side. Flags get their numbers in a list, and new ones are put behind the others there.
 pub fn tape_of(
     alloc: Global,
     upper: &[Piece<Atom>],
     lower: &[Piece<Atom>],
-    flags: &mut Vec<FlagOp>,
+    flags: &mut Flags,
 ) -> Result<Vec<Tape>, AllocError>
-    ensures kept { OnOk result (Keeps flags.old.items flags.new.items) }
-    ensures sides { IfOk result (λ tape. HasSides flags.new.items upper.now lower.now tape.items) }
+    ensures kept { OnOk result (Keeps flags.old flags.new) }
+    ensures sides { IfOk result (λ tape. HasSides flags.new upper.now lower.now tape.items) }
 {
     let mut tape = Vec::new(alloc);
     let mut above = upper;
@@ -55,22 +56,22 @@ fn are_empty(upper: &[Piece<Atom>], lower: &[Piece<Atom>]) -> bool
 fn first_letter(
     upper: &[Piece<Atom>],
     lower: &[Piece<Atom>],
-    flags: &mut Vec<FlagOp>,
+    flags: &mut Flags,
 ) -> Result<First, AllocError>
     requires { (upper.now ≡ []) × (lower.now ≡ []) → ⊥ }
-    ensures kept { OnOk result (Keeps flags.old.items flags.new.items) }
-    ensures first { IfOk result (IsFirst flags.new.items upper.now lower.now) }
+    ensures kept { OnOk result (Keeps flags.old flags.new) }
+    ensures first { IfOk result (IsFirst flags.new upper.now lower.now) }
 {
     if let Some(flag) = first_flag(upper) {
         return Ok(First {
-            letter: Tape::UpFlag(add_flag(flag, flags)?),
+            letter: Tape::UpFlag(flags.number_of(flag)?),
             upper: 1,
             lower: 0,
         });
     }
     if let Some(flag) = first_flag(lower) {
         return Ok(First {
-            letter: Tape::LowFlag(add_flag(flag, flags)?),
+            letter: Tape::LowFlag(flags.number_of(flag)?),
             upper: 0,
             lower: 1,
         });
@@ -113,31 +114,4 @@ fn symbol_of(leaf: Atom) -> Sym
         Atom::Sym(symbol) => symbol,
         Atom::Name(name) => Sym(name),
     }
-}
-
-/// Puts a copy of a flag behind the others, and gives its number. Of more than 2^32 flags there is no memory for the numbers.
-fn add_flag(flag: &FlagOp, flags: &mut Vec<FlagOp>) -> Result<u32, AllocError>
-    ensures kept { OnOk result (Keeps flags.old.items flags.new.items) }
-    ensures number { IfOk result (λ n. (f : FlagOp) × (slice_get flags.new.items n ≡ Some f) × (flag_of f ≡ flag_of flag.now)) }
-{
-    let Ok(number) = u32::try_from(flags.len()) else {
-        return Err(AllocError);
-    };
-    flags.push(copy_of(flag)?)?;
-    Ok(number)
-}
-
-/// A copy of a flag.
-fn copy_of(flag: &FlagOp) -> Result<FlagOp, AllocError>
-    ensures { IfOk result (λ copy. flag_of copy ≡ flag_of flag.now) }
-{
-    let value = match &flag.value {
-        Some(value) => Some(value.clone()?),
-        None => None,
-    };
-    Ok(FlagOp {
-        kind: flag.kind,
-        feature: flag.feature.clone()?,
-        value,
-    })
 }

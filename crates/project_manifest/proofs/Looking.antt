@@ -1,12 +1,11 @@
 -- A loop over a list, of which the item at this place is looked at.
-use Rattle.std.proofs.Common.{◌≡◌, ◌⊎◌, ◌+◌, ◌<◌, ℕ, Bool, true, false, List, [], ◌∷◌, ◌++◌, length, map, take, drop, get_or, refl, sym, ap, subst, ◌∙◌, inl, inr}
+use Rattle.std.proofs.Common.{◌≡◌, ◌+◌, ◌<◌, ℕ, true, false, List, [], ◌∷◌, ◌++◌, length, map, take, drop, get_or, sym, ap, subst, ◌∙◌, inl, inr}
 use Rattle.std.proofs.lemmas.List.{map-append, take-append-drop, take_more}
 use Rattle.std.proofs.lemmas.List.Elements.{Contains-append_right, Contains-push_cases}
 use Rattle.std.specs.List.{Contains}
-use Rattle.std.specs.Prelude.{IsTrue}
 use Rattle.word_relations.proofs.Behind.{left_behind}
 use Rattle.word_relations.proofs.Members.{Contains-head, Contains-nil_cases}
-use Rattle.project_manifest.specs.Lines.{Line, NamesAgain, NamesTooMany, Placed, file_in, files_in, is_gloss, most_files}
+use Rattle.project_manifest.specs.Lines.{Line, NamesAgain, Placed, file_in, files_in, is_gloss}
 use Rattle.project_manifest.specs.Reading.{HaveGlosses}
 use Rattle.project_manifest.specs.Sayings.{line_of, placed_of}
 use Rattle.project_manifest.specs.declared.manifest.ManifestLine.{ManifestLine}

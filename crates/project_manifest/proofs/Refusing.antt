@@ -1,14 +1,14 @@
 -- Faults of a line behind others, and of lines one after another.
-use Rattle.std.proofs.Common.{◌≡◌, ◌⊎◌, ◌+◌, ◌<◌, ◌≤◌, ℕ, Bool, true, false, List, [], ◌∷◌, ◌++◌, length, map, take, drop, get_or, Some, refl, sym, ap, subst, ◌∙◌, inl, inr, arith}
-use Rattle.std.specs.Prelude.{IsTrue, Contains}
-use Rattle.std.proofs.lemmas.List.{map-append, take-append-drop, take_more, take_all}
+use Rattle.std.proofs.Common.{◌≡◌, ◌+◌, ◌<◌, ℕ, true, false, List, [], ◌∷◌, ◌++◌, length, map, take, drop, get_or, refl, sym, ap, subst, ◌∙◌, inl, inr}
+use Rattle.std.specs.Prelude.{IsTrue}
+use Rattle.std.proofs.lemmas.List.{map-append, take-append-drop, take_more}
 use Rattle.std.proofs.lemmas.Grind.{flat_map-append}
 use Rattle.word_relations.proofs.Behind.{left_behind}
 use Rattle.regex_ast.specs.declared.fault.ReadError.{ReadError}
 use Rattle.regex_ast.specs.declared.fault.ReadError.TheVariants.{Fault, Memory}
 use Rattle.regex_ast.specs.declared.fault.Why.TheVariants as why
 use Rattle.regex_reader.specs.Files.{FaultAt}
-use Rattle.project_manifest.specs.Lines.{Line, LineFault, LineRow, NamesAgain, NamesTooMany, Placed, SaysLine, SaysSome, SayingsFault, fault_at, file_in, is_unread, line_in, line_rows_so_far, lines_in, many_files, named_again, no_line, not_read, placed_in}
+use Rattle.project_manifest.specs.Lines.{Line, LineFault, NamesAgain, NamesTooMany, Placed, SaysLine, SaysSome, SayingsFault, fault_at, is_unread, line_in, line_rows_so_far, lines_in, many_files, named_again, no_line, not_read, placed_in}
 use Rattle.project_manifest.specs.Manifests.{Saying, statements_in}
 use Rattle.project_manifest.specs.Reading.{IsFaultless, IsLineError, IsManifestError}
 use Rattle.project_manifest.specs.Rows.{At, First, HaveNone, places, places_from}

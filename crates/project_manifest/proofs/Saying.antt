@@ -1,11 +1,11 @@
 -- What the words of a line say, by its keyword.
-use Rattle.std.proofs.Common.{◌≡◌, ◌==◌, ℕ, Bool, true, false, List, [], ◌∷◌, length, map, Vec, Global, Option, Some, None, MatchOption, refl, sym, ap, subst, ◌∙◌, arith}
+use Rattle.std.proofs.Common.{◌≡◌, ℕ, List, [], ◌∷◌, map, Option, Some, None, refl, sym, ap, subst, ◌∙◌}
 use Rattle.std.specs.List.{list_all}
 use Rattle.std.specs.Prelude.{IsTrue}
 use Rattle.regex_reader.specs.Files.{is_name}
-use Rattle.project_manifest.specs.Lines.{IsFine, Line, SaysLine, alphabet_line, gloss_line, keyword_of, lexc_line, line_in, require_line, said_behind, said_by, twolc_line, xfst_line}
-use Rattle.project_manifest.specs.Manifests.{is_symbol_word, text_of}
-use Rattle.project_manifest.specs.Sayings.{AreNames, AreSymbols, IsFile, IsNamedFile, SaysBy, as_written}
+use Rattle.project_manifest.specs.Lines.{IsFine, Line, SaysLine, alphabet_line, gloss_line, keyword_of, lexc_line, line_in, require_line, said_behind, twolc_line, xfst_line}
+use Rattle.project_manifest.specs.Manifests.{text_of}
+use Rattle.project_manifest.specs.Sayings.{AreNames, AreSymbols, IsFile, IsNamedFile, SaysBy}
 use Rattle.project_manifest.specs.declared.keywords.Keyword.{Keyword}
 use Rattle.project_manifest.specs.declared.keywords.Keyword.TheVariants.{Lexc, Twolc, Xfst, Alphabet, Require, Gloss}
 

@@ -1,6 +1,6 @@
 -- The lines of a manifest, one statement each: that a name is a lexc or twolc file's relation, that a file has definitions, which
 -- symbols there are besides, which names must be defined, or which file has the glosses; and the faults of a line.
-use Rattle.std.specs.Prelude.{◌≡◌, ◌≢◌, ◌<◌, ◌≤◌, ◌⊎◌, ℕ, Bool, true, false, List, [], ◌∷◌, length, map, Contains, IsTrue, codes, Option, None, Some, if◌then◌else◌}
+use Rattle.std.specs.Prelude.{◌≡◌, ◌≢◌, ◌≤◌, ◌⊎◌, ℕ, Bool, true, false, List, [], ◌∷◌, length, map, Contains, IsTrue, codes, Option, None, Some, if◌then◌else◌}
 use Rattle.std.specs.List.{flat_map, list_all}
 use Rattle.std.specs.Str.{bytes_eq}
 use Rattle.regex_ast.specs.declared.fault.Why.{Why}
@@ -87,9 +87,8 @@ abbrev pub is_gloss : Line → Bool
 is_gloss (gloss_line file) = true
 is_gloss _ = false
 
--- a line that isn't read yet: it names a lexicon, a grammar or glosses
+-- a line that isn't read yet: it names a grammar or glosses
 abbrev pub is_unread : Line → Bool
-is_unread (lexc_line name file) = true
 is_unread (twolc_line name file) = true
 is_unread (gloss_line file) = true
 is_unread _ = false

@@ -1,5 +1,5 @@
 -- What is read of a manifest: its lines, or its first fault.
-use Rattle.std.specs.Prelude.{◌≡◌, ◌≢◌, ⊤, ℕ, List, All, Contains, IsTrue}
+use Rattle.std.specs.Prelude.{◌≢◌, ⊤, ℕ, List, All, Contains, IsTrue}
 use Rattle.fsm_base.specs.Symbols.{IsSymbol}
 use Rattle.word_relations.specs.Words.{IsDistinct}
 use Rattle.regex_ast.specs.declared.fault.ReadError.{ReadError}

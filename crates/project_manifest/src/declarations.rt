@@ -88,12 +88,11 @@ impl Declaration {
         }
     }
 
-    /// Whether its file isn't read yet: it is a lexicon, a grammar or the table of glosses.
+    /// Whether its file isn't read yet: it is a grammar or the table of glosses.
     pub fn is_unread(&self) -> bool
         ensures { result ≡ is_unread (line_of self.now) }
     {
         match self {
-            Declaration::Lexicon { .. } => true,
             Declaration::Grammar { .. } => true,
             Declaration::Glosses { .. } => true,
             _ => false,

@@ -16,7 +16,7 @@ use Rattle.fsm_base.specs.Symbols.{number_of, with_text}
 use Rattle.project_meaning.specs.Projects.{with_texts}
 use Rattle.project_model.specs.Numbered.{numbers_in}
 use Rattle.project_model.proofs.Gathering.{with_texts_behind}
-use Rattle.project_model.proofs.Texts.{any_from_has, number_held, text_with}
+use Rattle.name_resolution.proofs.Texts.{any_from_has, number_held, text_with}
 
 pub cases_bool : (b : Bool) → (b ≡ true) ⊎ (b ≡ false)
 cases_bool true = inl refl

@@ -1,33 +1,23 @@
--- Definitions of a plan, by the expressions that they stand for.
-use Rattle.std.proofs.Common.{◌≡◌, ℕ, List, map, Some, None, refl, sym, ap, ◌∙◌}
+-- Definitions of a plan, by what they stand for.
+use Rattle.std.proofs.Common.{◌≡◌, ℕ, List, map, sym, ap, ◌∙◌}
 use Rattle.std.proofs.lemmas.Simd.{map-map}
-use Rattle.std.specs.Option.{option_map}
 use Rattle.regex_ast.specs.declared.expr.Atom.{Atom}
-use Rattle.regex_ast.specs.declared.expr.Raw.{Raw}
-use Rattle.regex_ast.specs.Terms.{Term}
-use Rattle.expr_leaves.specs.Mapped.{mapped}
-use Rattle.project_meaning.specs.Trees.{Body, xfst, lexc, twolc}
-use Rattle.project_meaning.specs.Leaves.{leaf_of, resolved}
+use Rattle.regex_ast.specs.Terms.{term}
+use Rattle.project_meaning.specs.Trees.{Grammar, xfst, lexc, twolc}
 use Rattle.project_meaning.specs.Projects.{Written}
-use Rattle.project_model.specs.Numbered.{numbered}
-use Rattle.project_model.specs.Stands.{Entry, entry_of, entry_in, expression_in}
+use Rattle.lexicon_resolution.specs.Plain.{lexicon_of}
+use Rattle.project_model.specs.Plain.{body_of}
+use Rattle.project_model.specs.Stands.{Entry, entry_of, entry_in}
+use Rattle.project_model.specs.declared.definition.Body.{Body as BodyOf}
+use Rattle.project_model.specs.declared.definition.Body.TheVariants.{Xfst, Lexc}
 use Rattle.project_model.specs.declared.definition.Definition.{Definition}
 
-pub same_some : {X : Type 0} (x y : X) → Some x ≡ Some y → x ≡ y
-same_some x y e = cc
-
--- a body as it is written is this expression, and this is the expression by its numbers
-pub record OfExpression (names table : List (List ℕ)) (body : Body Raw) (t : Term Atom) : Type 0 where
-  pub e : Term Raw
-  pub body_is : body ≡ xfst e
-  pub term_is : t ≡ mapped (numbered names table) (mapped (leaf_of names) e)
+-- no plan has a grammar yet
+pub not_grammar : (body : BodyOf Atom) (grammar : Grammar Atom) → body_of body ≡ twolc grammar → ⊥
+not_grammar (Xfst e) grammar is = let clash : xfst (term e) ≡ twolc grammar = is in cc
+not_grammar (Lexc lexicons) grammar is = let clash : lexc (map lexicon_of lexicons.items) ≡ twolc grammar = is in cc
 
 module _ (names table : List (List ℕ)) where
-  pub expression_of : (body : Body Raw) (t : Term Atom) → Some t ≡ option_map (mapped (numbered names table)) (expression_in (resolved names body)) → OfExpression names table body t
-  expression_of (xfst e) t is = record { e = e; body_is = refl; term_is = same_some t (mapped (numbered names table) (mapped (leaf_of names) e)) is }
-  expression_of (lexc lexicons) t is = let never : Some t ≡ None = is in cc
-  expression_of (twolc grammar) t is = let never : Some t ≡ None = is in cc
-
   -- the names of the definitions are those that were said
   pub names_said : (definitions : List Definition) (written : List Written) → map entry_of definitions ≡ map (entry_in names table) written
       → map (λ (d : Definition). d.name) definitions ≡ map (λ (w : Written). w.name) written

@@ -3,6 +3,7 @@ use Rattle.std.proofs.Common.{◌≡◌, ◌+◌, ◌<◌, ℕ, List, [], ◌∷
 use Rattle.std.proofs.lemmas.List.{map-append, take-append-drop, take_more}
 use Rattle.word_relations.proofs.Behind.{left_behind}
 use Rattle.fsm_io.specs.Folders.{Files, file_of}
+use Rattle.regex_ast.specs.declared.expr.Raw.{Raw}
 use Rattle.regex_ast.specs.declared.fault.Fault.{Fault}
 use Rattle.regex_ast.specs.declared.fault.Why.TheVariants as why
 use Rattle.regex_reader.specs.Files.{ReadsAs, Statement}
@@ -14,11 +15,13 @@ use Rattle.project_manifest.specs.declared.declarations.Declaration.{Declaration
 use Rattle.project_manifest.specs.declared.declarations.Declaration.TheVariants.{Lexicon, Grammar, Definitions, Symbols, Required, Glosses}
 use Rattle.project_manifest.specs.declared.manifest.ManifestLine.{ManifestLine}
 use Rattle.project_manifest.proofs.Firsts.{first_past, none_append, none_more}
+use Rattle.lexc_grammar.specs.Files.{SaysLexicons}
 use Rattle.project_meaning.specs.Projects.{Written}
+use Rattle.project_meaning.specs.Trees.{Lexicon as Lexicons, lexc}
 use Rattle.project_sources.specs.Faults.{FileFault, HasNoText, NamedFault, fault, file_rows, missing, no_text, unread}
-use Rattle.project_sources.specs.Laws.{unbuilt as no_readers}
-use Rattle.project_sources.specs.Sources.{FileDefines, FilesDefine, HasText, HaveText, TextSays, stated}
-use Rattle.project_sources.proofs.Once.{says_one, text_one, unbuilt_exact}
+use Rattle.project_sources.specs.Laws.{readers_so_far as readers}
+use Rattle.project_sources.specs.Sources.{FileDefines, FilesDefine, HasText, HaveText, TextSays, declared, stated}
+use Rattle.project_sources.proofs.Once.{says_one, text_one, exact_so_far}
 use Rattle.project_model.specs.Answers.{IsRefusal, IsRefusedBy}
 use Rattle.project_model.specs.Files.{HasDefined, HasPut, IsUnread}
 use Rattle.project_model.specs.declared.plan_error.PlanError.{PlanError}
@@ -27,20 +30,20 @@ use Rattle.project_model.proofs.Reading.{same_content, textless}
 
 -- A line that names this file.
 module _ (files : Files) (l : Placed) (file : List ℕ) (names : file_in l.said ≡ file ∷ []) where
-  of_file : (found : Fault) → First (FileFault no_readers files l file) file_rows found → NamedFault no_readers files l found
-  of_file found h = subst (λ (z : List (List ℕ)). First (λ f. First (FileFault no_readers files l f) file_rows) z found) (sym names) (inl h)
+  of_file : (found : Fault) → First (FileFault readers files l file) file_rows found → NamedFault readers files l found
+  of_file found h = subst (λ (z : List (List ℕ)). First (λ f. First (FileFault readers files l f) file_rows) z found) (sym names) (inl h)
 
   -- it isn't there
-  pub missing_file : (error : PlanError) → file_of file files ≡ None → IsRefusal (fault project_name l.line why.NoFile) error → IsRefusedBy (NamedFault no_readers files l) error
+  pub missing_file : (error : PlanError) → file_of file files ≡ None → IsRefusal (fault project_name l.line why.NoFile) error → IsRefusedBy (NamedFault readers files l) error
   missing_file (Refused found) none is = of_file found (inl (none, is))
   missing_file (Memory refused) none is = tt
 
   module _ (content : List ℕ) (held : file_of file files ≡ Some content) where
-    not_missing : (found : Fault) → FileFault no_readers files l file missing found → ⊥
+    not_missing : (found : Fault) → FileFault readers files l file missing found → ⊥
     not_missing found (none, e) = let clash : Some content ≡ None = sym held ∙ none in cc
 
     -- its content has no text
-    pub textless_file : (error : PlanError) → IsRefusedBy (HasNoText file content) error → IsRefusedBy (NamedFault no_readers files l) error
+    pub textless_file : (error : PlanError) → IsRefusedBy (HasNoText file content) error → IsRefusedBy (NamedFault readers files l) error
     textless_file (Refused found) h = of_file found (inr (not_missing, inl (content, held, h)))
     textless_file (Memory refused) h = tt
 
@@ -48,11 +51,11 @@ module _ (files : Files) (l : Placed) (file : List ℕ) (names : file_in l.said 
       have : HaveText files file text
       have = (content, held, has)
 
-      has_a_text : (found : Fault) → FileFault no_readers files l file no_text found → ⊥
+      has_a_text : (found : Fault) → FileFault readers files l file no_text found → ⊥
       has_a_text found (bytes, at, h) = textless file content text found (subst (λ (z : List ℕ). HasNoText file z found) (same_content files file bytes content at held) h) has
 
       -- its text isn't read
-      pub unread_file : (error : PlanError) → IsRefusedBy (IsUnread l file text) error → IsRefusedBy (NamedFault no_readers files l) error
+      pub unread_file : (error : PlanError) → IsRefusedBy (IsUnread l file text) error → IsRefusedBy (NamedFault readers files l) error
       unread_file (Refused found) (at, says, e) = of_file found (inr (not_missing, inr (has_a_text, inl (text, at, have, says, e))))
       unread_file (Memory refused) h = tt
 
@@ -60,30 +63,30 @@ module _ (files : Files) (l : Placed) (file : List ℕ) (names : file_in l.said 
       pub defined_file : (old new : List Written) → HasPut l text old new → HasDefined files l old new
       defined_file old new (more, says, is) = record {
         more = more;
-        defines = subst (λ (z : List (List ℕ)). FileDefines no_readers files l z more) (sym names) (text, have, says);
+        defines = subst (λ (z : List (List ℕ)). FileDefines readers files l z more) (sym names) (text, have, says);
         put = is;
-        faultless = λ found h. none found (subst (λ (z : List (List ℕ)). First (λ f. First (FileFault no_readers files l f) file_rows) z found) names h);
+        faultless = λ found h. none found (subst (λ (z : List (List ℕ)). First (λ f. First (FileFault readers files l f) file_rows) z found) names h);
       }
         where
-          is_read : (found : Fault) → FileFault no_readers files l file unread found → ⊥
+          is_read : (found : Fault) → FileFault readers files l file unread found → ⊥
           is_read found (t, at, have_it, also, e) =
               let same : t ≡ text = text_one files file t text have_it have in
-              let clash : Ok more ≡ Err at = says_one no_readers unbuilt_exact l.line l.said text (Ok more) (Err at) says (subst (λ (z : List ℕ). TextSays no_readers l.line l.said z (Err at)) same also) in
+              let clash : Ok more ≡ Err at = says_one readers exact_so_far l.line l.said text (Ok more) (Err at) says (subst (λ (z : List ℕ). TextSays readers l.line l.said z (Err at)) same also) in
               cc
 
-          none : (found : Fault) → First (λ f. First (FileFault no_readers files l f) file_rows) (file ∷ []) found → ⊥
+          none : (found : Fault) → First (λ f. First (FileFault readers files l f) file_rows) (file ∷ []) found → ⊥
           none =
-              none_more (λ f. First (FileFault no_readers files l f) file_rows) file []
-              (none_more (FileFault no_readers files l file) missing (no_text ∷ unread ∷ []) not_missing
-              (none_more (FileFault no_readers files l file) no_text (unread ∷ []) has_a_text (none_more (FileFault no_readers files l file) unread [] is_read (λ f p. p)))) (λ f p. p)
+              none_more (λ f. First (FileFault readers files l f) file_rows) file []
+              (none_more (FileFault readers files l file) missing (no_text ∷ unread ∷ []) not_missing
+              (none_more (FileFault readers files l file) no_text (unread ∷ []) has_a_text (none_more (FileFault readers files l file) unread [] is_read (λ f p. p)))) (λ f p. p)
 
 -- a line that names no file
 pub fileless : (files : Files) (l : Placed) (written : List Written) → file_in l.said ≡ [] → HasDefined files l written written
 fileless files l written none = record {
   more = [];
-  defines = subst (λ (z : List (List ℕ)). FileDefines no_readers files l z []) (sym none) refl;
+  defines = subst (λ (z : List (List ℕ)). FileDefines readers files l z []) (sym none) refl;
   put = sym (append-nil written);
-  faultless = λ found h. subst (λ (z : List (List ℕ)). First (λ f. First (FileFault no_readers files l f) file_rows) z found) none h;
+  faultless = λ found h. subst (λ (z : List (List ℕ)). First (λ f. First (FileFault readers files l f) file_rows) z found) none h;
 }
 
 -- the same of what a call answered
@@ -97,19 +100,23 @@ pub put_statements : (line : ℕ) (named file text : List ℕ) (statements : Lis
     → HasPut (placed_of (record { number = line; declares = Definitions named })) text old new
 put_statements line named file text statements old new same reads is = (map (stated named) statements, (statements, reads, refl), is ∙ ap (λ (f : List ℕ). old ++ map (stated f) statements) same)
 
-pub unread_line : (line : ℕ) (d : Declaration) (file text : List ℕ) (error : PlanError) → file_in (line_of d) ≡ file ∷ [] → ((named : List ℕ) → d ≡ Definitions named → ⊥) → IsRefusal (fault file 0 why.NotBuilt) error
-    → IsRefusedBy (IsUnread (placed_of (record { number = line; declares = d })) file text) error
-unread_line line d file text (Memory refused) names other is = tt
-unread_line line (Lexicon name it) file text (Refused found) names other is = (record { line = 0; why = why.NotBuilt }, refl, is)
-unread_line line (Grammar name it) file text (Refused found) names other is = (record { line = 0; why = why.NotBuilt }, refl, is)
-unread_line line (Glosses it) file text (Refused found) names other is = (record { line = 0; why = why.NotBuilt }, refl, is)
-unread_line line (Definitions it) file text (Refused found) names other is = absurd (other it refl)
-unread_line line (Symbols symbols) file text (Refused found) names other is = let clash : [] ≡ file ∷ [] = names in cc
-unread_line line (Required required) file text (Refused found) names other is = let clash : [] ≡ file ∷ [] = names in cc
+pub put_lexicons : (line : ℕ) (name named text : List ℕ) (lexicons : List (Lexicons Raw)) (old new : List Written) → SaysLexicons text (Ok lexicons) → new ≡ old ++ declared name line (lexc lexicons)
+    → HasPut (placed_of (record { number = line; declares = Lexicon name named })) text old new
+put_lexicons line name named text lexicons old new says is = (declared name line (lexc lexicons), (lexicons, says, refl), is)
+
+pub unread_line : (line : ℕ) (d : Declaration) (file text : List ℕ) (error : PlanError) → file_in (line_of d) ≡ file ∷ [] → ((named : List ℕ) → d ≡ Definitions named → ⊥) → ((name named : List ℕ) → d ≡ Lexicon name named → ⊥)
+    → IsRefusal (fault file 0 why.NotBuilt) error → IsRefusedBy (IsUnread (placed_of (record { number = line; declares = d })) file text) error
+unread_line line d file text (Memory refused) names other more is = tt
+unread_line line (Lexicon name it) file text (Refused found) names other more is = absurd (more name it refl)
+unread_line line (Grammar name it) file text (Refused found) names other more is = (record { line = 0; why = why.NotBuilt }, refl, is)
+unread_line line (Glosses it) file text (Refused found) names other more is = (record { line = 0; why = why.NotBuilt }, refl, is)
+unread_line line (Definitions it) file text (Refused found) names other more is = absurd (other it refl)
+unread_line line (Symbols symbols) file text (Refused found) names other more is = let clash : [] ≡ file ∷ [] = names in cc
+unread_line line (Required required) file text (Refused found) names other more is = let clash : [] ≡ file ∷ [] = names in cc
 
 -- with one line more
-files_more : (files : Files) (lines : List Placed) (written more : List Written) (l : Placed) → FilesDefine no_readers files lines written → FileDefines no_readers files l (file_in l.said) more
-    → FilesDefine no_readers files (lines ++ l ∷ []) (written ++ more)
+files_more : (files : Files) (lines : List Placed) (written more : List Written) (l : Placed) → FilesDefine readers files lines written → FileDefines readers files l (file_in l.said) more
+    → FilesDefine readers files (lines ++ l ∷ []) (written ++ more)
 files_more files [] written more l is defines = (more, [], defines, refl, ap (λ (z : List Written). z ++ more) is ∙ sym (append-nil more))
 files_more files (k ∷ lines) written more l (front, rest, here, others, is) defines =
     (front, rest ++ more, here, files_more files lines rest more l others defines, ap (λ (z : List Written). z ++ more) is ∙ append_assoc front rest more)
@@ -124,20 +131,20 @@ module _ (files : Files) (xs : List ManifestLine) (i : ℕ) (x : ManifestLine) (
       ap (map placed_of) (sym (take-append-drop i xs)) ∙ map-append placed_of (take i xs) (drop i xs)
       ∙ ap (λ (z : List ManifestLine). map placed_of (take i xs) ++ map placed_of z) (left_behind xs i x below is)
 
-  pub defined_more : (old new : List Written) → FilesDefine no_readers files (map placed_of (take i xs)) old → HasDefined files (placed_of x) old new → FilesDefine no_readers files (map placed_of (take (i + 1) xs)) new
+  pub defined_more : (old new : List Written) → FilesDefine readers files (map placed_of (take i xs)) old → HasDefined files (placed_of x) old new → FilesDefine readers files (map placed_of (take (i + 1) xs)) new
   defined_more old new so_far here =
-      subst (λ (z : List Placed). FilesDefine no_readers files z new) (sym front_more)
-      (subst (FilesDefine no_readers files (map placed_of (take i xs) ++ placed_of x ∷ [])) (sym here.put) (files_more files (map placed_of (take i xs)) old here.more (placed_of x) so_far here.defines))
+      subst (λ (z : List Placed). FilesDefine readers files z new) (sym front_more)
+      (subst (FilesDefine readers files (map placed_of (take i xs) ++ placed_of x ∷ [])) (sym here.put) (files_more files (map placed_of (take i xs)) old here.more (placed_of x) so_far here.defines))
 
-  pub free_more : ((found : Fault) → First (NamedFault no_readers files) (map placed_of (take i xs)) found → ⊥) → ((found : Fault) → NamedFault no_readers files (placed_of x) found → ⊥)
-      → (found : Fault) → First (NamedFault no_readers files) (map placed_of (take (i + 1) xs)) found → ⊥
+  pub free_more : ((found : Fault) → First (NamedFault readers files) (map placed_of (take i xs)) found → ⊥) → ((found : Fault) → NamedFault readers files (placed_of x) found → ⊥)
+      → (found : Fault) → First (NamedFault readers files) (map placed_of (take (i + 1) xs)) found → ⊥
   free_more none here =
-      subst (λ (z : List Placed). HaveNone (NamedFault no_readers files) z) (sym front_more)
-      (none_append (NamedFault no_readers files) (map placed_of (take i xs)) (placed_of x ∷ []) none (none_more (NamedFault no_readers files) (placed_of x) [] here (λ found h. h)))
+      subst (λ (z : List Placed). HaveNone (NamedFault readers files) z) (sym front_more)
+      (none_append (NamedFault readers files) (map placed_of (take i xs)) (placed_of x ∷ []) none (none_more (NamedFault readers files) (placed_of x) [] here (λ found h. h)))
 
-  pub fault_here : (error : PlanError) → ((found : Fault) → First (NamedFault no_readers files) (map placed_of (take i xs)) found → ⊥) → IsRefusedBy (NamedFault no_readers files (placed_of x)) error
-      → IsRefusedBy (First (NamedFault no_readers files) (map placed_of xs)) error
+  pub fault_here : (error : PlanError) → ((found : Fault) → First (NamedFault readers files) (map placed_of (take i xs)) found → ⊥) → IsRefusedBy (NamedFault readers files (placed_of x)) error
+      → IsRefusedBy (First (NamedFault readers files) (map placed_of xs)) error
   fault_here (Refused found) none h =
-      subst (λ (z : List Placed). First (NamedFault no_readers files) z found) (sym split)
-      (first_past (NamedFault no_readers files) (map placed_of (take i xs)) (placed_of x ∷ map placed_of (drop (i + 1) xs)) found none (inl h))
+      subst (λ (z : List Placed). First (NamedFault readers files) z found) (sym split)
+      (first_past (NamedFault readers files) (map placed_of (take i xs)) (placed_of x ∷ map placed_of (drop (i + 1) xs)) found none (inl h))
   fault_here (Memory refused) none h = tt

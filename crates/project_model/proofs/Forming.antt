@@ -13,8 +13,6 @@ use Rattle.word_relations.proofs.Members.{Contains-map}
 use Rattle.word_relations.proofs.Places.{Contains-from_slice_get, slice_get_from_Contains, slice_get-append_left, slice_get-set_other, slice_get-set_same}
 use Rattle.expr_kinds.specs.Atoms.{kind_at, kind_told, leaves_at, weight_told, weights_at}
 use Rattle.expr_kinds.specs.Forms.{capped}
-use Rattle.expr_kinds.specs.Kinds.{kind_of}
-use Rattle.expr_kinds.specs.Weights.{weight_of}
 use Rattle.expr_kinds.specs.declared.form.Form.{Form}
 use Rattle.name_order.specs.Graph.{Refers as Leads}
 use Rattle.name_order.specs.Orders.{HasNoCycle as HasNoRound, IsOrder}
@@ -26,8 +24,9 @@ use Rattle.project_meaning.proofs.Forms.{kinds_unfold, weights_unfold}
 use Rattle.project_manifest.specs.Lines.{symbols_of}
 use Rattle.project_sources.specs.Sources.{Said, project_in}
 use Rattle.project_model.specs.Forms.{AreDefined, AreForms}
-use Rattle.project_model.specs.Plans.{body_term}
-use Rattle.project_model.specs.Referring.{places_in, references_of}
+use Rattle.project_model.specs.Bodies.{kind_of_body, weight_of_body}
+use Rattle.project_model.specs.Plain.{body_of}
+use Rattle.project_model.specs.Referring.{body_places, references_of}
 use Rattle.project_model.specs.Stands.{Entry, entry_of, entry_in}
 use Rattle.project_model.specs.declared.definition.Definition.{Definition}
 use Rattle.project_model.proofs.Alphabets.{at_number, number_within}
@@ -89,14 +88,14 @@ module _ (said : Said) (table : List (List ℕ)) (definitions : List Definition)
 
   -- the form at the place of a definition has the kind of its expression
   pub kind_there : HasNoRound (references_of definitions) → (forms : List Form) → length forms ≡ length definitions → AreForms names (project_in said) forms
-      → (k : ℕ) (d : Definition) → slice_get definitions k ≡ Some d → kind_at forms k ≡ kind_of (leaves_at forms) (body_term d.body)
+      → (k : ℕ) (d : Definition) → slice_get definitions k ≡ Some d → kind_at forms k ≡ kind_of_body (leaves_at forms) (body_of d.body)
   kind_there rounds forms few all k d at =
       let entries : slice_get (map (entry_in names table) said.written) k ≡ Some (entry_of d) =
       ap (λ (es : List Entry). slice_get es k) (sym are.entries) ∙ slice_get-map entry_of definitions k ∙ ap (option_map entry_of) at in
       let (w, at_w, same) = at_map (entry_in names table) said.written k (entry_of d) entries in
       let there = Contains-map (definition_in names) said.written w (Contains-from_slice_get said.written k w at_w) in
       let named_there = name_at said table definitions are k w at_w in
-      let numbered_by = ap (λ (e : Entry). e.term) (sym same) in
+      let numbered_by = ap (λ (e : Entry). e.body) (sym same) in
       let held = held_each (Contains table) (λ (x : Meant). symbols_in x.body) (project_in said).definitions are.symbols (definition_in names w) there in
       let told : (other : List ℕ) → Contains (names_in (resolved names w.body)) other → IsTold names (project_in said) forms other =
       λ other h. (let among = referred_among said table definitions are w.name other (definition_in names w, there, refl, h) in
@@ -105,11 +104,11 @@ module _ (said : Said) (table : List (List ℕ)) (definitions : List Definition)
       subst (λ (p : ℕ). kind_at forms p ≡ kind_in (project_in said) w.name) (place_at said table definitions are k w.name named_there) (all.kinds w.name (Contains-from_slice_get names k w.name named_there))
       ∙ kinds_unfold (project_in said) (acyclic said table definitions are rounds) (closed said.written (symbols_of said.manifest)) w.name
       ∙ ap (found_kind (kind_in (project_in said))) (meant_at k w at_w)
-      ∙ sym (told_kind names table (project_in said) forms many (body_term d.body) w.body numbered_by held told)
+      ∙ sym (told_kind names table (project_in said) forms many d.body (resolved names w.body) numbered_by held told)
 
   module _ (order : List ℕ) (ordered : IsOrder (references_of definitions) order) (rounds : HasNoRound (references_of definitions)) where
     module _ (forms : List Form) (few : length forms ≡ length definitions) (i : ℕ) (inside : i < length order) (d : Definition) (at : slice_get definitions (get_or order i 0) ≡ Some d) (form : Form)
-        (kind : form.kind ≡ kind_of (leaves_at forms) (body_term d.body)) (weight : form.weight ≡ capped (weight_of (weights_at forms) (body_term d.body)))
+        (kind : form.kind ≡ kind_of_body (leaves_at forms) (body_of d.body)) (weight : form.weight ≡ capped (weight_of_body (weights_at forms) (body_of d.body)))
         (so_far : AreTold said (take i order) forms) where
       abbrev here : ℕ
       here = get_or order i 0
@@ -123,7 +122,7 @@ module _ (said : Said) (table : List (List ℕ)) (definitions : List Definition)
       here_within : here < length forms
       here_within =
           let within = (ordered.places here).0 (Contains-get_or order i 0 inside) in
-          let size = length-map definitions (λ (d : Definition). places_in (length definitions) (body_term d.body)) in
+          let size = length-map definitions (λ (d : Definition). body_places (length definitions) (body_of d.body)) in
           omega (arith, within, size, few)
 
       -- what was told stays
@@ -146,7 +145,7 @@ module _ (said : Said) (table : List (List ℕ)) (definitions : List Definition)
           ap (λ (es : List Entry). slice_get es here) (sym are.entries) ∙ slice_get-map entry_of definitions here ∙ ap (option_map entry_of) at in
           let (w, at_w, same) = at_map (entry_in names table) said.written here (entry_of d) entries in
           let name_is : w.name ≡ name = same_Some w.name name (sym (name_at said table definitions are here w at_w) ∙ subst (λ (p : ℕ). slice_get names p ≡ Some name) place_is (at_number names name among)) in
-          let numbered_by = ap (λ (e : Entry). e.term) (sym same) in
+          let numbered_by = ap (λ (e : Entry). e.body) (sym same) in
           let held = held_each (Contains table) (λ (x : Meant). symbols_in x.body) (project_in said).definitions are.symbols (definition_in names w)
           (Contains-map (definition_in names) said.written w (Contains-from_slice_get said.written here w at_w)) in
           let referred : (other : List ℕ) → Contains (names_in (resolved names w.body)) other → Refers (project_in said) name other =
@@ -162,10 +161,10 @@ module _ (said : Said) (table : List (List ℕ)) (definitions : List Definition)
           record {
             among = among;
             kind = ap kind_told formed ∙ kind
-                ∙ told_kind names table (project_in said) forms many (body_term d.body) w.body numbered_by held told
+                ∙ told_kind names table (project_in said) forms many d.body (resolved names w.body) numbered_by held told
                 ∙ sym (kinds_unfold (project_in said) project_acyclic project_closed name ∙ ap (found_kind (kind_in (project_in said))) found);
             weight = ap weight_told formed ∙ weight
-                ∙ told_weight names table (project_in said) forms many (body_term d.body) w.body numbered_by told
+                ∙ told_weight names table (project_in said) forms many d.body (resolved names w.body) numbered_by told
                 ∙ ap capped (sym (weights_unfold (project_in said) project_acyclic project_closed name ∙ ap (found_weight (weight_in (project_in said))) found));
           }
 
@@ -183,6 +182,6 @@ module _ (said : Said) (table : List (List ℕ)) (definitions : List Definition)
         all : (name : List ℕ) → Contains names name → IsTold names (project_in said) forms name
         all name among =
             let within = number_within names name among in
-            let size = length-map definitions (λ (d : Definition). places_in (length definitions) (body_term d.body)) in
+            let size = length-map definitions (λ (d : Definition). body_places (length definitions) (body_of d.body)) in
             let many = count said table definitions are in
             told name among (subst (λ (ps : List ℕ). Contains ps (place name)) (sym (take_all i order past)) ((ordered.places (place name)).1 (omega (arith, within, size, many))))

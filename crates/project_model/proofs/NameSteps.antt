@@ -15,7 +15,7 @@ use Rattle.project_model.specs.Answers.{IsRefusal, IsRefusedBy, written_of}
 use Rattle.project_model.specs.declared.plan_error.PlanError.{PlanError}
 use Rattle.project_model.specs.declared.plan_error.PlanError.TheVariants.{Refused, Memory}
 use Rattle.project_model.specs.declared.written.WrittenDefine.{WrittenDefine}
-use Rattle.project_model.proofs.Texts.{has_from_any, not_had}
+use Rattle.name_resolution.proofs.Texts.{has_from_any, not_had}
 
 pub not_false : (b : Bool) → false ≡ not b → b ≡ true
 not_false true e = refl
@@ -62,7 +62,7 @@ module _ (xs : List WrittenDefine) (i : ℕ) (d : WrittenDefine) (below : i < le
   one_more : step (take (i + 1) xs) ≡ front ++ here ∷ []
   one_more = ap step (take_more xs i d below ∙ ap (λ (e : WrittenDefine). take i xs ++ e ∷ []) (sym is)) ∙ step_append (take i xs) (d ∷ [])
 
-  pub names_more : names_of (step (take (i + 1) xs)) ≡ names_of front ++ d.define.name ∷ []
+  pub names_more : names_of (step (take (i + 1) xs)) ≡ names_of front ++ d.name ∷ []
   names_more = ap names_of one_more ∙ map-append (λ (w : Written). w.name) front (here ∷ [])
 
   length_front : length front ≡ i
@@ -77,30 +77,30 @@ module _ (xs : List WrittenDefine) (i : ℕ) (d : WrittenDefine) (below : i < le
 
   module _ (had : List (List ℕ)) (had_is : had ≡ names_of front) (none : HaveNone Has (places front)) where
     -- an earlier one has the name
-    pub why_again : (error : PlanError) → list_any (bytes_eq d.define.name) had ≡ true → IsRefusal (fault d.file d.define.line why.Duplicate) error → IsRefusedBy (NamesFault (step xs)) error
+    pub why_again : (error : PlanError) → list_any (bytes_eq d.name) had ≡ true → IsRefusal (fault d.file d.line why.Duplicate) error → IsRefusedBy (NamesFault (step xs)) error
     why_again error any refusal =
-        let among : Contains (names_of front) d.define.name = subst (λ (z : List (List ℕ)). Contains z d.define.name) had_is (has_from_any d.define.name had any) in
-        refused_by (NamesFault (step xs)) (fault d.file d.define.line why.Duplicate) error (fault_here none (fault d.file d.define.line why.Duplicate) (inl (among, refl))) refusal
+        let among : Contains (names_of front) d.name = subst (λ (z : List (List ℕ)). Contains z d.name) had_is (has_from_any d.name had any) in
+        refused_by (NamesFault (step xs)) (fault d.file d.line why.Duplicate) error (fault_here none (fault d.file d.line why.Duplicate) (inl (among, refl))) refusal
 
-    new : list_any (bytes_eq d.define.name) had ≡ false → ¬ (Contains (names_of front) d.define.name)
-    new fails = subst (λ (z : List (List ℕ)). ¬ (Contains z d.define.name)) had_is (not_had d.define.name had fails)
+    new : list_any (bytes_eq d.name) had ≡ false → ¬ (Contains (names_of front) d.name)
+    new fails = subst (λ (z : List (List ℕ)). ¬ (Contains z d.name)) had_is (not_had d.name had fails)
 
     -- it comes behind as many as there may be
-    pub why_too_many : (error : PlanError) → list_any (bytes_eq d.define.name) had ≡ false → 512 < length (had ++ d.define.name ∷ []) → IsRefusal (fault d.file d.define.line why.LimitNames) error
+    pub why_too_many : (error : PlanError) → list_any (bytes_eq d.name) had ≡ false → 512 < length (had ++ d.name ∷ []) → IsRefusal (fault d.file d.line why.LimitNames) error
         → IsRefusedBy (NamesFault (step xs)) error
     unfolding most_names
     why_too_many error fails many refusal =
-        let full : most_names ≤ length front = omega (arith, many, length-append had (d.define.name ∷ []), ap length had_is, length-map front (λ (w : Written). w.name)) in
-        refused_by (NamesFault (step xs)) (fault d.file d.define.line why.LimitNames) error
-        (fault_here none (fault d.file d.define.line why.LimitNames) (inr ((λ other again. new fails again.0), inl (full, refl)))) refusal
+        let full : most_names ≤ length front = omega (arith, many, length-append had (d.name ∷ []), ap length had_is, length-map front (λ (w : Written). w.name)) in
+        refused_by (NamesFault (step xs)) (fault d.file d.line why.LimitNames) error
+        (fault_here none (fault d.file d.line why.LimitNames) (inr ((λ other again. new fails again.0), inl (full, refl)))) refusal
 
-    pub still_none : list_any (bytes_eq d.define.name) had ≡ false → length (had ++ d.define.name ∷ []) ≤ 512 → HaveNone Has (places (step (take (i + 1) xs)))
+    pub still_none : list_any (bytes_eq d.name) had ≡ false → length (had ++ d.name ∷ []) ≤ 512 → HaveNone Has (places (step (take (i + 1) xs)))
     unfolding most_names
     still_none fails few =
         let free : (found : Fault) → Has place found → ⊥ = λ found h. elim h as (λ _. ⊥) [
           | inl again ↦ new fails again.0
           | inr more ↦ elim more.1 as (λ _. ⊥) [
-            | inl full ↦ let many = full.0 in omega (arith, many, few, length-append had (d.define.name ∷ []), ap length had_is, length-map front (λ (w : Written). w.name))
+            | inl full ↦ let many = full.0 in omega (arith, many, few, length-append had (d.name ∷ []), ap length had_is, length-map front (λ (w : Written). w.name))
             | inr never ↦ never.1
           ]
         ] in

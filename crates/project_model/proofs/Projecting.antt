@@ -10,29 +10,28 @@ use Rattle.fsm_base.specs.declared.letters.Sym.{Sym}
 use Rattle.word_relations.specs.Words.{IsDistinct}
 use Rattle.word_relations.proofs.Behind.{left_behind}
 use Rattle.expr_kinds.specs.declared.form.Form.{Form}
-use Rattle.expr_leaves.specs.Mapped.{mapped}
 use Rattle.name_order.specs.Orders.{HasNoCycle as HasNoRound}
-use Rattle.regex_ast.specs.Terms.{Term}
 use Rattle.regex_ast.specs.declared.expr.Atom.{Atom}
 use Rattle.regex_ast.specs.declared.fault.Fault.{Fault}
 use Rattle.regex_ast.specs.declared.fault.Why.TheVariants as why
-use Rattle.regex_reader.specs.Files.{Statement}
 use Rattle.project_manifest.specs.Lines.{Placed, symbols_of}
 use Rattle.project_manifest.specs.Manifests.{project_name}
 use Rattle.project_manifest.specs.Rows.{First, HaveNone, Where}
-use Rattle.project_meaning.specs.Leaves.{leaf_of, symbols_in}
+use Rattle.project_meaning.specs.Leaves.{resolved, symbols_in}
 use Rattle.project_meaning.specs.Projects.{Definition as Meant, Written, definition_in, names_of, with_texts}
 use Rattle.project_sources.specs.Limits.{most_symbols}
-use Rattle.project_sources.specs.Sources.{Said, project_in, stated}
+use Rattle.project_sources.specs.Sources.{Said, project_in}
 use Rattle.project_sources.specs.Faults.{fault, in_names, many_symbols, unknown, cyclic, no_language, heavy, unbuilt, SaidFault, NamesFault, definitions_so_far, said_so_far}
 use Rattle.project_manifest.proofs.Firsts.{first_past, none_more}
 use Rattle.project_model.specs.Answers.{DemandFault, DoesMeet, IsPlanBy, IsRefusal, IsRefusedBy, UnknownFault, demands, said_of, why_not}
 use Rattle.project_model.specs.Forms.{AreDefined, AreForms}
+use Rattle.project_meaning.specs.Trees.{Body}
+use Rattle.project_model.specs.Bodies.{IsFormed, mapped_body}
 use Rattle.project_model.specs.Gathered.{gathered, symbols_beside, symbols_of_all}
-use Rattle.project_model.specs.Numbered.{IsBodyOver, numbered, numbers_in}
+use Rattle.name_resolution.specs.Numbered.{numbered}
+use Rattle.project_model.specs.Numbered.{IsBodyOver, numbers_in}
 use Rattle.project_model.specs.Plans.{IsPlan, IsSoundOver, PlanView}
 use Rattle.project_model.specs.Referring.{CycleFault, references_of}
-use Rattle.project_model.specs.Resolved.{atom_of}
 use Rattle.project_model.specs.Stands.{Entry, entry_in, entry_of}
 use Rattle.project_model.specs.declared.definition.Definition.{Definition}
 use Rattle.project_model.specs.declared.demands.Demand.{Demand}
@@ -43,14 +42,13 @@ use Rattle.project_model.proofs.Alphabets.{numbers_distinct, put}
 use Rattle.project_model.proofs.Built.{All-front}
 use Rattle.project_model.proofs.Demanded.{demand_fault}
 use Rattle.project_model.proofs.Gathering.{with_texts-append, with_texts_behind}
-use Rattle.project_model.proofs.Mapped.{mapped_twice}
 use Rattle.project_model.proofs.NameSteps.{refused_by}
 use Rattle.project_model.proofs.Forming.{kind_there}
 use Rattle.project_model.proofs.Referring.{count, cycle_fault, none_cyclic}
 use Rattle.project_model.proofs.Requiring.{unknown_fault}
 use Rattle.project_model.proofs.Expressions.{names_said}
 use Rattle.project_model.proofs.Sound.{definitions_over, sound_definitions}
-use Rattle.project_model.proofs.Texts.{one_longer}
+use Rattle.name_resolution.proofs.Texts.{one_longer}
 
 -- a loop over items of which a list is made: what was made, and one more
 module _ {X Y : Type 0} (f : X → Y) (xs : List X) (i : ℕ) (x : X) (below : i < length xs) (is : x ≡ get_or xs i x) where
@@ -93,12 +91,10 @@ made_both {W = W} f g h xs i x found new y below is new_is same so_far =
     ap (map f) new_is ∙ map-append f found (y ∷ []) ∙ ap (λ (z : List W). z ++ f y ∷ []) so_far ∙ ap (λ (w : W). map g (map h (take i xs)) ++ w ∷ []) same
     ∙ sym (ap (map g) (made_more h xs i x below is) ∙ map-append g (map h (take i xs)) (h x ∷ []))
 
--- the definition of a statement
-pub entry_is : (names table : List (List ℕ)) (file : List ℕ) (s : Statement) (name other : List ℕ) (t : Term Atom) → name ≡ s.name → other ≡ file → t ≡ mapped (atom_of names table) s.term
-    → ◌≡◌ {A = Entry} (record { name = name; line = s.line; file = other; term = Some t }) (entry_in names table (stated file s))
-entry_is names table file s name other t name_is file_is term_is =
-    let numbers : t ≡ mapped (numbered names table) (mapped (leaf_of names) s.term) = term_is ∙ sym (mapped_twice (numbered names table) (leaf_of names) s.term) in
-    λ i. record { name = name_is i; line = s.line; file = file_is i; term = Some (numbers i) }
+-- the definition of one that is written
+pub entry_is : (names table : List (List ℕ)) (w : Written) (name file : List ℕ) (b : Body Atom) → name ≡ w.name → file ≡ w.file → b ≡ mapped_body (numbered names table) (resolved names w.body)
+    → ◌≡◌ {A = Entry} (record { name = name; line = w.line; file = file; body = b }) (entry_in names table w)
+entry_is names table w name file b name_is file_is body_is = λ i. record { name = name_is i; line = w.line; file = file_is i; body = body_is i }
 
 -- the text at a place of a table
 pub text_at : {X : Type 0} (f : X → List ℕ) (o : Option X) (table : List (List ℕ)) (n : ℕ) → option_map f o ≡ slice_get table n → n < length table → o ≡ None
@@ -184,7 +180,7 @@ module _ (written : List Written) (names alphabet old new : List (List ℕ)) (de
       why_no_plan manifest (Refused found) h = inr (no_cycle manifest, (alike manifest found).0 h)
       why_no_plan manifest (Memory refused) h = tt
 
-      module _ (symbols : List Sym) (numbers_are : symbols ≡ numbers_in new alphabet) (distinct : IsDistinct alphabet) (fits : All (DoesMeet forms demand.Fits) definitions)
+      module _ (formed : All (λ (w : Written). IsFormed w.body) written) (symbols : List Sym) (numbers_are : symbols ≡ numbers_in new alphabet) (distinct : IsDistinct alphabet) (fits : All (DoesMeet forms demand.Fits) definitions)
           (light : All (DoesMeet forms demand.Light) definitions) (built : All (DoesMeet forms demand.Built) definitions) where
         many : length forms ≡ length (names_of written)
         many = few ∙ count (said_of [] written) new definitions (defined [])
@@ -200,7 +196,7 @@ module _ (written : List Written) (names alphabet old new : List (List ℕ)) (de
           distinct = subst IsDistinct (sym numbers_are) (numbers_distinct new alphabet (subst (λ (t : List (List ℕ)). All (Contains t) alphabet) (sym new_is) (put alphabet old)) distinct);
           names = subst IsDistinct (names_are ∙ sym (names_said (names_of written) new definitions written said_are)) apart;
           forms = record { count = few; kinds = kind_there (said_of [] written) new definitions (defined []) rounds forms few (told (said_of [] written) new (defined [])) };
-          sound = subst (λ (z : List Sym). All (IsSoundOver forms z) definitions) (sym numbers_are) (sound_definitions (names_of written) alphabet new forms many definitions written said_are fits over);
+          sound = subst (λ (z : List Sym). All (IsSoundOver forms z) definitions) (sym numbers_are) (sound_definitions (names_of written) alphabet new forms many definitions written said_are formed fits over);
         }
 
         none_fails : (manifest : List Placed) → HaveNone (SaidFault (said_of manifest written)) definitions_so_far

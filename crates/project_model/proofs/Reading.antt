@@ -16,8 +16,8 @@ use Rattle.project_meaning.specs.Projects.{Written}
 use Rattle.project_sources.specs.Limits.{most_bytes}
 use Rattle.project_sources.specs.Sources.{FilesDefine, FilesSay, HasText, HaveText, Said, project_in}
 use Rattle.project_sources.specs.Faults.{fault, TextFault, too_long, NamedFault, Row, no_project, manifest_text, manifest_lines, in_files, in_said, HasFault, FirstFault, SaidFault, read_so_far, HasNoText, said_so_far}
-use Rattle.project_sources.specs.Laws.{unbuilt as no_readers}
-use Rattle.project_sources.proofs.Once.{files_say_one, text_one, unbuilt_exact}
+use Rattle.project_sources.specs.Laws.{readers_so_far as readers}
+use Rattle.project_sources.proofs.Once.{files_say_one, text_one, exact_so_far}
 use Rattle.project_model.specs.Answers.{IsManifestFile, IsNoManifest, IsPlanBy, IsPlanOf, IsProjectRead, IsRefusal, IsRefusedBy, IsTextFault, said_of}
 use Rattle.project_model.specs.Plans.{PlanView}
 use Rattle.project_model.specs.declared.plan_error.PlanError.{PlanError}
@@ -113,16 +113,16 @@ same_content files file content other a b = let somes : Some content ≡ Some ot
 
 -- The manifest's file has this content.
 module _ (files : Files) (content : List ℕ) (held : file_of project_name files ≡ Some content) where
-  there_is : (found : Fault) → HasFault no_readers files no_project found → ⊥
+  there_is : (found : Fault) → HasFault readers files no_project found → ⊥
   there_is found (none, is) = let clash : Some content ≡ None = sym held ∙ none in cc
 
-  has_a_text : (text : List ℕ) → HasText content text → (found : Fault) → HasFault no_readers files manifest_text found → ⊥
+  has_a_text : (text : List ℕ) → HasText content text → (found : Fault) → HasFault readers files manifest_text found → ⊥
   has_a_text text has found (bytes, at, h) = textless project_name content text found (subst (λ (z : List ℕ). HasNoText project_name z found) (same_content files project_name bytes content at held) h) has
 
   pub without_manifest : (old new : List (List ℕ)) (error : PlanError) → IsRefusedBy (IsNoManifest content) error → IsProjectRead files old new (Err error)
   without_manifest old new (Refused found) why = by why
     where
-      by : IsNoManifest content found → FirstFault no_readers files read_so_far found
+      by : IsNoManifest content found → FirstFault readers files read_so_far found
       by (inl none) = inr (there_is, inl (content, held, none))
       by (inr (text, has, (at, faulty, e))) = inr (there_is, inr (has_a_text text has, inl (text, at, (content, held, has), faulty, e)))
   without_manifest old new (Memory refused) why = tt
@@ -132,41 +132,41 @@ module _ (files : Files) (content : List ℕ) (held : file_of project_name files
     have : HaveText files project_name manifest.text
     have = (content, held, manifest.has_text)
 
-    no_line_fault : (found : Fault) → HasFault no_readers files (manifest_lines line_rows_so_far) found → ⊥
+    no_line_fault : (found : Fault) → HasFault readers files (manifest_lines line_rows_so_far) found → ⊥
     no_line_fault found (t, at, have_it, faulty, e) = manifest.faultless at (subst (λ (z : List ℕ). ManifestFault line_rows_so_far z at) (text_one files project_name t manifest.text have_it have) faulty)
 
     -- a fault of the files that it names
-    pub unread_files : (old new : List (List ℕ)) (error : PlanError) → IsRefusedBy (First (NamedFault no_readers files) lines) error → IsProjectRead files old new (Err error)
+    pub unread_files : (old new : List (List ℕ)) (error : PlanError) → IsRefusedBy (First (NamedFault readers files) lines) error → IsProjectRead files old new (Err error)
     unread_files old new (Refused found) h =
-        inr (there_is, inr (has_a_text manifest.text manifest.has_text, inr (no_line_fault, inl (manifest.text, have, subst (λ (z : List Placed). First (NamedFault no_readers files) z found) manifest.says h))))
+        inr (there_is, inr (has_a_text manifest.text manifest.has_text, inr (no_line_fault, inl (manifest.text, have, subst (λ (z : List Placed). First (NamedFault readers files) z found) manifest.says h))))
     unread_files old new (Memory refused) h = tt
 
-    module _ (written : List Written) (defines : FilesDefine no_readers files lines written) (free : (found : Fault) → First (NamedFault no_readers files) lines found → ⊥) where
+    module _ (written : List Written) (defines : FilesDefine readers files lines written) (free : (found : Fault) → First (NamedFault readers files) lines found → ⊥) where
       abbrev said : Said
       said = said_of lines written
 
-      says : FilesSay no_readers files said
-      says = (manifest.text, have, manifest.says, subst (λ (z : List Placed). FilesDefine no_readers files z written) manifest.says defines)
+      says : FilesSay readers files said
+      says = (manifest.text, have, manifest.says, subst (λ (z : List Placed). FilesDefine readers files z written) manifest.says defines)
 
-      no_file_fault : (found : Fault) → HasFault no_readers files in_files found → ⊥
+      no_file_fault : (found : Fault) → HasFault readers files in_files found → ⊥
       no_file_fault found (t, have_it, h) =
           let same : t ≡ manifest.text = text_one files project_name t manifest.text have_it have in
-          free found (subst (λ (z : List Placed). First (NamedFault no_readers files) z found) (ap manifest_of same ∙ sym manifest.says) h)
+          free found (subst (λ (z : List Placed). First (NamedFault readers files) z found) (ap manifest_of same ∙ sym manifest.says) h)
 
       -- the rows on what is said, as rows of the files
-      rows_of_said : (found : Fault) → First (SaidFault said) said_so_far found ↔ First (HasFault no_readers files) (map in_said said_so_far) found
+      rows_of_said : (found : Fault) → First (SaidFault said) said_so_far found ↔ First (HasFault readers files) (map in_said said_so_far) found
       rows_of_said =
-          first_alike (SaidFault said) (HasFault no_readers files) in_said (λ row. row) said_so_far (map in_said said_so_far) refl
-          (λ row other among same found. subst (λ (r : Row). SaidFault said row found ↔ HasFault no_readers files r found) same
-          ((λ h. (said, says, h)), (λ (also, also_says, h). subst (λ s. SaidFault s row found) (files_say_one no_readers unbuilt_exact files also said also_says says) h)))
+          first_alike (SaidFault said) (HasFault readers files) in_said (λ row. row) said_so_far (map in_said said_so_far) refl
+          (λ row other among same found. subst (λ (r : Row). SaidFault said row found ↔ HasFault readers files r found) same
+          ((λ h. (said, says, h)), (λ (also, also_says, h). subst (λ s. SaidFault s row found) (files_say_one readers exact_so_far files also said also_says says) h)))
 
       -- the plan of what they say is the files'
       pub planned_files : (old new : List (List ℕ)) (answer : Result PlanView PlanError) → IsPlanBy said_so_far said old new answer → IsProjectRead files old new answer
       planned_files old new (Ok plan) (none, stands) = record {
-        faultless = none_more (HasFault no_readers files) no_project (manifest_text ∷ manifest_lines line_rows_so_far ∷ in_files ∷ map in_said said_so_far) there_is
-            (none_more (HasFault no_readers files) manifest_text (manifest_lines line_rows_so_far ∷ in_files ∷ map in_said said_so_far) (has_a_text manifest.text manifest.has_text)
-            (none_more (HasFault no_readers files) (manifest_lines line_rows_so_far) (in_files ∷ map in_said said_so_far) no_line_fault
-            (none_more (HasFault no_readers files) in_files (map in_said said_so_far) no_file_fault (λ found h. none found ((rows_of_said found).1 h)))));
+        faultless = none_more (HasFault readers files) no_project (manifest_text ∷ manifest_lines line_rows_so_far ∷ in_files ∷ map in_said said_so_far) there_is
+            (none_more (HasFault readers files) manifest_text (manifest_lines line_rows_so_far ∷ in_files ∷ map in_said said_so_far) (has_a_text manifest.text manifest.has_text)
+            (none_more (HasFault readers files) (manifest_lines line_rows_so_far) (in_files ∷ map in_said said_so_far) no_line_fault
+            (none_more (HasFault readers files) in_files (map in_said said_so_far) no_file_fault (λ found h. none found ((rows_of_said found).1 h)))));
         said = said;
         says = says;
         stands = stands;

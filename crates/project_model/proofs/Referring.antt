@@ -1,6 +1,6 @@
 -- References of definitions by their places are references of names by their texts; so a definition reaches itself where its name
 -- does.
-use Rattle.std.proofs.Common.{◌≡◌, ◌<◌, ℕ, zero, suc, Bool, true, false, cond, nat_lt, List, [], ◌∷◌, ◌++◌, length, map, All, Contains, Some, None, slice_get, refl, sym, ap, subst, ◌∙◌, inl, inr, arith, append-nil}
+use Rattle.std.proofs.Common.{◌≡◌, ◌<◌, ℕ, zero, suc, Bool, true, false, cond, nat_lt, List, [], ◌∷◌, ◌++◌, length, map, All, Contains, Some, None, slice_get, refl, sym, ap, subst, ◌∙◌, inl, inr, arith}
 use Rattle.std.proofs.lemmas.Bool.Decides.{nat_tests}
 use Rattle.std.proofs.lemmas.List.{length-map, map-append}
 use Rattle.std.proofs.lemmas.List.Elements.{All-nil, All-cons, All-append, All-contains}
@@ -20,26 +20,27 @@ use Rattle.expr_leaves.specs.Leaves.{leaves_in, listed}
 use Rattle.expr_leaves.specs.Mapped.{mapped}
 use Rattle.name_order.specs.Graph.{Refers as Leads, Reaches as LeadsOn, at_once as leads_once, further as leads_further, IsWhole}
 use Rattle.name_order.specs.Orders.{HasNoCycle as HasNoRound}
-use Rattle.project_meaning.specs.Leaves.{Leaf, symbol, leaf_of, name_in, names_in, resolved, written as text_of}
+use Rattle.project_meaning.specs.Leaves.{Leaf, symbol, expressions_of, leaf_of, name_in, names_in, resolved, written as text_of}
 use Rattle.project_meaning.specs.Projects.{Definition as Meant, Written, Project, Defines, Refers, Reaches, at_once, further, HasNoCycle, definition_in, names_of}
-use Rattle.project_meaning.specs.Trees.{Body, xfst, lexc, twolc}
+use Rattle.project_meaning.specs.Trees.{Body}
 use Rattle.project_meaning.proofs.Closed.{closed}
 use Rattle.project_sources.specs.Faults.{fault, fault_of, cyclic, SaidFault}
 use Rattle.project_manifest.specs.Lines.{symbols_of}
 use Rattle.project_manifest.specs.Rows.{First, Where}
 use Rattle.project_sources.specs.Sources.{Said, project_in}
 use Rattle.project_model.specs.Forms.{AreDefined}
-use Rattle.project_model.specs.Numbered.{numbered}
-use Rattle.project_model.specs.Plans.{body_term}
-use Rattle.project_model.specs.Referring.{CycleFault, place_in, places_in, references_of}
-use Rattle.project_model.specs.Resolved.{atom_of}
-use Rattle.project_model.specs.Stands.{Entry, entry_of, entry_in, expression_in}
+use Rattle.name_resolution.specs.Numbered.{numbered}
+use Rattle.project_model.specs.Bodies.{mapped_body}
+use Rattle.project_model.specs.Plain.{body_of}
+use Rattle.project_model.specs.Referring.{CycleFault, body_places, place_in, places_in, references_of}
+use Rattle.name_resolution.specs.Resolved.{atom_of}
+use Rattle.project_model.specs.Stands.{Entry, entry_of, entry_in}
 use Rattle.project_model.specs.declared.definition.Definition.{Definition}
 use Rattle.project_model.proofs.Alphabets.{at_number, number_within}
-use Rattle.project_model.proofs.Expressions.{same_some}
+use Rattle.project_model.proofs.Bodies.{expressions_mapped, expressions_resolved}
 use Rattle.project_model.proofs.Gathering.{listed_is}
-use Rattle.project_model.proofs.Leaves.{leaf_cases}
-use Rattle.project_model.proofs.Mapped.{mapped_listed, mapped_twice}
+use Rattle.name_resolution.proofs.Leaves.{leaf_cases}
+use Rattle.name_resolution.proofs.Mapped.{mapped_listed, mapped_twice}
 
 below : (n m : ℕ) → n < m → nat_lt n m ≡ true
 below n m less = grind (arith, nat_tests)
@@ -98,14 +99,19 @@ places_below : (n : ℕ) (leaves : List Atom) → All (λ (p : ℕ). p < n) (fla
 places_below n [] = All-nil (λ (p : ℕ). p < n)
 places_below n (a ∷ leaves) = All-append (λ (p : ℕ). p < n) (place_in n a) (flat_map (place_in n) leaves) (place_below n a) (places_below n leaves)
 
+each_below : (n : ℕ) (es : List (Term Atom)) → All (λ (p : ℕ). p < n) (flat_map (places_in n) es)
+each_below n [] = All-nil (λ (p : ℕ). p < n)
+each_below n (e ∷ es) =
+    All-append (λ (p : ℕ). p < n) (places_in n e) (flat_map (places_in n) es)
+    (subst (All (λ (p : ℕ). p < n)) (sym (listed_is (place_in n) e)) (places_below n (leaves_in e))) (each_below n es)
+
 pub references_whole : (definitions : List Definition) → IsWhole (references_of definitions)
 references_whole definitions place other (xs, at, h) =
     let n = length definitions in
-    let (d, there, is) = at_map (λ (d : Definition). places_in n (body_term d.body)) definitions place xs at in
-    let among : Contains (flat_map (place_in n) (leaves_in (body_term d.body))) other =
-    subst (λ (ys : List ℕ). Contains ys other) (sym is ∙ listed_is (place_in n) (body_term d.body)) h in
-    let less = All-contains (λ (p : ℕ). p < n) (flat_map (place_in n) (leaves_in (body_term d.body))) other (places_below n (leaves_in (body_term d.body))) among in
-    let size = length-map definitions (λ (d : Definition). places_in n (body_term d.body)) in
+    let (d, there, is) = at_map (λ (d : Definition). body_places n (body_of d.body)) definitions place xs at in
+    let among : Contains (body_places n (body_of d.body)) other = subst (λ (ys : List ℕ). Contains ys other) (sym is) h in
+    let less = All-contains (λ (p : ℕ). p < n) (body_places n (body_of d.body)) other (each_below n (expressions_of (body_of d.body))) among in
+    let size = length-map definitions (λ (d : Definition). body_places n (body_of d.body)) in
     omega (arith, less, size)
 
 module _ (names table : List (List ℕ)) where
@@ -126,23 +132,34 @@ module _ (names table : List (List ℕ)) where
         | inr is ↦ subst (λ (l : Leaf). place_in (length names) (numbered names table l) ≡ map number (name_in l)) (sym is) (symbol_place (text_of leaf))
       ]
 
-  places_are : (e : Term Raw) (t : Term Atom) → t ≡ mapped (numbered names table) (mapped (leaf_of names) e)
-      → places_in (length names) t ≡ map number (listed name_in (mapped (leaf_of names) e))
-  places_are e t is =
-      ap (places_in (length names)) (is ∙ mapped_twice (numbered names table) (leaf_of names) e)
+  abbrev by_text : Term Raw → Term Leaf
+  by_text e = mapped (leaf_of names) e
+
+  abbrev by_number : Term Leaf → Term Atom
+  by_number e = mapped (numbered names table) e
+
+  places_are : (e : Term Raw) → places_in (length names) (by_number (by_text e)) ≡ map number (listed name_in (by_text e))
+  places_are e =
+      ap (places_in (length names)) (mapped_twice (numbered names table) (leaf_of names) e)
       ∙ mapped_listed (place_in (length names)) (atom_of names table) e
       ∙ listed_is (λ leaf. place_in (length names) (atom_of names table leaf)) e
       ∙ ap (λ (of : Raw → List ℕ). flat_map of (leaves_in e)) (λ i leaf. place_is leaf i)
       ∙ flat_mapped number (λ leaf. name_in (leaf_of names leaf)) (leaves_in e)
       ∙ ap (map number) (sym (listed_is (λ leaf. name_in (leaf_of names leaf)) e) ∙ sym (mapped_listed name_in (leaf_of names) e))
 
-  body_places : (body : Body Raw) (t : Term Atom) → Some t ≡ option_map (mapped (numbered names table)) (expression_in (resolved names body))
-      → places_in (length names) t ≡ map number (names_in (resolved names body))
-  body_places (xfst e) t is =
-      let e' = mapped (leaf_of names) e in
-      places_are e t (same_some t (mapped (numbered names table) e') is) ∙ ap (map number) (sym (append-nil (listed name_in e')))
-  body_places (lexc lexicons) t is = let never : Some t ≡ None = is in cc
-  body_places (twolc grammar) t is = let never : Some t ≡ None = is in cc
+  each_place : (es : List (Term Raw)) → flat_map (places_in (length names)) (map by_number (map by_text es)) ≡ map number (flat_map (λ (e : Term Leaf). listed name_in e) (map by_text es))
+  each_place [] = refl
+  each_place (e ∷ es) =
+      let here = places_are e in
+      let rest = each_place es in
+      (λ i. here i ++ rest i) ∙ sym (map-append number (listed name_in (by_text e)) (flat_map (λ (x : Term Leaf). listed name_in x) (map by_text es)))
+
+  body_places_are : (body : Body Raw) (b : Body Atom) → b ≡ mapped_body (numbered names table) (resolved names body)
+      → body_places (length names) b ≡ map number (names_in (resolved names body))
+  body_places_are body b is =
+      let texts = expressions_resolved names body in
+      let numbers = ap (λ (x : Body Atom). expressions_of x) is ∙ expressions_mapped (numbered names table) (resolved names body) ∙ ap (map by_number) texts in
+      ap (flat_map (places_in (length names))) numbers ∙ each_place (expressions_of body) ∙ ap (λ (es : List (Term Leaf)). map number (flat_map (λ (e : Term Leaf). listed name_in e) es)) (sym texts)
 
 -- definitions as they were said
 module _ (said : Said) (table : List (List ℕ)) (definitions : List Definition) (are : AreDefined said table definitions) where
@@ -166,9 +183,9 @@ module _ (said : Said) (table : List (List ℕ)) (definitions : List Definition)
 
   graph_is : graph ≡ map listed_by said.written
   graph_is =
-      ap (λ n. map (λ (d : Definition). places_in n (body_term d.body)) definitions) count
-      ∙ map_alike entry_of (entry_in names table) (λ d. places_in (length names) (body_term d.body)) listed_by
-      (λ d w same. body_places names table w.body (body_term d.body) (ap (λ (e : Entry). e.term) same)) definitions said.written are.entries
+      ap (λ n. map (λ (d : Definition). body_places n (body_of d.body)) definitions) count
+      ∙ map_alike entry_of (entry_in names table) (λ d. body_places (length names) (body_of d.body)) listed_by
+      (λ d w same. body_places_are names table w.body (body_of d.body) (ap (λ (e : Entry). e.body) same)) definitions said.written are.entries
 
   pub name_at : (k : ℕ) (w : Written) → slice_get said.written k ≡ Some w → slice_get names k ≡ Some w.name
   name_at k w at = slice_get-map (λ (w : Written). w.name) said.written k ∙ ap (option_map (λ (w : Written). w.name)) at

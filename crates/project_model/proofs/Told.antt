@@ -1,14 +1,13 @@
 -- What is told of an expression by the numbers of its leaves is what is told of it by their texts, where the names in it have forms
 -- with their kinds and weights.
-use Rattle.std.proofs.Common.{◌≡◌, ◌↔◌, ℕ, List, [], ◌∷◌, length, All, Contains, Some, None, refl, sym, ap, subst, ◌∙◌, inl, inr, arith, append-nil}
-use Rattle.std.proofs.lemmas.List.Elements.{All-nil, All-cons, All-head}
+use Rattle.std.proofs.Common.{◌≡◌, ◌↔◌, ℕ, List, [], ◌∷◌, length, map, All, Contains, refl, sym, ap, subst, ◌∙◌, arith}
+use Rattle.std.specs.Prelude.{sum_by}
+use Rattle.std.proofs.lemmas.List.Elements.{All-nil, All-cons, All-head, All-contains}
 use Rattle.std.proofs.lemmas.Option.{slice_get_past}
 use Rattle.std.specs.List.{flat_map}
-use Rattle.std.specs.Option.{option_map}
 use Rattle.fsm_base.specs.Symbols.{number_of}
-use Rattle.word_relations.proofs.Members.{Contains-nil_cases, Contains-cons_cases, Contains-head, Contains-tail}
+use Rattle.word_relations.proofs.Members.{Contains-head, Contains-map, Contains-tail}
 use Rattle.regex_ast.specs.declared.expr.Atom.{Atom}
-use Rattle.regex_ast.specs.declared.expr.Raw.{Raw}
 use Rattle.regex_ast.specs.Terms.{Term}
 use Rattle.expr_kinds.specs.Atoms.{kind_at, kind_told, kinds_at, leaves_at, weight_at, weight_told, weights_at}
 use Rattle.expr_kinds.specs.Forms.{capped}
@@ -19,23 +18,32 @@ use Rattle.expr_kinds.proofs.WeightLaws.{capped_alike, capped_twice}
 use Rattle.expr_leaves.specs.Leaves.{leaves_in, listed}
 use Rattle.expr_leaves.specs.Mapped.{mapped}
 use Rattle.project_meaning.specs.Forms.{BodyFits, are_same, body_kind, body_weight, kind_in, leaf_kind, leaf_weight, leaves_by, weight_in}
-use Rattle.project_meaning.specs.Leaves.{Leaf, symbol, named, leaf_of, name_in, names_in, resolved, symbol_in, symbols_in}
+use Rattle.project_meaning.specs.Leaves.{Leaf, symbol, named, expressions_of, name_in, names_in, symbol_in, symbols_in}
 use Rattle.project_meaning.specs.Projects.{Project}
 use Rattle.project_meaning.specs.Trees.{Body, xfst, lexc, twolc}
 use Rattle.project_meaning.proofs.Forms.{same_body_weight}
-use Rattle.project_model.specs.Numbered.{numbered}
-use Rattle.project_model.specs.Stands.{expression_in}
+use Rattle.project_meaning.proofs.Places.{in_flat}
+use Rattle.name_resolution.specs.Numbered.{numbered}
+use Rattle.project_model.specs.Bodies.{BodyFitsBy, kind_of_body, lexicon_weight, mapped_body, no_grammar as none, weight_of_body}
+use Rattle.project_model.specs.Plain.{body_of}
+use Rattle.project_model.specs.declared.definition.Body.{Body as BodyOf}
+use Rattle.project_model.proofs.Bodies.{expressions_mapped, held_expressions}
 use Rattle.project_model.proofs.Built.{All-front, All-back}
-use Rattle.project_model.proofs.Expressions.{same_some}
+use Rattle.project_model.proofs.Expressions.{not_grammar}
 use Rattle.project_model.proofs.Gathering.{listed_is}
 use Rattle.project_model.proofs.Leaves.{texts_same}
 use Rattle.project_model.proofs.Mapped.{mapped_fits, mapped_kind, mapped_weight}
+use Rattle.project_model.proofs.Weighing.{lexicons_capped, lexicons_mapped, lexicons_meant}
 
 -- the form at the place of this name has its kind and its weight
 pub record IsTold (names : List (List ℕ)) (project : Project) (forms : List Form) (name : List ℕ) : Type 0 where
   pub among : Contains names name
   pub kind : kind_at forms (number_of name names) ≡ kind_in project name
   pub weight : weight_at forms (number_of name names) ≡ capped (weight_in project name)
+
+all_made : {X Y : Type 0} (f : X → Y) (Q : Y → Type 0) (xs : List X) → ((x : X) → Contains xs x → Q (f x)) → All Q (map f xs)
+all_made f Q [] each = All-nil Q
+all_made f Q (x ∷ xs) each = All-cons Q (f x) (map f xs) (each x (Contains-head x xs)) (all_made f Q xs (λ y h. each y (Contains-tail x xs y h)))
 
 module _ (names table : List (List ℕ)) (project : Project) (forms : List Form) (few : length forms ≡ length names) where
   -- a leaf whose symbol the table has, or whose form is told
@@ -111,51 +119,51 @@ module _ (names table : List (List ℕ)) (project : Project) (forms : List Form)
       ap capped (mapped_weight (weights_at forms) (numbered names table) e ∙ ap (λ (w : Leaf → ℕ). weight_of w e) (λ i leaf. weight_each leaf i) ∙ same_body_weight kept cut (xfst e) (λ name h. (told name h).weight))
       ∙ capped_alike (leaf_weight cut) (leaf_weight (weight_in project)) cut_each e
 
-  listed_told : (e : Term Leaf) → ((name : List ℕ) → Contains (names_in (xfst e)) name → IsTold names project forms name)
-      → (name : List ℕ) → Contains (listed name_in e) name → IsTold names project forms name
-  listed_told e told name h = told name (subst (λ (texts : List (List ℕ)). Contains texts name) (sym (append-nil (listed name_in e))) h)
-
   given : {P Q : Type 0} → P ≡ Q → P → Q
   given same p = subst (λ (T : Type 0). T) same p
 
   back : {P Q : Type 0} → P ≡ Q → Q → P
   back same q = subst (λ (T : Type 0). T) (sym same) q
 
-  -- a body whose expression by numbers is t, where its symbols and names are known
-  module _ (t : Term Atom) where
-    abbrev IsNumbered : Body Raw → Type 0
-    IsNumbered body = Some t ≡ option_map (mapped (numbered names table)) (expression_in (resolved names body))
+  -- a body by numbers, where its symbols and names are known
+  module _ (b : BodyOf Atom) where
+    abbrev IsNumbered : Body Leaf → Type 0
+    IsNumbered body = body_of b ≡ mapped_body (numbered names table) body
 
-    abbrev AllTold : Body Raw → Type 0
-    AllTold body = (name : List ℕ) → Contains (names_in (resolved names body)) name → IsTold names project forms name
+    abbrev AllTold : Body Leaf → Type 0
+    AllTold body = (name : List ℕ) → Contains (names_in body) name → IsTold names project forms name
 
-    pub told_kind : (body : Body Raw) → IsNumbered body → All (Contains table) (symbols_in (resolved names body)) → AllTold body
-        → kind_of (leaves_at forms) t ≡ body_kind (kind_in project) (resolved names body)
-    told_kind (xfst e) is held told =
-        let e' = mapped (leaf_of names) e in
-        ap (kind_of (leaves_at forms)) (same_some t (by_number e') is) ∙ kind_is e' (known_all e' held (listed_told e' told))
-    told_kind (lexc lexicons) is held told = let never : Some t ≡ None = is in cc
-    told_kind (twolc grammar) is held told = let never : Some t ≡ None = is in cc
+    known_in : (body : Body Leaf) → All (Contains table) (symbols_in body) → AllTold body → (e : Term Leaf) → Contains (expressions_of body) e → All Known (leaves_in e)
+    known_in body held told e among =
+        known_all e (All-contains (λ (e : Term Leaf). All (Contains table) (listed symbol_in e)) (expressions_of body) e (held_expressions (Contains table) body held) among)
+        (λ name h. told name (in_flat (λ (e : Term Leaf). listed name_in e) (expressions_of body) e name among h))
 
-    pub told_weight : (body : Body Raw) → IsNumbered body → AllTold body
-        → capped (weight_of (weights_at forms) t) ≡ capped (body_weight (weight_in project) (resolved names body))
-    told_weight (xfst e) is told =
-        let e' = mapped (leaf_of names) e in
-        ap (λ (x : Term Atom). capped (weight_of (weights_at forms) x)) (same_some t (by_number e') is) ∙ weight_is e' told
-    told_weight (lexc lexicons) is told = let never : Some t ≡ None = is in cc
-    told_weight (twolc grammar) is told = let never : Some t ≡ None = is in cc
+    kind_by_number : (body : Body Leaf) → All (Contains table) (symbols_in body) → AllTold body
+        → kind_of_body (leaves_at forms) (mapped_body (numbered names table) body) ≡ body_kind (kind_in project) body
+    kind_by_number (xfst e) held told = kind_is e (known_in (xfst e) held told e (Contains-head e []))
+    kind_by_number (lexc lexicons) held told = refl
+    kind_by_number (twolc grammar) held told = refl
 
-    pub told_fits : (body : Body Raw) → IsNumbered body → All (Contains table) (symbols_in (resolved names body)) → AllTold body
-        → Fits (leaves_at forms) t ↔ BodyFits (leaves_by (kind_in project)) (resolved names body)
-    told_fits (xfst e) is held told =
-        let e' = mapped (leaf_of names) e in
-        let leaves = leaves_by (kind_in project) in
-        let same : Fits (leaves_at forms) t ≡ Fits leaves e' = ap (Fits (leaves_at forms)) (same_some t (by_number e') is) ∙ fits_is e' (known_all e' held (listed_told e' told)) in (
-          λ fits f among. elim (Contains-cons_cases e' [] f among) as (λ _. Fits leaves f) [
-            | inl it ↦ subst (Fits leaves) it (given same fits)
-            | inr never ↦ absurd (Contains-nil_cases f never)
-          ],
-          λ all. back same (all e' (Contains-head e' [])),
+    pub told_kind : (body : Body Leaf) → IsNumbered body → All (Contains table) (symbols_in body) → AllTold body
+        → kind_of_body (leaves_at forms) (body_of b) ≡ body_kind (kind_in project) body
+    told_kind body is held told = ap (kind_of_body (leaves_at forms)) is ∙ kind_by_number body held told
+
+    pub told_weight : (body : Body Leaf) → IsNumbered body → AllTold body
+        → capped (weight_of_body (weights_at forms) (body_of b)) ≡ capped (body_weight (weight_in project) body)
+    told_weight (xfst e) is told = ap (λ (x : Body Atom). capped (weight_of_body (weights_at forms) x)) is ∙ weight_is e told
+    told_weight (lexc lexicons) is told =
+        ap (λ (x : Body Atom). capped (weight_of_body (weights_at forms) x)) is
+        ∙ ap capped
+        (lexicons_mapped (weights_at forms) (numbered names table) lexicons ∙ ap (λ (w : Leaf → ℕ). sum_by (lexicon_weight w) lexicons) (λ i leaf. weight_each leaf i)
+        ∙ lexicons_meant kept lexicons ∙ same_body_weight kept cut (lexc lexicons) (λ name h. (told name h).weight))
+        ∙ lexicons_capped cut (weight_in project) cut_each lexicons
+    told_weight (twolc grammar) is told = absurd (not_grammar b none is)
+
+    pub told_fits : (body : Body Leaf) → IsNumbered body → All (Contains table) (symbols_in body) → AllTold body
+        → BodyFitsBy (leaves_at forms) (body_of b) ↔ BodyFits (leaves_by (kind_in project)) body
+    told_fits body is held told =
+        let es = expressions_of body in
+        let same : expressions_of (body_of b) ≡ map by_number es = ap expressions_of is ∙ expressions_mapped (numbered names table) body in (
+          λ h e among. given (fits_is e (known_in body held told e among)) (All-contains (Fits (leaves_at forms)) (map by_number es) (by_number e) (subst (All (Fits (leaves_at forms))) same h) (Contains-map by_number es e among)),
+          λ h. subst (All (Fits (leaves_at forms))) (sym same) (all_made by_number (Fits (leaves_at forms)) es (λ e among. back (fits_is e (known_in body held told e among)) (h e among))),
         )
-    told_fits (lexc lexicons) is held told = let never : Some t ≡ None = is in cc
-    told_fits (twolc grammar) is held told = let never : Some t ≡ None = is in cc

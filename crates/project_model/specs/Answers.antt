@@ -5,22 +5,23 @@ use Rattle.regex_ast.specs.declared.fault.Fault.{Fault}
 use Rattle.regex_ast.specs.declared.fault.Why.{Why}
 use Rattle.regex_ast.specs.declared.fault.Why.TheVariants as why
 use Rattle.regex_ast.specs.declared.expr.Atom.{Atom}
-use Rattle.regex_ast.specs.Terms.{Term}
-use Rattle.regex_reader.specs.Files.{FaultAt, statement_of}
+use Rattle.regex_reader.specs.Files.{FaultAt}
 use Rattle.expr_kinds.specs.Atoms.{is_known_at, is_symbol, leaves_at, weights_at}
-use Rattle.expr_kinds.specs.Built.{IsBuiltBy}
-use Rattle.expr_kinds.specs.Kinds.{Fits}
-use Rattle.expr_kinds.specs.Weights.{most_weight, weight_of}
+use Rattle.expr_kinds.specs.Weights.{most_weight}
 use Rattle.expr_kinds.specs.declared.form.Form.{Form}
 use Rattle.project_manifest.specs.Lines.{ManifestFault, Placed, line_rows_so_far, manifest_of, names_required}
 use Rattle.project_manifest.specs.Manifests.{project_name}
 use Rattle.project_manifest.specs.Reading.{HasNoFault}
 use Rattle.project_manifest.specs.Rows.{First, HaveNone, Where}
+use Rattle.project_meaning.specs.Trees.{Body}
 use Rattle.project_meaning.specs.Projects.{Written}
-use Rattle.project_sources.specs.Sources.{HasText, Said, FilesSay, stated}
+use Rattle.project_sources.specs.Built.{BodyIsBuiltBy}
+use Rattle.project_sources.specs.Sources.{HasText, Said, FilesSay}
 use Rattle.project_sources.specs.Faults.{fault, HasNoText, SaidRow, SaidFault, read_so_far, FirstFault}
-use Rattle.project_sources.specs.Laws.{unbuilt}
-use Rattle.project_model.specs.Plans.{PlanView, body_term}
+use Rattle.project_sources.specs.Laws.{readers_so_far}
+use Rattle.project_model.specs.Bodies.{BodyFitsBy, weight_of_body}
+use Rattle.project_model.specs.Plain.{body_of}
+use Rattle.project_model.specs.Plans.{PlanView}
 use Rattle.project_model.specs.Stands.{Stands}
 use Rattle.project_model.specs.declared.definition.Definition.{Definition}
 use Rattle.project_model.specs.declared.demands.Demand.{Demand}
@@ -31,15 +32,15 @@ use Rattle.project_model.specs.declared.written.WrittenDefine.{WrittenDefine}
 
 -- the files have no fault by the rows that are told so far, and the plan stands for what they say
 pub record IsPlanOf (files : Files) (old new : List (List ℕ)) (plan : PlanView) : Type 0 where
-  pub faultless : (found : Fault) → FirstFault unbuilt files read_so_far found → ⊥
+  pub faultless : (found : Fault) → FirstFault readers_so_far files read_so_far found → ⊥
   pub said : Said
-  pub says : FilesSay unbuilt files said
+  pub says : FilesSay readers_so_far files said
   pub stands : Stands said old new plan
 
 -- the plan of files, their first fault, or want of memory
 abbrev pub IsProjectRead : Files → List (List ℕ) → List (List ℕ) → Result PlanView PlanError → Type 0
 IsProjectRead files old new (Ok plan) = IsPlanOf files old new plan
-IsProjectRead files old new (Err (Refused found)) = FirstFault unbuilt files read_so_far found
+IsProjectRead files old new (Err (Refused found)) = FirstFault readers_so_far files read_so_far found
 IsProjectRead files old new (Err (Memory refused)) = ⊤
 
 -- refused for such a fault, or for want of memory
@@ -66,9 +67,9 @@ IsTextFault text found = (at : FaultAt) × ManifestFault line_rows_so_far text a
 abbrev pub IsNoManifest : List ℕ → Fault → Type 0
 IsNoManifest content found = HasNoText project_name content found ⊎ ((text : List ℕ) × HasText content text × IsTextFault text found)
 
--- the definition that a file writes, and what a manifest of these lines says with definitions
+-- a definition as it is written, and what a manifest of these lines says with definitions
 abbrev pub written_of : WrittenDefine → Written
-written_of w = stated w.file (statement_of w.define)
+written_of w = record { name = w.name; line = w.line; file = w.file; body = body_of w.body }
 
 abbrev pub said_of : List Placed → List Written → Said
 said_of manifest written = record { manifest = manifest; written = written }
@@ -82,10 +83,10 @@ UnknownFault names lines found = First (λ l. Where (IsUnknown names l) (fault p
 
 -- what is asked of a definition where names have these forms: that each operand that must be a language is one, that it isn't
 -- too heavy, and that its network can be built
-abbrev pub Meets : List Form → Demand → Term Atom → Type 0
-Meets forms demand.Fits t = Fits (leaves_at forms) t
-Meets forms demand.Light t = weight_of (weights_at forms) t ≤ most_weight
-Meets forms demand.Built t = IsBuiltBy (is_known_at forms) is_symbol t
+abbrev pub Meets : List Form → Demand → Body Atom → Type 0
+Meets forms demand.Fits body = BodyFitsBy (leaves_at forms) body
+Meets forms demand.Light body = weight_of_body (weights_at forms) body ≤ most_weight
+Meets forms demand.Built body = BodyIsBuiltBy (is_known_at forms) is_symbol body
 
 abbrev pub why_not : Demand → Why
 why_not demand.Fits = why.NotALanguage
@@ -93,7 +94,7 @@ why_not demand.Light = why.LimitWeight
 why_not demand.Built = why.NotBuilt
 
 abbrev pub DoesMeet : List Form → Demand → Definition → Type 0
-DoesMeet forms asked d = Meets forms asked (body_term d.body)
+DoesMeet forms asked d = Meets forms asked (body_of d.body)
 
 -- the fault of the first definition that doesn't meet it
 abbrev pub DemandFault : List Definition → List Form → Demand → Fault → Type 0

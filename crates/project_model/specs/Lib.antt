@@ -1,12 +1,12 @@
 pub mod Answers
+pub mod Bodies
 pub mod Files
 pub mod Forms
 pub mod Gathered
-pub mod Names
 pub mod Numbered
+pub mod Plain
 pub mod Plans
 pub mod Referring
-pub mod Resolved
 pub mod Sound
 pub mod Sources
 pub mod Stands

@@ -1,21 +1,12 @@
--- Leaves by the numbers of their symbols in a table.
-use Rattle.std.specs.Prelude.{ℕ, Bool, true, false, List, [], ◌∷◌, length, map}
+-- The numbers of an alphabet in a table, and expressions over it.
+use Rattle.std.specs.Prelude.{ℕ, Bool, true, false, List, [], ◌∷◌, map}
 use Rattle.std.specs.List.{list_any}
 use Rattle.std.specs.Str.{bytes_eq}
 use Rattle.fsm_base.specs.declared.letters.Sym.{Sym as Symbol}
 use Rattle.fsm_base.specs.Symbols.{number_of}
-use Rattle.regex_ast.specs.declared.expr.Atom.{Atom}
-use Rattle.regex_ast.specs.declared.expr.Atom.TheVariants.{Sym, Name}
-use Rattle.expr_kinds.specs.Built.{IsBuiltBy}
-use Rattle.project_meaning.specs.Trees.{Body, xfst, lexc, twolc}
+use Rattle.project_meaning.specs.Trees.{Body}
 use Rattle.project_meaning.specs.Leaves.{Leaf, symbol, named}
-
--- a symbol by its number in the table, and a name by its place among the names. An empty text is no symbol: its place is behind
--- all names
-abbrev pub numbered : List (List ℕ) → List (List ℕ) → Leaf → Atom
-numbered names table (symbol []) = Name (length names)
-numbered names table (symbol (b ∷ bs)) = Sym (record { 0 = number_of (b ∷ bs) table })
-numbered names table (named name) = Name (number_of name names)
+use Rattle.project_sources.specs.Built.{BodyIsBuiltBy}
 
 -- the numbers of texts in a table
 abbrev pub numbers_in : List (List ℕ) → List (List ℕ) → List Symbol
@@ -32,8 +23,6 @@ abbrev pub is_leaf_over : List (List ℕ) → Leaf → Bool
 is_leaf_over alphabet (symbol text) = is_symbol_over alphabet (symbol text)
 is_leaf_over alphabet (named name) = true
 
--- an expression whose leaves are such symbols and names, and whose insertions stand alone in their rules
+-- a body whose leaves are such symbols and names, and whose insertions stand alone in their rules
 abbrev pub IsBodyOver : List (List ℕ) → Body Leaf → Type 0
-IsBodyOver alphabet (xfst e) = IsBuiltBy (is_leaf_over alphabet) (is_symbol_over alphabet) e
-IsBodyOver alphabet (lexc lexicons) = ⊥
-IsBodyOver alphabet (twolc grammar) = ⊥
+IsBodyOver alphabet body = BodyIsBuiltBy (is_leaf_over alphabet) (is_symbol_over alphabet) body

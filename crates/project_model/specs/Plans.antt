@@ -2,14 +2,11 @@
 use Rattle.std.specs.Prelude.{◌≡◌, ℕ, List, length, map, All, Some, slice_get}
 use Rattle.fsm_base.specs.declared.letters.Sym.{Sym}
 use Rattle.word_relations.specs.Words.{IsDistinct}
-use Rattle.regex_ast.specs.declared.expr.Atom.{Atom}
-use Rattle.regex_ast.specs.Terms.{Term, term}
 use Rattle.expr_kinds.specs.Atoms.{kind_at, leaves_at}
-use Rattle.expr_kinds.specs.Kinds.{kind_of}
 use Rattle.expr_kinds.specs.declared.form.Form.{Form}
+use Rattle.project_model.specs.Bodies.{kind_of_body}
+use Rattle.project_model.specs.Plain.{body_of}
 use Rattle.project_model.specs.Sound.{IsSound}
-use Rattle.project_model.specs.declared.definition.Body.{Body}
-use Rattle.project_model.specs.declared.definition.Body.TheVariants.{Xfst}
 use Rattle.project_model.specs.declared.definition.Definition.{Definition}
 
 pub record PlanView : Type 0 where
@@ -17,18 +14,15 @@ pub record PlanView : Type 0 where
   pub symbols : List Sym
   pub forms : List Form
 
-abbrev pub body_term : Body → Term Atom
-body_term (Xfst e) = term e
-
 -- the definition can be built over these symbols, where names have these forms
 abbrev pub IsSoundOver : List Form → List Sym → Definition → Type 0
-IsSoundOver forms symbols d = IsSound forms symbols (body_term d.body)
+IsSoundOver forms symbols d = IsSound forms symbols (body_of d.body)
 
--- there is a form at the place of each definition. It has the kind of the definition's expression, where each name has the kind of
+-- there is a form at the place of each definition. It has the kind of what the definition stands for, where each name has the kind of
 -- the form at its place
 pub record HaveKinds (definitions : List Definition) (forms : List Form) : Type 0 where
   pub count : length forms ≡ length definitions
-  pub kinds : (place : ℕ) (d : Definition) → slice_get definitions place ≡ Some d → kind_at forms place ≡ kind_of (leaves_at forms) (body_term d.body)
+  pub kinds : (place : ℕ) (d : Definition) → slice_get definitions place ≡ Some d → kind_at forms place ≡ kind_of_body (leaves_at forms) (body_of d.body)
 
 -- each symbol stands once, and each definition has a name of its own, a form, and can be built over the symbols
 pub record IsPlan (plan : PlanView) : Type 0 where

@@ -5,10 +5,14 @@ use Rattle.regex_ast.specs.declared.expr.Atom.TheVariants.{Sym, Name}
 use Rattle.regex_ast.specs.declared.fault.Fault.{Fault}
 use Rattle.regex_ast.specs.declared.fault.Why.TheVariants as why
 use Rattle.regex_ast.specs.Terms.{Term}
+use Rattle.std.specs.List.{flat_map}
 use Rattle.expr_leaves.specs.Leaves.{listed}
 use Rattle.name_order.specs.Orders.{IsFirstCycle, IsOrder}
+use Rattle.project_meaning.specs.Trees.{Body}
+use Rattle.project_meaning.specs.Leaves.{expressions_of}
 use Rattle.project_sources.specs.Faults.{fault}
-use Rattle.project_model.specs.Plans.{IsPlan, PlanView, body_term}
+use Rattle.project_model.specs.Plain.{body_of}
+use Rattle.project_model.specs.Plans.{IsPlan, PlanView}
 use Rattle.project_model.specs.declared.definition.Definition.{Definition}
 
 -- the place of a leaf that is a name, where it is the place of a definition
@@ -20,9 +24,13 @@ place_in count (Name place) = cond (nat_lt place count) (place ∷ []) []
 abbrev pub places_in : ℕ → Term Atom → List ℕ
 places_in count t = listed (place_in count) t
 
+-- the places of the names in all expressions of a body
+abbrev pub body_places : ℕ → Body Atom → List ℕ
+body_places count body = flat_map (places_in count) (expressions_of body)
+
 -- for each definition, the places of those that it refers to
 abbrev pub references_of : List Definition → List (List ℕ)
-references_of definitions = map (λ d. places_in (length definitions) (body_term d.body)) definitions
+references_of definitions = map (λ d. body_places (length definitions) (body_of d.body)) definitions
 
 -- the fault of the first definition that reaches itself
 pub record CycleFault (definitions : List Definition) (found : Fault) : Type 0 where

@@ -1,22 +1,24 @@
 use fsm_base::Text;
-use regex_ast::{Atom, Expr};
+use regex_ast::{Atom, Expr, Lexicon};
 
 /// A definition of a project.
 #[derive(Debug, Drop)]
 pub struct Definition {
     /// The defined name.
     pub name: Text,
-    /// The line of its statement, counted from 1.
+    /// The line of its statement, counted from 1: that of the manifest where it names a file of lexicons.
     pub line: u32,
     /// The file of its statement.
     pub file: Text,
-    /// What the name stands for.
-    pub body: Body,
+    /// What the name stands for, its leaves resolved to names and symbols.
+    pub body: Body<Atom>,
 }
 
 /// What a name stands for.
 #[derive(Debug, Drop)]
-pub enum Body {
-    /// An expression of an xfst file, its runs resolved to names and symbols.
-    Xfst(Expr<Atom>),
+pub enum Body<A> {
+    /// An expression of an xfst file.
+    Xfst(Expr<A>),
+    /// The lexicons of a lexc file.
+    Lexc(Vec<Lexicon<A>>),
 }

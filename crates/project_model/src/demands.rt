@@ -1,10 +1,12 @@
 ghost use Rattle.std.specs.Prelude.{◌↔◌, All, IsTrue, MatchOption};
 ghost use Rattle.project_sources.specs.Faults.{fault};
 ghost use Rattle.project_model.specs.Answers.{DemandFault, DoesMeet, Meets, why_not};
-ghost use Rattle.project_model.specs.Plans.{body_term};
+ghost use Rattle.project_model.specs.Plain.{body_of};
 
 use crate::definition::{Body, Definition};
-use expr_kinds::{Form, MOST_WEIGHT, form_of};
+use crate::forms::form_of_body;
+use expr_kinds::{Form, MOST_WEIGHT};
+use regex_ast::Atom;
 
 /// What is asked of each definition.
 #[derive(Clone, Copy, Debug, PartialEq, Eq)]
@@ -18,12 +20,11 @@ pub enum Demand {
 }
 
 /// Whether a definition meets it, where names have these forms.
-#[tactic(auto, unfolding(expr_kinds::specs::Weights::most_weight))]
-fn meets(forms: &[Form], body: &Body, demand: Demand) -> bool
-    ensures { IsTrue result ↔ Meets forms.now demand (body_term body.now) }
+#[tactic(auto, unfolding(expr_kinds::specs::Forms::capped, expr_kinds::specs::Weights::most_weight))]
+fn meets(forms: &[Form], body: &Body<Atom>, demand: Demand) -> bool
+    ensures { IsTrue result ↔ Meets forms.now demand (body_of body.now) }
 {
-    let Body::Xfst(expr) = body;
-    let form = form_of(forms, expr);
+    let form = form_of_body(forms, body);
     match demand {
         Demand::Fits => form.fits,
         Demand::Light => form.weight <= MOST_WEIGHT,

@@ -1,24 +1,29 @@
+ghost use Rattle.lexc_grammar.specs.Files.{SaysLexicons};
 ghost use Rattle.std.specs.Prelude.{◌≡◌, ◌*◌, ◌≤◌, ◌++◌, ◌∷◌, [], Err, Ok, IfErr, IfOk, OnOk, length, map};
 ghost use Rattle.fsm_base.specs.Normal.{most_growth};
 ghost use Rattle.project_manifest.specs.Lines.{file_in};
 ghost use Rattle.project_manifest.specs.Rows.{First};
 ghost use Rattle.project_manifest.specs.Sayings.{line_of, placed_of};
 ghost use Rattle.project_sources.specs.Faults.{NamedFault, fault};
-ghost use Rattle.project_sources.specs.Laws.{unbuilt};
+ghost use Rattle.project_sources.specs.Laws.{readers_so_far};
 ghost use Rattle.project_sources.specs.Limits.{most_bytes};
-ghost use Rattle.project_sources.specs.Sources.{FilesDefine, stated};
+ghost use Rattle.project_sources.specs.Sources.{FilesDefine, declared, stated};
 ghost use Rattle.project_model.specs.Answers.{IsRefusedBy, written_of};
+ghost use Rattle.project_meaning.specs.Trees.{lexc};
 ghost use Rattle.project_model.specs.Files.{HasDefined, HasPut, IsUnread};
+ghost use Rattle.lexicon_resolution.specs.Plain.{lexicon_of};
 ghost use Rattle.regex_ast.specs.declared.fault.Fault.{Fault};
 ghost use Rattle.regex_reader.specs.Files.{FaultAt, ReadsAs, statement_of};
 
 use crate::content::text_of_file;
+use crate::definition::Body;
 use crate::plan_error::{PlanError, refused};
 use crate::sources::Sources;
 use crate::written::WrittenDefine;
 use fsm_base::Text;
+use lexc_reader::read_lexc;
 use project_manifest::{Declaration, ManifestLine};
-use regex_ast::{Define, Raw, ReadError, Why};
+use regex_ast::{Define, Lexicon, Raw, ReadError, Why};
 use regex_reader::read_xfst;
 use std::alloc::{AllocError, Global};
 
@@ -35,6 +40,19 @@ fn statements_in(alloc: Global, file: &str, text: &str) -> Result<Vec<Define<Raw
     }
 }
 
+/// The lexicons of a text of this file.
+fn lexicons_in(alloc: Global, file: &str, text: &str) -> Result<Vec<Lexicon<Raw>>, PlanError>
+    requires { length text.now ≤ most_growth * most_bytes }
+    ensures read { IfOk result (λ lexicons. SaysLexicons text.now (Ok (map lexicon_of lexicons.items))) }
+    ensures error { IfErr result (IsRefusedBy (λ found. (at : FaultAt) × SaysLexicons text.now (Err at) × (found ≡ fault file.now at.line at.why))) }
+{
+    match read_lexc(alloc, text) {
+        Ok(lexicons) => Ok(lexicons),
+        Err(ReadError::Fault { line, why }) => Err(refused(alloc, file, line, why)),
+        Err(ReadError::Memory(error)) => Err(PlanError::Memory(error)),
+    }
+}
+
 /// Puts definitions of a file behind others.
 fn add_defines(
     file: &Text,
@@ -44,9 +62,32 @@ fn add_defines(
     ensures { OnOk result (map written_of written.new.items ≡ map written_of written.old.items ++ map (stated file.now) (map statement_of defines.items)) }
 {
     'defines: for define in defines {
-        let file = file.clone()?;
-        written.push(WrittenDefine { file, define })?;
+        written.push(WrittenDefine {
+            name: define.name,
+            line: define.line,
+            file: file.clone()?,
+            body: Body::Xfst(define.expr),
+        })?;
     }
+    Ok(())
+}
+
+/// Puts the definition of a line of the manifest behind others: the name is the relation of these lexicons.
+fn add_lexicons(
+    alloc: Global,
+    line: u32,
+    name: &Text,
+    lexicons: Vec<Lexicon<Raw>>,
+    written: &mut Vec<WrittenDefine>,
+) -> Result<(), AllocError>
+    ensures { OnOk result (map written_of written.new.items ≡ map written_of written.old.items ++ declared name.now line (lexc (map lexicon_of lexicons.items))) }
+{
+    written.push(WrittenDefine {
+        name: name.clone()?,
+        line,
+        file: Text::of(alloc, "project")?,
+        body: Body::Lexc(lexicons),
+    })?;
     Ok(())
 }
 
@@ -63,15 +104,22 @@ fn add_text(
     ensures written { OnOk result (HasPut (placed_of line.now) text.now (map written_of written.old.items) (map written_of written.new.items)) }
     ensures error { IfErr result (IsRefusedBy (IsUnread (placed_of line.now) file.now text.now)) }
 {
-    let Declaration::Definitions { .. } = &line.declares else {
-        return Err(refused(alloc, file.as_str(), 0, Why::NotBuilt));
-    };
-    match statements_in(alloc, file.as_str(), text) {
-        Ok(defines) => {
-            add_defines(file, defines, written)?;
-            Ok(())
-        }
-        Err(error) => Err(error),
+    match &line.declares {
+        Declaration::Definitions { .. } => match statements_in(alloc, file.as_str(), text) {
+            Ok(defines) => {
+                add_defines(file, defines, written)?;
+                Ok(())
+            }
+            Err(error) => Err(error),
+        },
+        Declaration::Lexicon { name, .. } => match lexicons_in(alloc, file.as_str(), text) {
+            Ok(lexicons) => {
+                add_lexicons(alloc, line.number, name, lexicons, written)?;
+                Ok(())
+            }
+            Err(error) => Err(error),
+        },
+        _ => Err(refused(alloc, file.as_str(), 0, Why::NotBuilt)),
     }
 }
 
@@ -85,7 +133,7 @@ fn add_file(
 ) -> Result<(), PlanError>
     requires { file_in (line_of line.now.declares) ≡ file.now ∷ [] }
     ensures written { OnOk result (HasDefined sources.now (placed_of line.now) (map written_of written.old.items) (map written_of written.new.items)) }
-    ensures error { IfErr result (IsRefusedBy (NamedFault unbuilt sources.now (placed_of line.now))) }
+    ensures error { IfErr result (IsRefusedBy (NamedFault readers_so_far sources.now (placed_of line.now))) }
 {
     let Some(content) = sources.get(file.as_str()) else {
         return Err(refused(alloc, "project", line.number, Why::NoFile));
@@ -104,7 +152,7 @@ fn add_line(
     written: &mut Vec<WrittenDefine>,
 ) -> Result<(), PlanError>
     ensures written { OnOk result (HasDefined sources.now (placed_of line.now) (map written_of written.old.items) (map written_of written.new.items)) }
-    ensures error { IfErr result (IsRefusedBy (NamedFault unbuilt sources.now (placed_of line.now))) }
+    ensures error { IfErr result (IsRefusedBy (NamedFault readers_so_far sources.now (placed_of line.now))) }
 {
     match line.declares.file() {
         Some(file) => add_file(alloc, sources, line, file, written),
@@ -118,9 +166,9 @@ pub fn written_in(
     sources: &Sources,
     lines: &[ManifestLine],
 ) -> Result<Vec<WrittenDefine>, PlanError>
-    ensures written { IfOk result (λ written. FilesDefine unbuilt sources.now (map placed_of lines.now) (map written_of written.items)) }
-    ensures faultless { OnOk result ((found : Fault) → First (NamedFault unbuilt sources.now) (map placed_of lines.now) found → ⊥) }
-    ensures error { IfErr result (IsRefusedBy (First (NamedFault unbuilt sources.now) (map placed_of lines.now))) }
+    ensures written { IfOk result (λ written. FilesDefine readers_so_far sources.now (map placed_of lines.now) (map written_of written.items)) }
+    ensures faultless { OnOk result ((found : Fault) → First (NamedFault readers_so_far sources.now) (map placed_of lines.now) found → ⊥) }
+    ensures error { IfErr result (IsRefusedBy (First (NamedFault readers_so_far sources.now) (map placed_of lines.now))) }
 {
     let mut written = Vec::new(alloc);
     'lines: for line in lines {

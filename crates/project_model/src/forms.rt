@@ -1,16 +1,19 @@
-ghost use Rattle.std.specs.Prelude.{◌≡◌, ◌+◌, List, ℕ, IfOk, length, min};
-ghost use Rattle.expr_kinds.specs.Atoms.{leaves_at, weights_at};
-ghost use Rattle.expr_kinds.specs.Kinds.{kind_of};
-ghost use Rattle.expr_kinds.specs.Weights.{most_weight, weight_of};
+ghost use Rattle.std.specs.Prelude.{◌≡◌, ◌↔◌, List, ℕ, IfOk, IsTrue, length};
+ghost use Rattle.expr_kinds.specs.Atoms.{is_known_at, is_symbol, leaves_at, weights_at};
+ghost use Rattle.expr_kinds.specs.Forms.{capped};
 ghost use Rattle.name_order.specs.Orders.{HasNoCycle, IsOrder};
 ghost use Rattle.project_meaning.specs.Projects.{names_of};
 ghost use Rattle.project_sources.specs.Sources.{Said, project_in};
+ghost use Rattle.project_sources.specs.Built.{BodyIsBuiltBy};
+ghost use Rattle.project_model.specs.Bodies.{BodyFitsBy, kind_of_body, weight_of_body};
 ghost use Rattle.project_model.specs.Forms.{AreDefined, AreForms};
-ghost use Rattle.project_model.specs.Plans.{body_term};
+ghost use Rattle.project_model.specs.Plain.{body_of};
 ghost use Rattle.project_model.specs.Referring.{references_of};
 
 use crate::definition::{Body, Definition};
+use crate::entries::form_of_lexicons;
 use expr_kinds::{Form, Kind, form_of};
+use regex_ast::Atom;
 use std::alloc::{AllocError, Global};
 
 /// What a definition is before it is looked at.
@@ -21,13 +24,17 @@ const UNTOLD: Form = Form {
     built: false,
 };
 
-/// What a definition is, where names have these forms.
-fn form_in(names: &[Form], body: &Body) -> Form
-    ensures kind { result.kind ≡ kind_of (leaves_at names.now) (body_term body.now) }
-    ensures weight { result.weight ≡ min (weight_of (weights_at names.now) (body_term body.now)) (most_weight + 1) }
+/// What a definition is by what its name stands for, where names have these forms, in time linear in its size.
+pub fn form_of_body(names: &[Form], body: &Body<Atom>) -> Form
+    ensures kind { result.kind ≡ kind_of_body (leaves_at names.now) (body_of body.now) }
+    ensures fits { IsTrue result.fits ↔ BodyFitsBy (leaves_at names.now) (body_of body.now) }
+    ensures weight { result.weight ≡ capped (weight_of_body (weights_at names.now) (body_of body.now)) }
+    ensures built { IsTrue result.built ↔ BodyIsBuiltBy (is_known_at names.now) is_symbol (body_of body.now) }
 {
-    let Body::Xfst(expr) = body;
-    form_of(names, expr)
+    match body {
+        Body::Xfst(expr) => form_of(names, expr),
+        Body::Lexc(lexicons) => form_of_lexicons(names, lexicons).with_kind(Kind::Relation),
+    }
 }
 
 /// The forms of definitions, each name in them having the form of its own, by an order in which each definition stands
@@ -44,7 +51,7 @@ pub fn forms_of(
 {
     let mut forms = vec![in alloc; UNTOLD; definitions.len()]?;
     'places: for place in order {
-        let form = form_in(&forms, &definitions[*place].body);
+        let form = form_of_body(&forms, &definitions[*place].body);
         forms[*place] = form;
     }
     Ok(forms)

@@ -9,6 +9,7 @@
 mod content;
 mod definition;
 mod demands;
+mod entries;
 mod files;
 mod forms;
 mod names;
@@ -16,7 +17,6 @@ mod plan;
 mod plan_error;
 mod read;
 mod references;
-mod resolve;
 mod sources;
 mod symbols;
 mod unknown;

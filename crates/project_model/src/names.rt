@@ -1,119 +1,16 @@
-ghost use Rattle.std.specs.Prelude.{◌≡◌, ◌≤◌, not, [], length, map, IfOk, IfErr, OnOk};
-ghost use Rattle.std.specs.List.{list_any};
-ghost use Rattle.std.specs.Str.{bytes_eq};
-ghost use Rattle.fsm_base.specs.Symbols.{number_of, with_text};
+ghost use Rattle.std.specs.Prelude.{◌≡◌, map, IfOk, IfErr, OnOk};
 ghost use Rattle.word_relations.specs.Words.{IsDistinct};
 ghost use Rattle.regex_ast.specs.declared.fault.Fault.{Fault};
-ghost use Rattle.project_meaning.specs.Leaves.{leaf_of};
 ghost use Rattle.project_meaning.specs.Projects.{names_of};
 ghost use Rattle.project_sources.specs.Faults.{NamesFault, fault};
-ghost use Rattle.project_sources.specs.Limits.{most_names};
 ghost use Rattle.project_model.specs.Answers.{IsRefusal, IsRefusedBy, written_of};
-ghost use Rattle.project_model.specs.Names.{is_named, is_symbol_leaf};
 
 use crate::plan_error::{PlanError, refused};
-use crate::symbols::symbol_text;
 use crate::written::WrittenDefine;
-use indexmap::IndexSet;
+use name_resolution::Names;
 use project_sources::MOST_NAMES;
-use regex_ast::{Raw, Why};
-use std::alloc::{AllocError, Global};
-use std::marker::Model;
-
-/// Different names, in the order in which they came. Contracts see them as the list of their texts.
-#[derive(Drop)]
-pub struct Names {
-    /// The texts, each once. The place of a name is its number.
-    texts: IndexSet<String>,
-}
-
-impl Model for Names {
-    ghost use Rattle.std.specs.Prelude.{List, ℕ, map};
-    ghost use Rattle.std.specs.String.{string_bytes};
-    ghost use Rattle.project_model.specs.Names.{IsNames};
-
-    ghost Value = { List (List ℕ) };
-
-    ghost view = { λ names. map string_bytes names.texts.keys };
-
-    ghost invariant = { λ names. IsNames (map string_bytes names.texts.keys) };
-}
-
-impl Names {
-    /// No names.
-    pub fn new(alloc: Global) -> Names
-        ensures { result ≡ [] }
-    {
-        Names {
-            texts: IndexSet::new(alloc),
-        }
-    }
-
-    /// The number of names.
-    pub fn len(&self) -> usize
-        ensures { result ≡ length self.now }
-    {
-        self.texts.len()
-    }
-
-    /// Puts a name behind the others where it's new, and answers whether it is.
-    pub fn add(&mut self, name: &str) -> Result<bool, AllocError>
-        requires { length self.old ≤ most_names }
-        ensures new { IfOk result (λ new. new ≡ not (list_any (bytes_eq name.now) self.old)) }
-        ensures names { OnOk result (self.new ≡ with_text name.now self.old) }
-        ensures distinct { OnOk result (IsDistinct self.new) }
-    {
-        if self.texts.contains(name) {
-            return Ok(false);
-        }
-        let owned = String::from_str(*self.texts.allocator(), name)?;
-        self.texts.insert_full(owned)?;
-        Ok(true)
-    }
-
-    /// Whether this is one of the names.
-    pub fn contains(&self, name: &str) -> bool
-        ensures { result ≡ list_any (bytes_eq name.now) self.now }
-    {
-        self.texts.contains(name)
-    }
-
-    /// The place of a name, counted from 0, or the number of names where it's none of them.
-    #[tactic(auto, unfolding(project_sources::specs::Limits::most_names))]
-    pub fn number_of(&self, name: &str) -> u32
-        ensures { result ≡ number_of name.now self.now }
-    {
-        match self.texts.get_index_of(name) {
-            Some(place) => place as u32,
-            None => self.texts.len() as u32,
-        }
-    }
-
-    /// The place behind all names.
-    #[tactic(auto, unfolding(project_sources::specs::Limits::most_names))]
-    pub fn end(&self) -> u32
-        ensures { result ≡ length self.now }
-    {
-        self.texts.len() as u32
-    }
-
-    /// Whether a leaf stands for one of the names.
-    pub fn is_name(&self, leaf: &Raw) -> bool
-        ensures { result ≡ is_named (leaf_of self.now leaf.now) }
-    {
-        match leaf {
-            Raw::Run(text) => self.contains(text.as_str()),
-            Raw::Quoted(_) => false,
-        }
-    }
-
-    /// Whether a leaf is a symbol where these names are defined: one without text isn't.
-    pub fn is_symbol(&self, leaf: &Raw) -> bool
-        ensures { result ≡ is_symbol_leaf (leaf_of self.now leaf.now) }
-    {
-        !self.is_name(leaf) && !symbol_text(leaf).is_empty()
-    }
-}
+use regex_ast::Why;
+use std::alloc::Global;
 
 /// The names of definitions, in their order. They are refused at the first definition whose name an earlier one has, or that
 /// comes behind 512.
@@ -125,7 +22,7 @@ pub fn names_of(alloc: Global, written: &[WrittenDefine]) -> Result<Names, PlanE
 {
     let mut names = Names::new(alloc);
     'written: for one in written {
-        if !names.add(one.define.name.as_str())? {
+        if !names.add(one.name.as_str())? {
             return Err(refused_at(alloc, one, Why::Duplicate));
         }
         if names.len() > MOST_NAMES {
@@ -137,7 +34,7 @@ pub fn names_of(alloc: Global, written: &[WrittenDefine]) -> Result<Names, PlanE
 
 /// Refuses a definition.
 fn refused_at(alloc: Global, one: &WrittenDefine, why: Why) -> PlanError
-    ensures { IsRefusal (fault one.now.file one.now.define.line why) result }
+    ensures { IsRefusal (fault one.now.file one.now.line why) result }
 {
-    refused(alloc, one.file.as_str(), one.define.line, why)
+    refused(alloc, one.file.as_str(), one.line, why)
 }

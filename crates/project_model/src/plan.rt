@@ -10,6 +10,10 @@ ghost use Rattle.project_sources.specs.Faults.{definitions_so_far, fault, said_s
 ghost use Rattle.project_sources.specs.Limits.{most_before, most_symbols};
 ghost use Rattle.project_sources.specs.Sources.{project_in};
 ghost use Rattle.project_model.specs.Answers.{DemandFault, DoesMeet, IsPlanBy, IsRefusal, IsRefusedBy, demands, said_of, written_of};
+ghost use Rattle.project_meaning.specs.Leaves.{resolved};
+ghost use Rattle.name_resolution.specs.Numbered.{numbered};
+ghost use Rattle.project_model.specs.Bodies.{IsFormed, mapped_body};
+ghost use Rattle.project_model.specs.Plain.{body_of};
 ghost use Rattle.project_model.specs.Gathered.{gathered, symbols_of_all};
 ghost use Rattle.project_model.specs.Numbered.{numbers_in};
 ghost use Rattle.project_model.specs.Plans.{IsPlan};
@@ -20,18 +24,19 @@ ghost use Rattle.project_model.specs.declared.demands.Demand.TheVariants as dema
 use crate::definition::{Body, Definition};
 use crate::demands::{Demand, first_failing};
 use crate::forms::forms_of;
-use crate::names::{Names, names_of};
+use crate::names::names_of;
 use crate::plan_error::{PlanError, refused};
 use crate::references::order_in;
-use crate::resolve::resolve;
 use crate::symbols::symbols_of;
 use crate::unknown::first_unknown;
 use crate::written::WrittenDefine;
 use expr_kinds::Form;
 use fsm_base::{Sym, SymbolTable, Text};
+use lexicon_resolution::{are_resolved_by_number, resolve_lexicons};
+use name_resolution::{Names, resolve};
 use project_manifest::ManifestLine;
 use project_sources::MOST_SYMBOLS;
-use regex_ast::Why;
+use regex_ast::{Atom, Raw, Why};
 use std::alloc::{AllocError, Global};
 use std::marker::Model;
 
@@ -173,6 +178,23 @@ fn numbers_of(
     Ok(symbols)
 }
 
+/// What a name stands for, its leaves resolved.
+fn resolve_body(
+    alloc: Global,
+    names: &Names,
+    table: &SymbolTable,
+    body: &Body<Raw>,
+) -> Result<Body<Atom>, AllocError>
+    ensures { IfOk result (λ found. body_of found ≡ mapped_body (numbered names.now table.now) (resolved names.now (body_of body.now))) }
+{
+    // the law that a resolved leaf by its number is the leaf as it is written, by its number
+    are_resolved_by_number();
+    match body {
+        Body::Xfst(expr) => Ok(Body::Xfst(resolve(alloc, names, table, expr)?)),
+        Body::Lexc(lexicons) => Ok(Body::Lexc(resolve_lexicons(alloc, names, table, lexicons)?)),
+    }
+}
+
 /// A definition that a file writes, its leaves resolved.
 fn define(
     alloc: Global,
@@ -182,12 +204,11 @@ fn define(
 ) -> Result<Definition, AllocError>
     ensures { IfOk result (λ definition. entry_of definition ≡ entry_in names.now table.now (written_of one.now)) }
 {
-    let expr = resolve(alloc, names, table, &one.define.expr)?;
     Ok(Definition {
-        name: one.define.name.clone()?,
-        line: one.define.line,
+        name: one.name.clone()?,
+        line: one.line,
         file: one.file.clone()?,
-        body: Body::Xfst(expr),
+        body: resolve_body(alloc, names, table, &one.body)?,
     })
 }
 
@@ -248,6 +269,7 @@ fn plan_over(
     requires symbols { All (Contains alphabet.now) (symbols_of_all names.now (map written_of written.now)) }
     requires distinct { IsDistinct alphabet.now }
     requires room { length table.old + length alphabet.now ≤ 16777216 }
+    requires formed { All (λ w. IsFormed w.body) (map written_of written.now) }
     ensures plan { (manifest : List Placed) → (project_in (said_of manifest (map written_of written.now))).alphabet ≡ alphabet.now → IsPlanBy definitions_so_far (said_of manifest (map written_of written.now)) table.old table.new result }
     ensures front { take (length table.old) table.new ≡ table.old }
 {
@@ -283,6 +305,7 @@ pub fn plan_of(
 ) -> Result<Plan, PlanError>
     requires symbols { All IsSymbol (symbols_of (map placed_of lines.now)) }
     requires room { length table.old ≤ most_before }
+    requires formed { All (λ w. IsFormed w.body) (map written_of written.now) }
     ensures plan { IsPlanBy said_so_far (said_of (map placed_of lines.now) (map written_of written.now)) table.old table.new result }
     ensures front { take (length table.old) table.new ≡ table.old }
 {

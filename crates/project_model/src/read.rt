@@ -73,7 +73,7 @@ fn plan_of_sources(
     }
 }
 
-/// The plan of a project, by its files. The manifest `project` names files of definitions, and may list further symbols of the
+/// The plan of a project, by its files. The manifest `project` names files of definitions and of lexicons, and may list further symbols of the
 /// alphabet and names that must be defined. The symbols of the project are put into the table, behind those that it has.
 ///
 /// # Errors
@@ -83,7 +83,7 @@ fn plan_of_sources(
 /// - `NoProject` at the manifest, where it is missing; `LimitFile`, `NotUtf8` and `Control` of it, and then the first line with a
 ///   fault, as [`read_manifest`] tells it;
 /// - file by file, in the order of the manifest: `NoFile` at the line that names it, where it is missing; `LimitFile`, `NotUtf8` and
-///   `Control`; and then the faults of its statements, as `read_xfst` tells them;
+///   `Control`; and then the faults of its statements, as `read_xfst` tells them, or `read_lexc` of a file of lexicons;
 /// - `Duplicate` at the first definition whose name an earlier one has, `LimitNames` at the 513th name;
 /// - `LimitSymbols` at the manifest, where the alphabet has more than 1,024 symbols;
 /// - `UnknownName` at the first line of the manifest that requires a name that isn't defined;

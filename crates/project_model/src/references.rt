@@ -5,12 +5,14 @@ ghost use Rattle.expr_leaves.specs.Leaves.{seen};
 ghost use Rattle.name_order.specs.Graph.{graph_of};
 ghost use Rattle.name_order.specs.Orders.{HasNoCycle, IsOrder};
 ghost use Rattle.project_model.specs.Answers.{IsRefusedBy};
-ghost use Rattle.project_model.specs.Plans.{body_term};
-ghost use Rattle.project_model.specs.Referring.{CycleFault, place_in, places_in, references_of};
+ghost use Rattle.lexicon_resolution.specs.Places.{terms_behind};
+ghost use Rattle.project_model.specs.Plain.{body_of};
+ghost use Rattle.project_model.specs.Referring.{CycleFault, body_places, place_in, places_in, references_of};
 
 use crate::definition::{Body, Definition};
 use crate::plan_error::{PlanError, refused};
 use expr_leaves::leaves;
+use lexicon_resolution::expressions;
 use name_order::{Order, order_of};
 use regex_ast::{Atom, Expr, Why};
 use std::alloc::{AllocError, Global};
@@ -46,21 +48,46 @@ fn add_places(leaves: &[&Atom], count: usize, places: &mut Vec<u32>) -> Result<(
     Ok(())
 }
 
-/// The places of the names in an expression, of so many.
-fn places_in(alloc: Global, expr: &Expr<Atom>, count: usize) -> Result<Vec<u32>, AllocError>
-    ensures { IfOk result (λ places. places.items ≡ places_in count (term expr.now)) }
+/// Puts the places of the names in an expression behind others, where they are of so many.
+fn add_places_in(
+    alloc: Global,
+    expr: &Expr<Atom>,
+    count: usize,
+    places: &mut Vec<u32>,
+) -> Result<(), AllocError>
+    ensures { OnOk result (places.new.items ≡ places.old.items ++ places_in count (term expr.now)) }
 {
-    let mut places = Vec::new(alloc);
-    add_places(&leaves(alloc, expr)?, count, &mut places)?;
-    Ok(places)
+    add_places(&leaves(alloc, expr)?, count, places)?;
+    Ok(())
+}
+
+/// Puts the places of the names in expressions behind others, where they are of so many.
+fn add_places_of_each(
+    alloc: Global,
+    exprs: &[&Expr<Atom>],
+    count: usize,
+    places: &mut Vec<u32>,
+) -> Result<(), AllocError>
+    ensures { OnOk result (places.new.items ≡ places.old.items ++ flat_map (places_in count) (terms_behind exprs.now)) }
+{
+    'exprs: for expr in exprs {
+        add_places_in(alloc, expr, count, places)?;
+    }
+    Ok(())
 }
 
 /// The places of the names in a definition, of so many.
-fn places_of(alloc: Global, body: &Body, count: usize) -> Result<Vec<u32>, AllocError>
-    ensures { IfOk result (λ places. places.items ≡ places_in count (body_term body.now)) }
+fn places_of(alloc: Global, body: &Body<Atom>, count: usize) -> Result<Vec<u32>, AllocError>
+    ensures { IfOk result (λ places. places.items ≡ body_places count (body_of body.now)) }
 {
-    let Body::Xfst(expr) = body;
-    places_in(alloc, expr, count)
+    let mut places = Vec::new(alloc);
+    match body {
+        Body::Xfst(expr) => add_places_in(alloc, expr, count, &mut places)?,
+        Body::Lexc(lexicons) => {
+            add_places_of_each(alloc, &expressions(alloc, lexicons)?, count, &mut places)?
+        }
+    }
+    Ok(places)
 }
 
 /// For each definition the places of those that it refers to.

@@ -1,28 +1,24 @@
 ghost use Rattle.std.specs.Prelude.{◌≡◌, ◌≤◌, ◌+◌, [], length, map, IfOk, OnOk};
 ghost use Rattle.std.specs.List.{flat_map};
-ghost use Rattle.expr_leaves.specs.Leaves.{seen};
-ghost use Rattle.project_meaning.specs.Leaves.{written};
+ghost use Rattle.regex_ast.specs.Terms.{term};
+ghost use Rattle.expr_leaves.specs.Leaves.{listed, seen};
+ghost use Rattle.expr_leaves.specs.Mapped.{mapped};
+ghost use Rattle.lexicon_resolution.specs.Places.{behind, places_behind, symbol_at};
+ghost use Rattle.project_meaning.specs.Leaves.{leaf_of, resolved, symbol, symbol_in, symbols_in};
 ghost use Rattle.project_sources.specs.Limits.{most_symbols};
 ghost use Rattle.project_model.specs.Answers.{written_of};
 ghost use Rattle.project_model.specs.Gathered.{gathered, symbol_beside, symbols_of_all};
+ghost use Rattle.project_model.specs.Plain.{body_of};
 
-use crate::names::Names;
+use crate::definition::Body;
 use crate::written::WrittenDefine;
 use expr_leaves::leaves;
 use fsm_base::SymbolTable;
+use lexicon_resolution::{Place, places, symbols_are_of_places};
+use name_resolution::{Names, symbol_text};
 use project_sources::MOST_SYMBOLS;
-use regex_ast::Raw;
+use regex_ast::{Expr, Raw};
 use std::alloc::{AllocError, Global};
-
-/// The text of the symbol that a leaf stands for.
-pub fn symbol_text(leaf: &Raw) -> &str
-    ensures { result.now ≡ written leaf.now }
-{
-    match leaf {
-        Raw::Run(text) => text.as_str(),
-        Raw::Quoted(text) => text.as_str(),
-    }
-}
 
 /// Puts the symbol of a leaf into a table, where it's new and the table has room for it.
 fn add_symbol(leaf: &Raw, names: &Names, table: &mut SymbolTable) -> Result<(), AllocError>
@@ -46,6 +42,78 @@ fn add_symbols(leaves: &[&Raw], names: &Names, table: &mut SymbolTable) -> Resul
     Ok(())
 }
 
+/// Puts the symbols of an expression into a table, each where it's new and the table has room for it.
+fn add_expression(
+    alloc: Global,
+    expr: &Expr<Raw>,
+    names: &Names,
+    table: &mut SymbolTable,
+) -> Result<(), AllocError>
+    requires { length table.old ≤ most_symbols + 1 }
+    ensures { OnOk result (table.new ≡ gathered table.old (listed symbol_in (mapped (leaf_of names.now) (term expr.now)))) }
+{
+    add_symbols(&leaves(alloc, expr)?, names, table)?;
+    Ok(())
+}
+
+/// Puts a text into a table, where it isn't empty, it's new and the table has room for it.
+fn add_letter(text: &str, table: &mut SymbolTable) -> Result<(), AllocError>
+    requires { length table.old ≤ most_symbols + 1 }
+    ensures { OnOk result (table.new ≡ gathered table.old (symbol_in (symbol text.now))) }
+{
+    if !text.is_empty() && table.len() <= MOST_SYMBOLS {
+        table.intern(text)?;
+    }
+    Ok(())
+}
+
+/// Puts the symbol of a leaf of lexicons into a table, where it's new and the table has room for it.
+fn add_place(place: &Place<&Raw>, names: &Names, table: &mut SymbolTable) -> Result<(), AllocError>
+    requires { length table.old ≤ most_symbols + 1 }
+    ensures { OnOk result (table.new ≡ gathered table.old (symbol_at names.now (behind place.now))) }
+{
+    match place {
+        Place::OnSide(leaf) => add_letter(symbol_text(leaf), table),
+        Place::InExpression(leaf) => add_symbol(leaf, names, table),
+    }
+}
+
+/// Puts the symbols of leaves of lexicons into a table, each where it's new and the table has room for it.
+fn add_places(
+    places: &[Place<&Raw>],
+    names: &Names,
+    table: &mut SymbolTable,
+) -> Result<(), AllocError>
+    requires { length table.old ≤ most_symbols + 1 }
+    ensures { OnOk result (table.new ≡ gathered table.old (flat_map (symbol_at names.now) (places_behind places.now))) }
+{
+    'places: for place in places {
+        add_place(place, names, table)?;
+    }
+    Ok(())
+}
+
+/// Puts the symbols of what a name stands for into a table, each where it's new and the table has room for it.
+fn add_body(
+    alloc: Global,
+    body: &Body<Raw>,
+    names: &Names,
+    table: &mut SymbolTable,
+) -> Result<(), AllocError>
+    requires { length table.old ≤ most_symbols + 1 }
+    ensures { OnOk result (table.new ≡ gathered table.old (symbols_in (resolved names.now (body_of body.now)))) }
+{
+    // the law that the symbols of lexicons are those of their leaves
+    symbols_are_of_places();
+    match body {
+        Body::Xfst(expr) => add_expression(alloc, expr, names, table),
+        Body::Lexc(lexicons) => {
+            add_places(&places(alloc, lexicons)?, names, table)?;
+            Ok(())
+        }
+    }
+}
+
 /// The symbols that stand in definitions where these names are defined, in the order of their first places. Where
 /// they are more than a project may have, it's one more than that.
 pub fn symbols_of(
@@ -57,7 +125,7 @@ pub fn symbols_of(
 {
     let mut table = SymbolTable::new(alloc);
     'written: for one in written {
-        add_symbols(&leaves(alloc, &one.define.expr)?, names, &mut table)?;
+        add_body(alloc, &one.body, names, &mut table)?;
     }
     Ok(table)
 }

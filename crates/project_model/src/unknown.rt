@@ -6,8 +6,8 @@ ghost use Rattle.project_model.specs.Answers.{IsUnknown, UnknownFault};
 ghost use Rattle.regex_ast.specs.declared.fault.Fault.{Fault};
 ghost use Rattle.regex_ast.specs.declared.fault.Why.TheVariants as why;
 
-use crate::names::Names;
 use fsm_base::Text;
+use name_resolution::Names;
 use project_manifest::ManifestLine;
 
 /// Whether one of these isn't among the names.

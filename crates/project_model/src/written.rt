@@ -1,11 +1,16 @@
+use crate::definition::Body;
 use fsm_base::Text;
-use regex_ast::{Define, Raw};
+use regex_ast::Raw;
 
-/// A definition as a file writes it.
+/// A definition as sources write it.
 #[derive(Debug, Drop)]
 pub struct WrittenDefine {
-    /// The file.
+    /// The defined name.
+    pub name: Text,
+    /// The line of its statement, counted from 1.
+    pub line: u32,
+    /// The file of its statement.
     pub file: Text,
-    /// Its statement.
-    pub define: Define<Raw>,
+    /// What the name stands for.
+    pub body: Body<Raw>,
 }

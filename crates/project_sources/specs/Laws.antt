@@ -5,6 +5,7 @@ use Rattle.regex_ast.specs.declared.fault.Fault.{Fault}
 use Rattle.regex_ast.specs.declared.fault.Why.TheVariants as why
 use Rattle.regex_reader.specs.Files.{FaultAt}
 use Rattle.expr_kinds.specs.Weights.{most_weight}
+use Rattle.lexc_grammar.specs.Files.{SaysLexicons}
 use Rattle.project_manifest.specs.Manifests.{project_name}
 use Rattle.project_meaning.specs.Forms.{body_weight, weight_in}
 use Rattle.project_meaning.specs.Projects.{Definition, Project, HasNoCycle, IsClosed}
@@ -24,8 +25,9 @@ OneAnswer readers = (files : Files) (by : List Row) (a b : Result Project Fault)
 abbrev pub says_unbuilt : {T : Type 0} → List ℕ → Result T FaultAt → Type 0
 says_unbuilt text answer = answer ≡ Err (record { line = 0; why = why.NotBuilt })
 
-abbrev pub unbuilt : Readers
-unbuilt = record { lexc = says_unbuilt; twolc = says_unbuilt; gloss = says_unbuilt }
+-- the readers that there are so far
+abbrev pub readers_so_far : Readers
+readers_so_far = record { lexc = SaysLexicons; twolc = says_unbuilt; gloss = says_unbuilt }
 
 -- each name that stands in a definition is defined, none reaches itself, and no definition weighs too much
 pub record IsSoundProject (project : Project) : Type 0 where
@@ -39,7 +41,7 @@ ProjectsAreSound readers by = (files : Files) (project : Project) → SourcesSay
 
 -- without files the manifest is missing
 abbrev pub NoFilesNoProject : List Row → Type 0
-NoFilesNoProject by = FirstFault unbuilt [] by (fault project_name 0 why.NoProject)
+NoFilesNoProject by = FirstFault readers_so_far [] by (fault project_name 0 why.NoProject)
 
 -- an empty centre is the fault where none is read before
 abbrev pub CentresComeLast : Readers → List Row → Type 0

@@ -3,6 +3,7 @@ ghost use Rattle.lookup.specs.Answering.{IsOverAlphabet};
 use crate::symbols::{Symbols, word_of};
 use fsm_base::Sym;
 use lookup::{Answer, Net, down, up};
+use replace_marks::marks_of;
 use std::alloc::{AllocError, Global};
 
 /// Adds the answers to a look, a line for each.
@@ -22,6 +23,7 @@ pub fn add_answers(
         "down" => add_texts(alloc, said, &down(alloc, net, &symbols.alphabet, &word)?),
         "up" => add_texts(alloc, said, &up(alloc, net, &symbols.alphabet, &word)?),
         "all" => add_all(alloc, said, net, symbols, rest.parse::<u32>().unwrap_or(0)),
+        "marks" => add_count(alloc, said, symbols, rest.parse::<u32>().unwrap_or(0)),
         _ => Ok(()),
     }
 }
@@ -62,6 +64,17 @@ fn add_all(
         add_word(alloc, said, net, symbols, word)?;
     }
     Ok(())
+}
+
+/// Adds how many marks there are of the symbols and so many mappings.
+fn add_count(
+    alloc: Global,
+    said: &mut String,
+    symbols: &Symbols,
+    maps: u32,
+) -> Result<(), AllocError> {
+    let marks = marks_of(alloc, symbols.alphabet.symbols(), maps)?;
+    add_line(said, &format!(in alloc; "{} marks", marks.len())?)
 }
 
 /// The words, each with one more symbol.

@@ -6,8 +6,8 @@
 //! `[..] -> RESULT`, which stands alone, with `(->)` where rules are optional. A context is a part, `_` and a part. A part is words
 //! with `|` between them, a word is atoms side by side, and none is the empty word. An atom is a symbol, `?`, which is any symbol,
 //! or `.#.`, the edge of the word, with `*` behind it where it may stand any number of times. A look is `down WORD`, `up WORD`,
-//! or `all N`: each word of at most N symbols and its lower words, where these aren't just the word. An empty line, and one that
-//! begins with `#`, says nothing.
+//! `all N`: each word of at most N symbols and its lower words, where these aren't just the word, or `marks N`: how many marks
+//! there are of the symbols and N mappings. An empty line, and one that begins with `#`, says nothing.
 #![tactic(auto)]
 
 mod looks;

@@ -9,7 +9,7 @@ use Rattle.network_lexicons.proofs.Gathered.{lexicons_more, lexicons_none, mappe
 use Rattle.network_lexicons.proofs.entries.lexicons_of.Goals as goal
 
 pub lexicons-init : goal.lexicons-init
-lexicons-init c = record { kept = λ k x at. at; lexicons = rw c.new-built.ensures.items (lexicons_none c.args.parts.now c.args.alphabet.now c.args.names.now c.args.flags.now.items) }
+lexicons-init c = record { kept = λ k x at. at; lexicons = rw c.new-built.ensures.items (lexicons_none c.args.parts.now c.args.alphabet.now c.args.names.now c.args.flags.now) }
 
 pub entries_of-requires-clause-built : goal.entries_of-requires-clause-built
 entries_of-requires-clause-built c =
@@ -24,9 +24,9 @@ lexicons-preserved c =
     let all = c.args.lexicons.now in
     let i = c.lexicons.lexicon-index in
     let lexicon = c.lexicon-item.result in
-    let before = c.args.flags.now.items in
-    let flags = c.lexicons.flags.items in
-    let more = c.entries_of.new.flags.items in
+    let before = c.args.flags.now in
+    let flags = c.lexicons.flags in
+    let more = c.entries_of.new.flags in
     let built : List (List LexEntry) = map (λ entries. entries.items) c.lexicons.built.items in
     let new : List (List LexEntry) = map (λ entries. entries.items) c.push.new.self.items in
     let entries : List LexEntry = c.in_ok-entries_of.field-0.items in
@@ -43,4 +43,4 @@ lexicons-preserved c =
 
 pub returns-clause-lexicons : goal.returns-clause-lexicons
 returns-clause-lexicons c =
-    subst (λ ls. AreLexiconsFor c.args.parts.now c.args.alphabet.now c.args.names.now c.lexicons.flags.items ls (map (λ entries. entries.items) c.lexicons.built.items)) (mapped_all lexicon_of c.args.lexicons.now c.lexicons.lexicon-index c.lexicons-test.false) c.lexicons.invariant.lexicons
+    subst (λ ls. AreLexiconsFor c.args.parts.now c.args.alphabet.now c.args.names.now c.lexicons.flags ls (map (λ entries. entries.items) c.lexicons.built.items)) (mapped_all lexicon_of c.args.lexicons.now c.lexicons.lexicon-index c.lexicons-test.false) c.lexicons.invariant.lexicons

@@ -7,6 +7,6 @@ use Rattle.network_lexicons.proofs.entries.lexicons_of.Given as goal
 -- the lexicons so far
 abbrev pub invariant-lexicons : goal.invariant-lexicons
 invariant-lexicons l = record {
-  kept : Keeps l.fn.flags.items l.flags.items;
-  lexicons : AreLexiconsFor l.parts l.alphabet l.names l.flags.items (take l.lexicon-index (map lexicon_of l.lexicons)) (map (λ entries. entries.items) l.built.items);
+  kept : Keeps l.fn.flags l.flags;
+  lexicons : AreLexiconsFor l.parts l.alphabet l.names l.flags (take l.lexicon-index (map lexicon_of l.lexicons)) (map (λ entries. entries.items) l.built.items);
 }

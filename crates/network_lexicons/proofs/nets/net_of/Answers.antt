@@ -22,7 +22,7 @@ returns-in_ok-tape-in-Sides-clause-kept c = IfOk-weaker _ _ _ (λ m language. c.
 pub returns-in_ok-tape-in-Sides-clause-symbols : goal.returns-in_ok-tape-in-Sides-clause-symbols
 returns-in_ok-tape-in-Sides-clause-symbols c =
     let alphabet = c.args.alphabet.now in
-    let flags = c.tape_of.new.flags.items in
+    let flags = c.tape_of.new.flags in
     let built = subst (λ (f : Form Atom). FormIsBuilt c.args.parts.now alphabet (form_of f)) c.in-Sides.is c.requires.built in
     let has = rw (c.deref.ensures.value, c.deref-in-Sides.ensures.value) at c.in_ok-tape-in-Sides.ensures.sides in
     IfOk-weaker _ _ _ (λ m. sides_symbols flags c.in-Sides.upper.items c.in-Sides.lower.items c.in_ok-tape-in-Sides.tape.items has m alphabet built.0 built.1) (rw c.deref-in-Sides-2.ensures.value at c.word.ensures.letters)
@@ -31,14 +31,14 @@ pub returns-in_ok-tape-in-Sides-clause-net : goal.returns-in_ok-tape-in-Sides-cl
 returns-in_ok-tape-in-Sides-clause-net c =
     let parts = c.args.parts.now in
     let alphabet = c.args.alphabet.now in
-    let flags = c.tape_of.new.flags.items in
+    let flags = c.tape_of.new.flags in
     let has = rw (c.deref.ensures.value, c.deref-in-Sides.ensures.value) at c.in_ok-tape-in-Sides.ensures.sides in
     subst (λ (f : Form Atom). IfOk c.word.result (IsNetOf parts alphabet flags (form_of f))) (sym c.in-Sides.is)
     (IfOk-weaker _ _ _ (λ m. sides_net flags c.in-Sides.upper.items c.in-Sides.lower.items c.in_ok-tape-in-Sides.tape.items has m parts alphabet) (rw c.deref-in-Sides-2.ensures.value at c.word.ensures.language))
 
 pub returns-in_ok-pairs-in-Pairs-clause-kept : goal.returns-in_ok-pairs-in-Pairs-clause-kept
 returns-in_ok-pairs-in-Pairs-clause-kept c =
-    let same : Keeps c.args.flags.now.items c.args.flags.now.items = λ k x at. at in
+    let same : Keeps c.args.flags.now c.args.flags.now = λ k x at. at in
     IfOk-weaker _ _ _ (λ m language. same) c.renamed.ensures.language
 
 pub returns-in_ok-pairs-in-Pairs-clause-symbols : goal.returns-in_ok-pairs-in-Pairs-clause-symbols
@@ -48,7 +48,7 @@ pub returns-in_ok-pairs-in-Pairs-clause-net : goal.returns-in_ok-pairs-in-Pairs-
 returns-in_ok-pairs-in-Pairs-clause-net c =
     let parts = c.args.parts.now in
     let alphabet = c.args.alphabet.now in
-    let flags = c.args.flags.now.items in
+    let flags = c.args.flags.now in
     let e = term c.in-Pairs.expr in
     subst (λ (f : Form Atom). IfOk c.renamed.result (IsNetOf parts alphabet flags (form_of f))) (sym c.in-Pairs.is)
     (IfOk-weaker _ _ _ (λ m. pairs_net alphabet c.in_ok-pairs-in-Pairs.pairs m parts flags e c.in_ok-pairs-in-Pairs.ensures.relation) c.renamed.ensures.language)

@@ -3,9 +3,9 @@ use Rattle.network_lexicons.proofs.tapes.tape_of.Goals as goal
 
 pub letters-preserved : goal.letters-preserved
 letters-preserved c =
-    let before = c.args.flags.now.items in
-    let flags = c.letters.flags.items in
-    let more = c.first_letter.new.flags.items in
+    let before = c.args.flags.now in
+    let flags = c.letters.flags in
+    let more = c.first_letter.new.flags in
     let first = c.in_ok-first.first in
     record {
       kept = keeps_more before flags more c.letters.invariant.kept c.in_ok-first.ensures.kept;

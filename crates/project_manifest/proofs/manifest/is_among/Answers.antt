@@ -2,7 +2,7 @@ use Rattle.std.proofs.Common.{List, ℕ, true≢false, sym, subst, ◌∙◌, ar
 use Rattle.std.proofs.lemmas.List.{take_all}
 use Rattle.std.proofs.lemmas.Slice.Eq.{bytes_eq-Decides}
 use Rattle.std.specs.List.{Contains}
-use Rattle.project_manifest.proofs.Looking.{among, not_so_far}
+use Rattle.project_manifest.proofs.Looking.{not_so_far}
 use Rattle.project_manifest.proofs.manifest.is_among.Goals as goal
 
 pub files-preserved : goal.files-preserved

@@ -3,7 +3,7 @@ use Rattle.regex_ast.specs.declared.fault.Fault.{Fault}
 use Rattle.project_manifest.specs.Rows.{First}
 use Rattle.project_manifest.specs.Sayings.{placed_of}
 use Rattle.project_sources.specs.Faults.{NamedFault}
-use Rattle.project_sources.specs.Laws.{unbuilt}
+use Rattle.project_sources.specs.Laws.{readers_so_far}
 use Rattle.project_sources.specs.Sources.{FilesDefine}
 use Rattle.project_model.specs.Answers.{written_of}
 use Rattle.project_model.proofs.files.written_in.Given as goal
@@ -11,6 +11,6 @@ use Rattle.project_model.proofs.files.written_in.Given as goal
 -- the files of the lines so far have no fault, and these definitions
 abbrev pub invariant-lines : goal.invariant-lines
 invariant-lines l = record {
-  defines : FilesDefine unbuilt l.sources (map placed_of (take l.line-index l.lines)) (map written_of l.written.items);
-  free : (found : Fault) → First (NamedFault unbuilt l.sources) (map placed_of (take l.line-index l.lines)) found → ⊥;
+  defines : FilesDefine readers_so_far l.sources (map placed_of (take l.line-index l.lines)) (map written_of l.written.items);
+  free : (found : Fault) → First (NamedFault readers_so_far l.sources) (map placed_of (take l.line-index l.lines)) found → ⊥;
 }

@@ -7,8 +7,8 @@ use Rattle.regex_ast.specs.declared.fault.Why.TheVariants as why
 use Rattle.name_order.specs.Graph.{graph_of, IsWhole}
 use Rattle.name_order.specs.Orders.{IsFirstCycle, IsOrdered}
 use Rattle.project_sources.specs.Faults.{fault}
-use Rattle.project_model.specs.Plans.{body_term}
-use Rattle.project_model.specs.Referring.{CycleFault, places_in, references_of}
+use Rattle.project_model.specs.Plain.{body_of}
+use Rattle.project_model.specs.Referring.{CycleFault, body_places, references_of}
 use Rattle.project_model.specs.declared.definition.Definition.{Definition}
 use Rattle.project_model.proofs.NameSteps.{refused_by}
 use Rattle.project_model.proofs.Referring.{references_whole}
@@ -26,7 +26,7 @@ returns-clause-error c =
     let found : IsFirstCycle (graph_of c.deref.result.now) place = subst (IsOrdered (graph_of c.deref.result.now)) c.in-Cycle.is c.in_ok-order.ensures in
     let first : IsFirstCycle (references_of definitions) place =
     subst (λ (g : List (List ℕ)). IsFirstCycle g place) c.in_ok-references.ensures (subst (λ (lists : List (Vec ℕ Global)). IsFirstCycle (graph_of lists) place) c.deref.ensures.value found) in
-    let size = length-map definitions (λ (d : Definition). places_in (length definitions) (body_term d.body)) in
+    let size = length-map definitions (λ (d : Definition). body_places (length definitions) (body_of d.body)) in
     let below : place < length definitions = omega (arith, first.within, size) in
     let at = slice_get_read definitions (length definitions) place d refl below c.index-definitions-place.is in
     refused_by (CycleFault definitions) (fault d.file d.line why.Cycle) c.refused.result (record { place = place; definition = d; first = first; at = at; is = refl }) (rw c.as_str.ensures at c.refused.ensures)

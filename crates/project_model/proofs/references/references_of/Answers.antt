@@ -3,8 +3,8 @@ use Rattle.std.specs.Prelude.{Vec}
 use Rattle.std.specs.Global.{Global}
 use Rattle.std.proofs.lemmas.List.{map-append, take_all}
 use Rattle.name_order.specs.Graph.{graph_of}
-use Rattle.project_model.specs.Plans.{body_term}
-use Rattle.project_model.specs.Referring.{places_in}
+use Rattle.project_model.specs.Plain.{body_of}
+use Rattle.project_model.specs.Referring.{body_places}
 use Rattle.project_model.specs.declared.definition.Definition.{Definition}
 use Rattle.project_model.proofs.Projecting.{made_more}
 use Rattle.project_model.proofs.references.references_of.Goals as goal
@@ -14,11 +14,11 @@ items_of list = list.items
 
 -- the list of one definition more
 listed_more : (definitions : List Definition) (i : ℕ) (d : Definition) (old new : List (Vec ℕ Global)) (list : Vec ℕ Global) → i < length definitions → d ≡ get_or definitions i d
-    → new ≡ old ++ list ∷ [] → list.items ≡ places_in (length definitions) (body_term d.body)
-    → graph_of old ≡ map (λ d. places_in (length definitions) (body_term d.body)) (take i definitions)
-    → graph_of new ≡ map (λ d. places_in (length definitions) (body_term d.body)) (take (i + 1) definitions)
+    → new ≡ old ++ list ∷ [] → list.items ≡ body_places (length definitions) (body_of d.body)
+    → graph_of old ≡ map (λ d. body_places (length definitions) (body_of d.body)) (take i definitions)
+    → graph_of new ≡ map (λ d. body_places (length definitions) (body_of d.body)) (take (i + 1) definitions)
 listed_more definitions i d old new list below is new_is list_is so_far =
-    let of : Definition → List ℕ = λ d. places_in (length definitions) (body_term d.body) in
+    let of : Definition → List ℕ = λ d. body_places (length definitions) (body_of d.body) in
     ap (map items_of) new_is ∙ map-append items_of old (list ∷ []) ∙ (λ j. so_far j ++ list_is j ∷ []) ∙ sym (made_more of definitions i d below is)
 
 pub definitions-preserved : goal.definitions-preserved
@@ -28,4 +28,4 @@ definitions-preserved c =
 
 pub returns : goal.returns
 returns c =
-    c.definitions.invariant ∙ ap (map (λ (d : Definition). places_in (length c.args.definitions.now) (body_term d.body))) (take_all c.definitions.definition-index c.args.definitions.now (omega arith))
+    c.definitions.invariant ∙ ap (map (λ (d : Definition). body_places (length c.args.definitions.now) (body_of d.body))) (take_all c.definitions.definition-index c.args.definitions.now (omega arith))

@@ -2,7 +2,7 @@ use Rattle.std.proofs.Common.{List, ℕ, refl, sym, subst, ◌∙◌, false, tru
 use Rattle.std.specs.List.{Contains}
 use Rattle.std.proofs.lemmas.List.{take_all}
 use Rattle.project_manifest.proofs.Looking.{among, not_so_far}
-use Rattle.project_model.proofs.Texts.{has_from_any, not_had}
+use Rattle.name_resolution.proofs.Texts.{has_from_any, not_had}
 use Rattle.project_model.proofs.unknown.has_unknown.Goals as goal
 
 pub returns-then-not-contains : goal.returns-then-not-contains

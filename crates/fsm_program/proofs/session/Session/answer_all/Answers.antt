@@ -1,5 +1,5 @@
 use Rattle.std.proofs.Common.{arith, ap, refl, sym, subst, Some, ◌∙◌}
-use Rattle.fsm_program.specs.Networks.{Shows}
+use Rattle.project_store.specs.Networks.{Shows}
 use Rattle.fsm_program.specs.Running.{Sofar, Turns, most_taken}
 use Rattle.fsm_program.specs.declared.look_up.LookUp.{LookUp}
 use Rattle.fsm_program.specs.Steps.{steps}

@@ -1,7 +1,7 @@
 use Rattle.std.proofs.Common.{◌≡◌, ◌≤◌}
 use Rattle.fsm_io.specs.Reading.{size_of}
 use Rattle.project_meaning.specs.Projects.{Project}
-use Rattle.fsm_program.specs.Networks.{Shows}
+use Rattle.project_store.specs.Networks.{Shows}
 use Rattle.fsm_program.specs.Running.{Sofar, most_taken}
 use Rattle.fsm_program.specs.Steps.{steps}
 use Rattle.fsm_program.proofs.session.Session.answer_all.Given as goal

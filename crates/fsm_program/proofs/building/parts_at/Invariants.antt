@@ -1,6 +1,0 @@
-use Rattle.fsm_program.proofs.Networks.{PartsSoFar}
-use Rattle.fsm_program.proofs.building.parts_at.Given as goal
-
--- the parts of the places so far
-abbrev pub invariant-places : goal.invariant-places
-invariant-places l = PartsSoFar l.names l.built l.place l.parts.items

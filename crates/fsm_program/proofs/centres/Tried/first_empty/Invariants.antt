@@ -1,6 +1,0 @@
-use Rattle.fsm_program.specs.Centres.{AreClear}
-use Rattle.fsm_program.proofs.centres.Tried.first_empty.Given as goal
-
--- no mark so far is set
-abbrev pub invariant-marks : goal.invariant-marks
-invariant-marks l = AreClear l.place l.self.empty.items

@@ -1,7 +1,0 @@
-use Rattle.std.proofs.Common.{take}
-use Rattle.fsm_program.proofs.Trying.{TriedSoFar}
-use Rattle.fsm_program.proofs.centres.try_centres.Given as goal
-
--- what came of the definitions so far
-abbrev pub invariant-order : goal.invariant-order
-invariant-order l = TriedSoFar l.project (take l.place-index l.front) l.tried.built.items l.tried.empty.items

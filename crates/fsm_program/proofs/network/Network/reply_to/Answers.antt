@@ -1,9 +1,0 @@
-use Rattle.std.proofs.Common.{IfSome, sym, subst}
-use Rattle.lookup.specs.Answering.{IsOverAlphabet}
-use Rattle.fsm_program.proofs.network.Network.reply_to.Goals as goal
-
-pub reply_in-requires-clause-over : goal.reply_in-requires-clause-over
-reply_in-requires-clause-over c =
-    subst (λ net. IsOverAlphabet c.alphabet.result.now net) (sym c.net.ensures)
-    (subst (λ alphabet. IsOverAlphabet alphabet c.in-Some.compiled.net) (sym c.alphabet.ensures)
-    (subst (λ compiled. IfSome compiled (λ x. IsOverAlphabet c.self.inside.project.alphabet x.net)) c.in-Some.is c.self.invariant))

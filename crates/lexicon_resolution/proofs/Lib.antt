@@ -1,0 +1,3 @@
+mod Lexicons
+mod Numbering
+mod Symbols

@@ -1,0 +1,154 @@
+ghost use Rattle.std.specs.Prelude.{◌≡◌, IfOk, map};
+ghost use Rattle.lexicon_resolution.specs.Numbered.{entry_in, form_in, lexicon_in, piece_in};
+ghost use Rattle.lexicon_resolution.specs.Plain.{entry_of, flag_of, form_of, lexicon_of, lines_of, piece_of};
+
+use fsm_base::{SymbolTable, Text};
+use name_resolution::{Names, letter_of, resolve};
+use regex_ast::{Atom, Entry, FlagOp, Form, Lexicon, Piece, Raw};
+use std::alloc::{AllocError, Global};
+
+/// A copy of a text, where there is one.
+fn same_text(text: &Option<Text>) -> Result<Option<Text>, AllocError>
+    ensures { IfOk result (λ found. found ≡ text.now) }
+{
+    match text {
+        Some(text) => Ok(Some(text.clone()?)),
+        None => Ok(None),
+    }
+}
+
+/// A copy of a flag.
+fn same_flag(flag: &FlagOp) -> Result<FlagOp, AllocError>
+    ensures { IfOk result (λ found. flag_of found ≡ flag_of flag.now) }
+{
+    let feature = flag.feature.clone()?;
+    let value = same_text(&flag.value)?;
+    Ok(FlagOp {
+        kind: flag.kind,
+        feature,
+        value,
+    })
+}
+
+/// A piece with its letter resolved.
+fn resolve_piece(
+    names: &Names,
+    table: &SymbolTable,
+    piece: &Piece<Raw>,
+) -> Result<Piece<Atom>, AllocError>
+    ensures { IfOk result (λ found. piece_of found ≡ piece_in names.now table.now (piece_of piece.now)) }
+{
+    match piece {
+        Piece::Symbol(leaf) => Ok(Piece::Symbol(letter_of(names, table, leaf))),
+        Piece::Flag(flag) => Ok(Piece::Flag(same_flag(flag)?)),
+    }
+}
+
+/// A side with its letters resolved.
+fn resolve_side(
+    alloc: Global,
+    names: &Names,
+    table: &SymbolTable,
+    side: &[Piece<Raw>],
+) -> Result<Vec<Piece<Atom>>, AllocError>
+    ensures { IfOk result (λ found. map piece_of found.items ≡ map (piece_in names.now table.now) (map piece_of side.now)) }
+{
+    let mut found = Vec::new(alloc);
+    'side: for piece in side {
+        found.push(resolve_piece(names, table, piece)?)?;
+    }
+    Ok(found)
+}
+
+/// A form with its leaves resolved.
+fn resolve_form(
+    alloc: Global,
+    names: &Names,
+    table: &SymbolTable,
+    form: &Form<Raw>,
+) -> Result<Form<Atom>, AllocError>
+    ensures { IfOk result (λ found. form_of found ≡ form_in names.now table.now (form_of form.now)) }
+{
+    match form {
+        Form::Sides { upper, lower } => {
+            let upper = resolve_side(alloc, names, table, upper)?;
+            let lower = resolve_side(alloc, names, table, lower)?;
+            Ok(Form::Sides { upper, lower })
+        }
+        Form::Pairs(expr) => Ok(Form::Pairs(resolve(alloc, names, table, expr)?)),
+    }
+}
+
+/// An entry with its leaves resolved.
+fn resolve_entry(
+    alloc: Global,
+    names: &Names,
+    table: &SymbolTable,
+    entry: &Entry<Raw>,
+) -> Result<Entry<Atom>, AllocError>
+    ensures entry { IfOk result (λ found. entry_of found ≡ entry_in names.now table.now (entry_of entry.now)) }
+    ensures line { IfOk result (λ found. found.line ≡ entry.now.line) }
+{
+    let form = resolve_form(alloc, names, table, &entry.form)?;
+    let next = same_text(&entry.next)?;
+    Ok(Entry {
+        line: entry.line,
+        form,
+        next,
+    })
+}
+
+/// Entries with their leaves resolved.
+fn resolve_entries(
+    alloc: Global,
+    names: &Names,
+    table: &SymbolTable,
+    entries: &[Entry<Raw>],
+) -> Result<Vec<Entry<Atom>>, AllocError>
+    ensures entries { IfOk result (λ found. map entry_of found.items ≡ map (entry_in names.now table.now) (map entry_of entries.now)) }
+    ensures lines { IfOk result (λ found. map (λ e. e.line) found.items ≡ map (λ e. e.line) entries.now) }
+{
+    let mut found = Vec::new(alloc);
+    'entries: for entry in entries {
+        found.push(resolve_entry(alloc, names, table, entry)?)?;
+    }
+    Ok(found)
+}
+
+/// A lexicon with its leaves resolved.
+fn resolve_lexicon(
+    alloc: Global,
+    names: &Names,
+    table: &SymbolTable,
+    lexicon: &Lexicon<Raw>,
+) -> Result<Lexicon<Atom>, AllocError>
+    ensures lexicon { IfOk result (λ found. lexicon_of found ≡ lexicon_in names.now table.now (lexicon_of lexicon.now)) }
+    ensures lines { IfOk result (λ found. lines_of found ≡ lines_of lexicon.now) }
+{
+    let name = lexicon.name.clone()?;
+    let entries = resolve_entries(alloc, names, table, &lexicon.entries)?;
+    Ok(Lexicon {
+        name,
+        line: lexicon.line,
+        entries,
+    })
+}
+
+/// Lexicons with their leaves resolved, where these names are defined and this table has the symbols: a leaf of an
+/// expression is a symbol, by its number, or a name, by its place, and a letter on a side is a symbol. Lines and the names
+/// of lexicons stay.
+pub fn resolve_lexicons(
+    alloc: Global,
+    names: &Names,
+    table: &SymbolTable,
+    lexicons: &[Lexicon<Raw>],
+) -> Result<Vec<Lexicon<Atom>>, AllocError>
+    ensures lexicons { IfOk result (λ found. map lexicon_of found.items ≡ map (lexicon_in names.now table.now) (map lexicon_of lexicons.now)) }
+    ensures lines { IfOk result (λ found. map lines_of found.items ≡ map lines_of lexicons.now) }
+{
+    let mut found = Vec::new(alloc);
+    'lexicons: for lexicon in lexicons {
+        found.push(resolve_lexicon(alloc, names, table, lexicon)?)?;
+    }
+    Ok(found)
+}

@@ -1,0 +1,235 @@
+-- Bodies of definitions are built as their forms are, and over other symbols where their leaves are among these.
+use Rattle.std.proofs.Common.{◌≡◌, ◌++◌, ◌||◌, Bool, true, false, List, [], ◌∷◌, All, Contains, IsTrue, map, refl, sym, ap, subst, ◌∙◌, inl, inr}
+use Rattle.std.specs.List.{flat_map, list_any}
+use Rattle.std.proofs.lemmas.List.{map-append}
+use Rattle.std.proofs.lemmas.List.Elements.{All-nil, All-cons, All-head, All-append, All-map, All-contains, All-contains_itself, All-weaker, Contains-append_cases}
+use Rattle.word_relations.proofs.Members.{Contains-nil_cases, Contains-cons_cases, Contains-head, Contains-map}
+use Rattle.fsm_base.specs.declared.letters.Sym.{Sym as Symbol}
+use Rattle.regex_ast.specs.declared.expr.Atom.{Atom}
+use Rattle.regex_ast.specs.Terms.{Term}
+use Rattle.expr_kinds.specs.Atoms.{is_symbol_of}
+use Rattle.expr_kinds.specs.Built.{IsBuiltBy}
+use Rattle.expr_kinds.specs.Kinds.{Fits}
+use Rattle.expr_leaves.specs.Alphabet.{uses_alphabet}
+use Rattle.expr_leaves.specs.Leaves.{leaves_in}
+use Rattle.project_meaning.specs.Trees.{Piece, letter, flag, Form, sides, pairs, Entry, Lexicon, Body, xfst, lexc, twolc}
+use Rattle.project_meaning.specs.Leaves.{expressions_in, expressions_of, forms_in}
+use Rattle.project_meaning.specs.Lexicons.{letters_of}
+use Rattle.project_meaning.proofs.Places.{in_front, in_back, in_flat}
+use Rattle.project_sources.specs.Built.{PieceIsBuiltBy, FormIsBuiltBy, LexiconIsBuiltBy, BodyIsBuiltBy}
+use Rattle.project_model.specs.Bodies.{BodyFitsBy, IsFormed}
+use Rattle.network_expr.specs.Built.{IsBuiltOver}
+use Rattle.network_expr.specs.Parts.{is_leaf_of, kinds}
+use Rattle.network_expr.specs.declared.parts.Part.{Part}
+use Rattle.network_lexicons.specs.Built.{PieceIsBuilt, FormIsBuilt, EntriesAreBuilt}
+use Rattle.lexicon_resolution.specs.Places.{places_in, places_in_form, places_in_piece}
+use Rattle.lexicon_resolution.specs.declared.place.Place.TheVariants.{InExpression}
+use Rattle.network_build.specs.Made.{IsReady, leaf_at}
+use Rattle.network_build.specs.Networks.{body_leaves, body_uses_alphabet, form_leaves}
+use Rattle.network_build.proofs.Built.{built_alone, built_by, leaves_pass}
+
+-- what holds of each element, where that may be known to be one
+all_within : {X : Type 0} (P Q : X → Type 0) (xs : List X) → ((x : X) → Contains xs x → P x → Q x) → All P xs → All Q xs
+all_within P Q xs goes h = All-weaker (Contains xs) Q (λ x at. goes x at (All-contains P xs x h at)) xs (All-contains_itself xs)
+
+all_flat : {X Y : Type 0} (f : X → List Y) (P : Y → Type 0) (xs : List X) → ((x : X) → Contains xs x → All P (f x)) → All P (flat_map f xs)
+all_flat f P [] h = All-nil P
+all_flat f P (x ∷ xs) h = All-append P (f x) (flat_map f xs) (h x (Contains-head x xs)) (all_flat f P xs (λ y at. h y (in_back (x ∷ []) xs y at)))
+
+flat_cases : {X Y : Type 0} (f : X → List Y) (xs : List X) (y : Y) → Contains (flat_map f xs) y → (x : X) × Contains xs x × Contains (f x) y
+flat_cases f [] y at = absurd (Contains-nil_cases y at)
+flat_cases {X = X} f (x ∷ xs) y at =
+    elim (Contains-append_cases (f x) (flat_map f xs) y at) as (λ _. (z : X) × Contains (x ∷ xs) z × Contains (f z) y) [
+      | inl here ↦ (x, Contains-head x xs, here)
+      | inr there ↦ (let (z, among, gives) = flat_cases f xs y there in (z, in_back (x ∷ []) xs z among, gives))
+    ]
+
+-- the form of an entry of a lexicon is one of the forms
+form_among : (lexicons : List (Lexicon Atom)) (lexicon : Lexicon Atom) (entry : Entry Atom) → Contains lexicons lexicon → Contains lexicon.entries entry → Contains (forms_in lexicons) entry.form
+form_among lexicons lexicon entry among within =
+    in_flat (λ (l : Lexicon Atom). map (λ (e : Entry Atom). e.form) l.entries) lexicons lexicon entry.form among (Contains-map (λ (e : Entry Atom). e.form) lexicon.entries entry within)
+
+module _ (is_leaf is_letter : Atom → Bool) where
+  forms_built : (lexicons : List (Lexicon Atom)) → All (LexiconIsBuiltBy is_leaf is_letter) lexicons → All (FormIsBuiltBy is_leaf is_letter) (forms_in lexicons)
+  forms_built lexicons h =
+      all_flat (λ (l : Lexicon Atom). map (λ (e : Entry Atom). e.form) l.entries) (FormIsBuiltBy is_leaf is_letter) lexicons
+      (λ l at. All-map (FormIsBuiltBy is_leaf is_letter) (λ (e : Entry Atom). e.form) l.entries (All-contains (LexiconIsBuiltBy is_leaf is_letter) lexicons l h at))
+
+  form_built : (form : Form Atom) → FormIsBuiltBy is_leaf is_letter form → All (IsBuiltBy is_leaf is_letter) (expressions_in form)
+  form_built (sides upper lower) h = All-nil (IsBuiltBy is_leaf is_letter)
+  form_built (pairs e) h = All-cons (IsBuiltBy is_leaf is_letter) e [] h (All-nil (IsBuiltBy is_leaf is_letter))
+
+  -- each expression of a body that is built is built
+  pub expressions_built : (body : Body Atom) → BodyIsBuiltBy is_leaf is_letter body → All (IsBuiltBy is_leaf is_letter) (expressions_of body)
+  expressions_built (xfst e) h = All-cons (IsBuiltBy is_leaf is_letter) e [] h (All-nil (IsBuiltBy is_leaf is_letter))
+  expressions_built (lexc lexicons) h =
+      all_flat expressions_in (IsBuiltBy is_leaf is_letter) (forms_in lexicons)
+      (λ form at. form_built form (All-contains (FormIsBuiltBy is_leaf is_letter) (forms_in lexicons) form (forms_built lexicons h) at))
+  expressions_built (twolc grammar) h = absurd h
+
+  module _ (fewer : (a : Atom) → IsTrue (is_letter a) → IsTrue (is_leaf a)) where
+    -- the leaves that pass
+    abbrev Passes : Atom → Type 0
+    Passes a = IsTrue (is_leaf a)
+
+    piece_passes : (piece : Piece Atom) → PieceIsBuiltBy is_letter piece → All Passes (letters_of piece)
+    piece_passes (letter a) h = All-cons Passes a [] (fewer a h) (All-nil Passes)
+    piece_passes (flag f) h = All-nil Passes
+
+    side_passes : (pieces : List (Piece Atom)) → All (PieceIsBuiltBy is_letter) pieces → All Passes (flat_map letters_of pieces)
+    side_passes pieces h = all_flat letters_of Passes pieces (λ piece at. piece_passes piece (All-contains (PieceIsBuiltBy is_letter) pieces piece h at))
+
+    form_passes : (form : Form Atom) → FormIsBuiltBy is_leaf is_letter form → All Passes (form_leaves form)
+    form_passes (sides upper lower) h = All-append Passes (flat_map letters_of upper) (flat_map letters_of lower) (side_passes upper h.0) (side_passes lower h.1)
+    form_passes (pairs e) h = leaves_pass is_leaf e (built_alone is_leaf is_letter fewer e h)
+
+    -- each leaf of a body that is built passes
+    pub body_passes : (body : Body Atom) → BodyIsBuiltBy is_leaf is_letter body → All Passes (body_leaves body)
+    body_passes (xfst e) h = leaves_pass is_leaf e (built_alone is_leaf is_letter fewer e h)
+    body_passes (lexc lexicons) h =
+        all_flat form_leaves Passes (forms_in lexicons) (λ form at. form_passes form (All-contains (FormIsBuiltBy is_leaf is_letter) (forms_in lexicons) form (forms_built lexicons h) at))
+    body_passes (twolc grammar) h = absurd h
+
+-- the leaves of an expression of a form are leaves of the form, and those of an expression of a body are leaves of the body
+form_has : (form : Form Atom) (e : Term Atom) → Contains (expressions_in form) e → (a : Atom) → Contains (leaves_in e) a → Contains (form_leaves form) a
+form_has (sides upper lower) e among a at = absurd (Contains-nil_cases e among)
+form_has (pairs f) e among a at = elim (Contains-cons_cases f [] e among) as (λ _. Contains (leaves_in f) a) [
+  | inl is ↦ subst (λ (t : Term Atom). Contains (leaves_in t) a) (sym is) at
+  | inr none ↦ absurd (Contains-nil_cases e none)
+]
+
+pub body_has : (body : Body Atom) (e : Term Atom) → Contains (expressions_of body) e → (a : Atom) → Contains (leaves_in e) a → Contains (body_leaves body) a
+body_has (xfst f) e among a at = elim (Contains-cons_cases f [] e among) as (λ _. Contains (leaves_in f) a) [
+  | inl is ↦ subst (λ (t : Term Atom). Contains (leaves_in t) a) (sym is) at
+  | inr none ↦ absurd (Contains-nil_cases e none)
+]
+body_has (lexc lexicons) e among a at =
+    let (form, held, there) = flat_cases expressions_in (forms_in lexicons) e among in
+    in_flat form_leaves (forms_in lexicons) form a held (form_has form e there a at)
+body_has (twolc grammar) e among a at = absurd (Contains-nil_cases e among)
+
+-- no expression uses the alphabet
+none_uses : (es : List (Term Atom)) → list_any (λ e. uses_alphabet e) es ≡ false → All (λ (e : Term Atom). uses_alphabet e ≡ false) es
+none_uses [] h = All-nil (λ (e : Term Atom). uses_alphabet e ≡ false)
+none_uses (e ∷ es) h =
+    let both = neither (uses_alphabet e) (list_any (λ f. uses_alphabet f) es) h in
+    All-cons (λ (f : Term Atom). uses_alphabet f ≡ false) e es both.0 (none_uses es both.1)
+  where
+    neither : (a b : Bool) → (a || b) ≡ false → (a ≡ false) × (b ≡ false)
+    neither true b h = let clash : true ≡ false = h in absurd (cc)
+    neither false b h = (refl, h)
+
+pub none_uses_it : (body : Body Atom) → body_uses_alphabet body ≡ false → All (λ (e : Term Atom). uses_alphabet e ≡ false) (expressions_of body)
+none_uses_it body h = none_uses (expressions_of body) h
+
+module _ (parts : List Part) (alphabet other : List Symbol) where
+  -- symbols of the alphabet, among these leaves, are among the other ones
+  abbrev Go : List Atom → Type 0
+  Go leaves = (a : Atom) → Contains leaves a → IsTrue (is_symbol_of alphabet a) → IsTrue (is_symbol_of other a)
+
+  -- these expressions are built over the other symbols, and fit
+  abbrev AreOver : List (Term Atom) → Type 0
+  AreOver es = (e : Term Atom) → Contains es e → IsBuiltBy (is_leaf_of parts alphabet) (is_symbol_of alphabet) e → IsBuiltOver parts other e
+
+  abbrev AreFit : List (Term Atom) → Type 0
+  AreFit es = (e : Term Atom) → Contains es e → Fits (kinds parts) e
+
+  piece_ready : (piece : Piece Atom) → Go (letters_of piece) → PieceIsBuiltBy (is_symbol_of alphabet) piece → PieceIsBuilt other piece
+  piece_ready (letter a) go h = go a (Contains-head a []) h
+  piece_ready (flag f) go h = tt
+
+  side_ready : (pieces : List (Piece Atom)) → Go (flat_map letters_of pieces) → All (PieceIsBuiltBy (is_symbol_of alphabet)) pieces → All (PieceIsBuilt other) pieces
+  side_ready pieces go h =
+      all_within (PieceIsBuiltBy (is_symbol_of alphabet)) (PieceIsBuilt other) pieces
+      (λ piece at built. piece_ready piece (λ a there. go a (in_flat letters_of pieces piece a at there)) built) h
+
+  form_ready : (form : Form Atom) → Go (form_leaves form) → AreOver (expressions_in form) → AreFit (expressions_in form) → FormIsBuiltBy (is_leaf_of parts alphabet) (is_symbol_of alphabet) form → FormIsBuilt parts other form
+  form_ready (sides upper lower) go over fit h = (
+    side_ready upper (λ a at. go a (in_front (flat_map letters_of upper) (flat_map letters_of lower) a at)) h.0,
+    side_ready lower (λ a at. go a (in_back (flat_map letters_of upper) (flat_map letters_of lower) a at)) h.1,
+  )
+  form_ready (pairs e) go over fit h = (over e (Contains-head e []) h, fit e (Contains-head e []))
+
+  -- a body that is built over the alphabet is so over the other symbols
+  pub body_ready : (body : Body Atom) → Go (body_leaves body) → AreOver (expressions_of body) → IsFormed body → BodyFitsBy (kinds parts) body
+      → BodyIsBuiltBy (is_leaf_of parts alphabet) (is_symbol_of alphabet) body → IsReady parts other body
+  body_ready (xfst e) go over formed fit h = (over e (Contains-head e []) h, All-head (Fits (kinds parts)) e [] fit)
+  body_ready (lexc lexicons) go over formed fit h = (
+    all_within (LexiconIsBuiltBy (is_leaf_of parts alphabet) (is_symbol_of alphabet)) (λ (l : Lexicon Atom). EntriesAreBuilt parts other l.entries) lexicons entries h,
+    formed,
+  )
+    where
+      entries : (l : Lexicon Atom) → Contains lexicons l → LexiconIsBuiltBy (is_leaf_of parts alphabet) (is_symbol_of alphabet) l → EntriesAreBuilt parts other l.entries
+      entries l among built =
+          all_within (λ (entry : Entry Atom). FormIsBuiltBy (is_leaf_of parts alphabet) (is_symbol_of alphabet) entry.form) (λ (entry : Entry Atom). FormIsBuilt parts other entry.form) l.entries
+          (λ entry within each.
+          let held = form_among lexicons l entry among within in
+          form_ready entry.form (λ a at. go a (in_flat form_leaves (forms_in lexicons) entry.form a held at)) (λ e at. over e (in_flat expressions_in (forms_in lexicons) entry.form e held at))
+          (λ e at. All-contains (Fits (kinds parts)) (expressions_of (lexc lexicons)) e fit (in_flat expressions_in (forms_in lexicons) entry.form e held at)) each)
+          built
+  body_ready (twolc grammar) go over formed fit h = absurd h
+
+-- a body that is built is so by any tests that its leaves pass, where those in braces and on sides pass the second
+module _ (spells letter_passes passes held : Atom → Bool) where
+  abbrev Follow : List Atom → Type 0
+  Follow leaves = ((a : Atom) → Contains leaves a → IsTrue (spells a) → IsTrue (passes a)) × ((a : Atom) → Contains leaves a → IsTrue (letter_passes a) → IsTrue (held a))
+
+  piece_by : (piece : Piece Atom) → Follow (letters_of piece) → PieceIsBuiltBy letter_passes piece → PieceIsBuiltBy held piece
+  piece_by (letter a) go h = go.1 a (Contains-head a []) h
+  piece_by (flag f) go h = tt
+
+  side_by : (pieces : List (Piece Atom)) → Follow (flat_map letters_of pieces) → All (PieceIsBuiltBy letter_passes) pieces → All (PieceIsBuiltBy held) pieces
+  side_by pieces (one, two) h =
+      all_within (PieceIsBuiltBy letter_passes) (PieceIsBuiltBy held) pieces
+      (λ piece at built. piece_by piece (λ a there. one a (in_flat letters_of pieces piece a at there), λ a there. two a (in_flat letters_of pieces piece a at there)) built) h
+
+  form_by : (form : Form Atom) → Follow (form_leaves form) → FormIsBuiltBy spells letter_passes form → FormIsBuiltBy passes held form
+  form_by (sides upper lower) (one, two) h =
+      let u = flat_map letters_of upper in
+      let l = flat_map letters_of lower in (
+        side_by upper (λ a at. one a (in_front u l a at), λ a at. two a (in_front u l a at)) h.0,
+        side_by lower (λ a at. one a (in_back u l a at), λ a at. two a (in_back u l a at)) h.1,
+      )
+  form_by (pairs e) go h = built_by spells letter_passes passes held e h go
+
+  pub body_by : (body : Body Atom) → BodyIsBuiltBy spells letter_passes body → Follow (body_leaves body) → BodyIsBuiltBy passes held body
+  body_by (xfst e) h go = built_by spells letter_passes passes held e h go
+  body_by (lexc lexicons) h (one, two) = all_within (LexiconIsBuiltBy spells letter_passes) (LexiconIsBuiltBy passes held) lexicons lexicon h
+    where
+      lexicon : (l : Lexicon Atom) → Contains lexicons l → LexiconIsBuiltBy spells letter_passes l → LexiconIsBuiltBy passes held l
+      lexicon l among built =
+          all_within (λ (entry : Entry Atom). FormIsBuiltBy spells letter_passes entry.form) (λ (entry : Entry Atom). FormIsBuiltBy passes held entry.form) l.entries
+          (λ entry within each.
+          let held_form = form_among lexicons l entry among within in
+          form_by entry.form (
+            λ a at. one a (in_flat form_leaves (forms_in lexicons) entry.form a held_form at),
+            λ a at. two a (in_flat form_leaves (forms_in lexicons) entry.form a held_form at),
+          ) each)
+          built
+  body_by (twolc grammar) h go = absurd h
+
+-- the leaves that stand in lexicons are those at their places
+flat_mapped : {X Y Z : Type 0} (f : Y → Z) (g : X → List Y) (h : X → List Z) → ((x : X) → map f (g x) ≡ h x) → (xs : List X) → map f (flat_map g xs) ≡ flat_map h xs
+flat_mapped f g h same [] = refl
+flat_mapped f g h same (x ∷ xs) =
+    let here = same x in
+    let rest = flat_mapped f g h same xs in
+    map-append f (g x) (flat_map g xs) ∙ (λ i. here i ++ rest i)
+
+piece_places : (piece : Piece Atom) → map leaf_at (places_in_piece piece) ≡ letters_of piece
+piece_places (letter leaf) = refl
+piece_places (flag f) = refl
+
+alone : (leaves : List Atom) → map leaf_at (map (λ leaf. InExpression leaf) leaves) ≡ leaves
+alone [] = refl
+alone (leaf ∷ leaves) = ap (λ (z : List Atom). leaf ∷ z) (alone leaves)
+
+form_places : (form : Form Atom) → map leaf_at (places_in_form form) ≡ form_leaves form
+form_places (sides upper lower) =
+    let u = flat_mapped leaf_at places_in_piece letters_of piece_places upper in
+    let l = flat_mapped leaf_at places_in_piece letters_of piece_places lower in
+    map-append leaf_at (flat_map places_in_piece upper) (flat_map places_in_piece lower) ∙ (λ i. u i ++ l i)
+form_places (pairs e) = alone (leaves_in e)
+
+pub leaves_at_places : (lexicons : List (Lexicon Atom)) → map leaf_at (places_in lexicons) ≡ flat_map form_leaves (forms_in lexicons)
+leaves_at_places lexicons = flat_mapped leaf_at places_in_form form_leaves form_places (forms_in lexicons)

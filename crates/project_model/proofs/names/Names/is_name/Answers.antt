@@ -1,8 +1,0 @@
-use Rattle.std.proofs.Common.{◌≡◌, sym, subst, ◌∙◌}
-use Rattle.project_meaning.specs.Leaves.{leaf_of}
-use Rattle.project_model.specs.Names.{is_named}
-use Rattle.project_model.proofs.Leaves.{run_test}
-use Rattle.project_model.proofs.names.Names.is_name.Goals as goal
-
-pub returns-in-Run : goal.returns-in-Run
-returns-in-Run c = let has = rw c.as_str.ensures at c.contains.ensures in subst (λ leaf. c.contains.result ≡ is_named (leaf_of c.args.self.now leaf)) (sym c.in-Run.is) (has ∙ run_test c.args.self.now c.in-Run.text)

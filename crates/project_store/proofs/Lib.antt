@@ -1,0 +1,10 @@
+mod Resolved
+pub mod Bodies
+pub mod Lawful
+pub mod Named
+pub mod Networks
+pub mod Ordered
+pub mod Parts
+pub mod Shown
+pub mod Spelled
+pub mod Trying

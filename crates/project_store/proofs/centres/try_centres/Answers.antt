@@ -1,0 +1,56 @@
+use Rattle.std.proofs.Common.{◌≡◌, ◌<◌, ◌+◌, ◌∙◌, All, Bool, List, Option, arith, get_or, length, refl, subst, sym, take}
+use Rattle.network_algebra.specs.declared.network.Network.{Network}
+use Rattle.name_order.specs.Orders.{IsOrder}
+use Rattle.project_model.specs.Referring.{references_of}
+use Rattle.project_model.specs.declared.definition.Definition.{Definition}
+use Rattle.project_store.specs.Centres.{IsOutcome, with_empty, with_network}
+use Rattle.project_store.proofs.Trying.{TriedSoFar, all_within, front_more, here_within, tried_front, tried_none}
+use Rattle.project_store.proofs.centres.try_centres.Goals as goal
+
+pub end_of_centres-requires : goal.end_of_centres-requires
+end_of_centres-requires c =
+    let ordered = subst (λ ds. IsOrder (references_of ds) c.order-order.result.now) c.plan-plan.ensures.definitions c.order-order.ensures in
+    subst (λ (ds : List Definition). All (λ place. place < length ds) c.order-order.result.now) (sym (c.definitions-definitions.ensures.definitions ∙ c.plan-plan.ensures.definitions)) (all_within c.args.project.now c.order-order.result.now ordered (length c.order-order.result.now) (omega arith))
+
+pub order-init : goal.order-init
+order-init c =
+    let same = (c.definitions-definitions.ensures.definitions ∙ c.plan-plan.ensures.definitions) in
+    tried_none c.args.project.now c.in_ok-tried.tried.built.items c.in_ok-tried.tried.empty.items (rw same at c.in_ok-tried.ensures.built) (rw same at c.in_ok-tried.ensures.none) (rw same at c.in_ok-tried.ensures.empty)
+
+pub outcome_of-requires-clause-place : goal.outcome_of-requires-clause-place
+outcome_of-requires-clause-place c =
+    let ordered = subst (λ ds. IsOrder (references_of ds) c.order-order.result.now) c.plan-plan.ensures.definitions c.order-order.ensures in
+    here_within c.args.project.now c.order-order.result.now ordered c.in_ok-end.end c.in_ok-end.ensures.within _ refl c.order.place-index c.order-test.true
+
+pub put-requires-clause-built : goal.put-requires-clause-built
+put-requires-clause-built c =
+    let ordered = subst (λ ds. IsOrder (references_of ds) c.order-order.result.now) c.plan-plan.ensures.definitions c.order-order.ensures in
+    let below = here_within c.args.project.now c.order-order.result.now ordered c.in_ok-end.end c.in_ok-end.ensures.within _ refl c.order.place-index c.order-test.true in
+    let many = c.order.invariant.are.are.count in
+    omega (arith, below, many)
+
+pub put-requires-clause-empty : goal.put-requires-clause-empty
+put-requires-clause-empty c =
+    let ordered = subst (λ ds. IsOrder (references_of ds) c.order-order.result.now) c.plan-plan.ensures.definitions c.order-order.ensures in
+    let below = here_within c.args.project.now c.order-order.result.now ordered c.in_ok-end.end c.in_ok-end.ensures.within _ refl c.order.place-index c.order-test.true in
+    let many = c.order.invariant.count in
+    omega (arith, below, many)
+
+pub order-preserved : goal.order-preserved
+order-preserved c =
+    let ordered = subst (λ ds. IsOrder (references_of ds) c.order-order.result.now) c.plan-plan.ensures.definitions c.order-order.ensures in
+    let order = c.order-order.result.now in
+    let front = take c.in_ok-end.end order in
+    let place = get_or front c.order.place-index 0 in
+    let is : IsOutcome c.args.project.now c.order.tried.built.items place c.in_ok-outcome.outcome = subst (λ (nets : List (Option Network)). IsOutcome c.args.project.now nets place c.in_ok-outcome.outcome) c.deref.ensures.value c.in_ok-outcome.ensures in
+    let more =
+    front_more c.args.project.now order ordered c.in_ok-end.end c.in_ok-end.ensures.within front refl c.order.place-index c.order-test.true c.order.tried.built.items c.order.tried.empty.items c.in_ok-outcome.outcome is c.order.invariant in
+    let built : c.put.new.self.built.items ≡ with_network c.in_ok-outcome.outcome place c.order.tried.built.items = c.put.ensures.built in
+    let empty : c.put.new.self.empty.items ≡ with_empty c.in_ok-outcome.outcome place c.order.tried.empty.items = c.put.ensures.empty in
+    subst (λ (marks : List Bool). TriedSoFar c.args.project.now (take (c.order.place-index + 1) front) c.put.new.self.built.items marks) (sym empty)
+    (subst (λ (nets : List (Option Network)). TriedSoFar c.args.project.now (take (c.order.place-index + 1) front) nets (with_empty c.in_ok-outcome.outcome place c.order.tried.empty.items)) (sym built) more)
+
+pub returns : goal.returns
+returns c =
+    let ordered = subst (λ ds. IsOrder (references_of ds) c.order-order.result.now) c.plan-plan.ensures.definitions c.order-order.ensures in
+    tried_front c.args.project.now c.order-order.result.now ordered c.in_ok-end.end c.in_ok-end.ensures.within (rw (c.definitions-definitions.ensures.definitions ∙ c.plan-plan.ensures.definitions) at c.in_ok-end.ensures.behind) _ c.order.place-index c.order.tried.built.items c.order.tried.empty.items refl c.order-test.false c.order.invariant

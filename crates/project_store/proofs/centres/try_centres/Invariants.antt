@@ -1,0 +1,7 @@
+use Rattle.std.proofs.Common.{take}
+use Rattle.project_store.proofs.Trying.{TriedSoFar}
+use Rattle.project_store.proofs.centres.try_centres.Given as goal
+
+-- what came of the definitions so far
+abbrev pub invariant-order : goal.invariant-order
+invariant-order l = TriedSoFar l.project (take l.place-index l.front) l.tried.built.items l.tried.empty.items

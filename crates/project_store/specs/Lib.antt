@@ -1,0 +1,5 @@
+pub mod Loaded
+pub mod Projects
+pub mod Building
+pub mod Centres
+pub mod Networks

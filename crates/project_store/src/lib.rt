@@ -1,0 +1,24 @@
+//! A project and its networks.
+//!
+//! - [`project_of`]: the project of sources, as a [`Ready`], or why there is none, a [`StoreError`].
+//! - [`Project`]: its definitions and its alphabet.
+//! - [`Network`]: a name that is looked up in, with the network of its definition, and the replies to words.
+//!
+//! Inside, `reading` makes the project and refuses it where `centres` finds an empty centre, `ready` keeps what was built to see that, `building` builds the networks of definitions, each of those
+//! before it, `network` has the one that is looked up in, and `answers` the replies to words.
+#![tactic(auto)]
+
+mod answers;
+mod building;
+mod centres;
+mod network;
+mod project;
+mod reading;
+mod ready;
+mod store_error;
+
+pub use network::Network;
+pub use project::Project;
+pub use reading::project_of;
+pub use ready::Ready;
+pub use store_error::StoreError;
