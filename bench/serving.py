@@ -9,6 +9,7 @@ import sys
 import tempfile
 import time
 
+import lexicons
 import measure
 
 FILES = 64
@@ -62,9 +63,7 @@ def beside_a_lexicon(program):
     """One small rule beside a lexicon of 20,000 entries."""
     with tempfile.TemporaryDirectory() as folder:
         write(folder, 'project', 'lexc Lex n.lexc\nxfst r.xfst\n')
-        letters = 'abcdefghijklmnopqrstuvwxyz'
-        words = [''.join(letters[k // 26 ** at * 7 % 26] for at in range(4)) + letters[k % 26] * 3 for k in range(ENTRIES)]
-        write(folder, 'n.lexc', 'LEXICON Root\n' + ''.join(word + ' # ;\n' for word in words))
+        write(folder, 'n.lexc', lexicons.plain(ENTRIES)[0])
         write(folder, 'r.xfst', 'define Rule a -> b || c _ ;\ndefine Other x y ;\n')
         served = Served(program, folder)
         reply, seconds = served.ask('splice r.xfst 1 1 1\ndefine Rule a -> b || d _ ;\n')
