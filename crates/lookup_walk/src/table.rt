@@ -1,7 +1,7 @@
-ghost use Rattle.std.specs.Prelude.{◌≡◌, ◌≤◌, ◌-◌, ◌↔◌, None, Some, Contains, IfOk, length, take, drop};
+ghost use Rattle.std.specs.Prelude.{◌≡◌, ◌≤◌, ◌-◌, ◌↔◌, None, Some, Contains, IfOk, IfSome, length, take, drop};
 ghost use Rattle.lookup_walk.specs.declared.moves.Move.{Move};
 ghost use Rattle.lookup_walk.specs.Moves.{AreMoves};
-ghost use Rattle.lookup_walk.specs.Sorted.{AreRows, AreSorted, IsRow};
+ghost use Rattle.lookup_walk.specs.Sorted.{AreRows, AreSorted, IsOnly, IsRow};
 
 use crate::moves::{Move, Spot, take};
 use fsa::Edge;
@@ -80,6 +80,24 @@ impl Table {
         ensures { (m : Move) → Contains result.now m ↔ (Contains self.now m × (m.at ≡ record { state = state; read = Some symbol })) }
     {
         reading_in(self.moves.as_slice(), self.rows.as_slice(), state, symbol)
+    }
+
+    /// The move of a state that reads a symbol, where no other one reads it and none reads nothing.
+    pub fn only(&self, state: usize, symbol: Sym) -> Option<Move>
+        ensures { IfSome result (λ only. IsOnly self.now state symbol only) }
+    {
+        let epsilon = self.epsilon(state);
+        if !epsilon.is_empty() {
+            return None;
+        }
+        let reading = self.reading(state, symbol);
+        let Some((first, others)) = reading.split_first() else {
+            return None;
+        };
+        if !others.is_empty() {
+            return None;
+        }
+        Some(*first)
     }
 }
 
