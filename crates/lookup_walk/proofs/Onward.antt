@@ -1,5 +1,5 @@
 -- Going on by moves each of which alone leads on.
-use Rattle.std.proofs.Common.{◌≡◌, ℕ, List, [], ◌∷◌, ◌++◌, Bool, Option, None, Some, length, refl, subst, sym, ap, inl, inr, arith, ◌∙◌, append_assoc}
+use Rattle.std.proofs.Common.{◌≡◌, ℕ, List, [], ◌∷◌, ◌++◌, Bool, Option, None, Some, refl, subst, sym, ap, inl, inr, ◌∙◌, append_assoc}
 use Rattle.std.specs.List.{Contains}
 use Rattle.std.specs.Option.{option_to_list}
 use Rattle.std.proofs.lemmas.List.{append-nil}
@@ -16,26 +16,6 @@ use Rattle.lookup_walk.proofs.Runs.{AreAt, goes_along, goes_inside}
 
 one_of : (x m : Move) → Contains (x ∷ []) m → x ≡ m
 one_of x m h = elim (Contains-push_cases [] x m h) [ inl none ↦ absurd (Contains-nil_cases m none) | inr same ↦ same ]
-
-none_of : (xs : List Move) (m : Move) → length xs ≡ 0 → Contains xs m → ⊥
-none_of xs m none h = let l = h.1 in omega arith
-
-alone : (x : Move) (xs ys : List Move) → ys ≡ x ∷ xs → length xs ≡ 0 → ys ≡ x ∷ []
-alone x [] ys is none = is
-alone x (y ∷ xs) ys is none = absurd (omega arith)
-
--- one move reads the symbol, and none reads nothing
-pub only_is : (moves : List Move) (q : ℕ) (s : Sym) (epsilon reading others : List Move) (first : Move) → AreAt moves (record { state = q; read = None }) epsilon → AreAt moves (record { state = q; read = Some s }) reading
-    → length epsilon ≡ 0 → reading ≡ first ∷ others → length others ≡ 0 → IsOnly moves q s first
-only_is moves q s epsilon reading others first at1 at2 none is few =
-    let one : reading ≡ first ∷ [] = alone first others reading is few in
-    record {
-      epsilon = λ m held at. none_of epsilon m none ((at1 m).1 (held, at));
-      reading = λ m. (
-        λ r. sym (one_of first m (subst (λ ms. Contains ms m) one ((at2 m).1 r))),
-        λ e. (at2 m).0 (subst (λ ms. Contains ms m) (sym one) (subst (λ y. Contains (first ∷ []) y) (sym e) (Contains-head first []))),
-      );
-    }
 
 module _ (alphabet : List (Sym × List ℕ)) (moves : List Move) (finals : List Bool) where
   pub on_none : (q : ℕ) (rest : List Sym) (t : Trail) → IsOver (symbols_of alphabet) t.written.items → GoesOn alphabet moves finals q rest q rest t t
