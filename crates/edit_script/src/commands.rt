@@ -53,6 +53,18 @@ pub enum EditCommand {
     End,
 }
 
+impl EditCommand {
+    /// How many lines follow it.
+    pub fn lines_behind(&self) -> u32
+        ensures { result ≡ lines_behind self.now }
+    {
+        match self {
+            EditCommand::Put { lines, .. } | EditCommand::Splice { lines, .. } => *lines,
+            _ => 0,
+        }
+    }
+}
+
 /// What kind a command is of.
 #[derive(Clone, Copy, Debug, PartialEq, Eq)]
 pub enum CommandKind {
