@@ -1,0 +1,5 @@
+mod Long
+mod Hearing
+mod Requests
+mod Shortness
+mod Runs
