@@ -38,23 +38,20 @@ none_begun left0 left budget reader lines heard = told-nil reader.begun heard.re
 -- ---- a line more
 
 module _ (left0 left1 left : Option (List ℕ)) (budget : ℕ) (old new : LinesView) (event : LineEvent) (lines : List (List ℕ)) (heard : HasHeard left0 left1 budget old lines) (next : NextEvent left1 left old new event) where
-  read : HasRead left0 left1 budget old lines
-  read = heard.read
-
-  before : old.ended ≡ false → (ended : Bool) (more : List ℕ) → raw_lines ended (read.taken ++ (next.taken ++ more)) ≡ lines ++ raw_lines ended ((old.ahead ++ next.taken) ++ more)
+  before : old.ended ≡ false → (ended : Bool) (more : List ℕ) → raw_lines ended (heard.read.taken ++ (next.taken ++ more)) ≡ lines ++ raw_lines ended ((old.ahead ++ next.taken) ++ more)
   before going ended more =
-      read.goes_on going ended (next.taken ++ more) ∙ ap (λ (l : List ℕ). lines ++ raw_lines ended (l ++ (old.ahead ++ (next.taken ++ more)))) (none_begun left0 left1 budget old lines heard)
+      heard.read.goes_on going ended (next.taken ++ more) ∙ ap (λ (l : List ℕ). lines ++ raw_lines ended (l ++ old.ahead ++ (next.taken ++ more))) (none_begun left0 left1 budget old lines heard)
       ∙ ap (λ (l : List ℕ). lines ++ raw_lines ended l) (sym (append_assoc old.ahead next.taken more))
 
   -- a newline ended it
   pub heard_newline : old.ended ≡ false → new.ended ≡ false → old.ahead ++ next.taken ≡ next.piece ++ 10 ∷ new.ahead → new.begun ≡ [] → HasRead left0 left budget new (lines ++ next.piece ∷ [])
   heard_newline going0 going divided none = record {
-    taken = read.taken ++ next.taken;
+    taken = heard.read.taken ++ next.taken;
     begun = [];
-    consumed = consumes_more left0 left1 left read.taken next.taken read.consumed next.consumed;
-    spent = omega (arith, read.spent, next.spent, length-append read.taken next.taken);
+    consumed = consumes_more left0 left1 left heard.read.taken next.taken heard.read.consumed next.consumed;
+    spent = omega (arith, heard.read.spent, next.spent, length-append heard.read.taken next.taken);
     goes_on = λ _ ended more.
-        ap (raw_lines ended) (append_assoc read.taken next.taken more) ∙ before going0 ended more
+        ap (raw_lines ended) (append_assoc heard.read.taken next.taken more) ∙ before going0 ended more
         ∙ ap (λ (l : List ℕ). lines ++ raw_lines ended (l ++ more)) divided
         ∙ ap (λ (l : List ℕ). lines ++ raw_lines ended l) (append_assoc next.piece (10 ∷ new.ahead) more)
         ∙ ap (λ (l : List (List ℕ)). lines ++ l) (raw_lines-newline ended next.piece (new.ahead ++ more) next.within)
@@ -67,16 +64,16 @@ module _ (left0 left1 left : Option (List ℕ)) (budget : ℕ) (old new : LinesV
   -- the end of the input did
   pub heard_end : old.ended ≡ false → new.ended ≡ true → old.ahead ++ next.taken ≡ next.piece → new.ahead ≡ [] → new.begun ≡ [] → 0 < length (old.begun ++ next.piece) → HasRead left0 left budget new (lines ++ next.piece ∷ [])
   heard_end going0 closed divided none_ahead none some = record {
-    taken = read.taken ++ next.taken;
+    taken = heard.read.taken ++ next.taken;
     begun = [];
-    consumed = consumes_more left0 left1 left read.taken next.taken read.consumed next.consumed;
-    spent = omega (arith, read.spent, next.spent, length-append read.taken next.taken);
+    consumed = consumes_more left0 left1 left heard.read.taken next.taken heard.read.consumed next.consumed;
+    spent = omega (arith, heard.read.spent, next.spent, length-append heard.read.taken next.taken);
     goes_on = λ is. cc;
     within = within-nil;
     kept = ap told none;
     ends = λ _.
         let some2 : 0 < length next.piece = omega (arith, length-append old.begun next.piece, ap length heard.settled.whole) in (
-          ap (λ (l : List ℕ). raw_lines true (read.taken ++ l)) (sym (append-nil next.taken)) ∙ before going0 true [] ∙ ap (λ (l : List ℕ). lines ++ raw_lines true (l ++ [])) divided
+          ap (λ (l : List ℕ). raw_lines true (heard.read.taken ++ l)) (sym (append-nil next.taken)) ∙ before going0 true [] ∙ ap (λ (l : List ℕ). lines ++ raw_lines true (l ++ [])) divided
               ∙ ap (λ (l : List ℕ). lines ++ raw_lines true l) (append-nil next.piece) ∙ ap (λ (l : List (List ℕ)). lines ++ l) (raw_lines-end next.piece some2 next.within),
           refl,
           none_ahead,
@@ -143,12 +140,9 @@ piece_told reader piece t settled is = ap (λ (l : List ℕ). told (l ++ piece))
 
 -- ---- less is left
 
-one_unless : Bool → ℕ
-one_unless ended = if ended then 0 else 1
-
 -- the input's end is never undone
-closed_stays : (a b : Bool) → (a ≡ true → b ≡ true) → one_unless b ≤ one_unless a
-closed_stays true b keeps = omega (arith, ap one_unless (keeps refl))
+closed_stays : (a b : Bool) → (a ≡ true → b ≡ true) → (if b then 0 else 1) ≤ (if a then 0 else 1)
+closed_stays true b keeps = omega (arith, ap {B = ℕ} (λ (x : Bool). if x then 0 else 1) (keeps refl))
 closed_stays false true keeps = omega arith
 closed_stays false false keeps = omega arith
 
@@ -218,19 +212,18 @@ module _ (left0 left1 left : Option (List ℕ)) (budget : ℕ) (old new : LinesV
   never_long Over is = cc
 
   -- a line was put behind the bytes
-  pub took_line : {E : Type 0} (most : ℕ) (into0 into : List ℕ) (result : Result LineEvent E) (lacks : Bool) → TakesLine left1 left old new most into0 into result → result ≡ Ok Line → HasTakenOne left0 left budget new lines most into0 into lacks lacks None
-  took_line {E} most into0 into result lacks t is =
-      let tells = line_of_answer t.event (subst (λ (r : Result LineEvent E). MatchResult r (λ told. told ≡ taken_as t.event) (λ refused. IsLineEvent t.event)) is t.answer) in
-      (t.next.piece, heard_line left0 left1 left budget old new lines heard t.event t.next tells few, λ free. (free, t.whole is ∙ ap (λ (l : List ℕ). filled most into0 l) (line_taken t.event t.next.piece tells)))
+  pub took_line : {E : Type 0} (most : ℕ) (into0 into : List ℕ) (lacks : Bool) (answered : LineEvent) → TakesLine {E = E} left1 left old new most into0 into (Ok answered) → answered ≡ Line → HasTakenOne left0 left budget new lines most into0 into lacks lacks None
+  took_line {E} most into0 into lacks answered t is =
+      let tells = line_of_answer t.event (sym is ∙ t.answer) in
+      let line : ◌≡◌ {A = Result LineEvent E} (Ok answered) (Ok Line) = ap {B = Result LineEvent E} (λ (e : LineEvent). Ok e) is in
+      (t.next.piece, heard_line left0 left1 left budget old new lines heard t.event t.next tells few, λ free. (free, t.whole line ∙ ap (λ (l : List ℕ). filled most into0 l) (line_taken t.event t.next.piece tells)))
 
-  pub took_no_long : {E : Type 0} {P : Type 0} (most : ℕ) (into0 into : List ℕ) (result : Result LineEvent E) → TakesLine left1 left old new most into0 into result → result ≡ Ok Long → P
-  took_no_long {E} most into0 into result t is = never_long t.event (subst (λ (r : Result LineEvent E). MatchResult r (λ told. told ≡ taken_as t.event) (λ refused. IsLineEvent t.event)) is t.answer)
+  pub took_no_long : {E : Type 0} {P : Type 0} (most : ℕ) (into0 into : List ℕ) (answered : LineEvent) → TakesLine {E = E} left1 left old new most into0 into (Ok answered) → answered ≡ Long → P
+  took_no_long most into0 into answered t is = never_long t.event (sym is ∙ t.answer)
 
   -- there was no memory for a line
-  pub took_unkept : {E : Type 0} (most : ℕ) (into0 into : List ℕ) (result : Result LineEvent E) (refused : E) (lacks : Bool) → TakesLine left1 left old new most into0 into result → result ≡ Err refused → HasTakenOne left0 left budget new lines most into0 into lacks true None
-  took_unkept {E} most into0 into result refused lacks t is =
-      let tells = subst (λ (r : Result LineEvent E). MatchResult r (λ told. told ≡ taken_as t.event) (λ _. IsLineEvent t.event)) is t.answer in
-      (t.next.piece, heard_line left0 left1 left budget old new lines heard t.event t.next tells few, λ (free : true ≡ false). cc)
+  pub took_unkept : {E : Type 0} (most : ℕ) (into0 into : List ℕ) (refused : E) (lacks : Bool) → TakesLine {E = E} left1 left old new most into0 into (Err refused) → HasTakenOne left0 left budget new lines most into0 into lacks true None
+  took_unkept most into0 into refused lacks t = (t.next.piece, heard_line left0 left1 left budget old new lines heard t.event t.next t.answer few, λ (free : true ≡ false). cc)
 
   end_of : (event : LineEvent) → NextEvent left1 left old new event → End ≡ taken_as event → HasRead left0 left budget new lines × HasStopped new payloads.Cut
   end_of Line next is = cc
@@ -254,17 +247,16 @@ module _ (left0 left1 left : Option (List ℕ)) (budget : ℕ) (old new : LinesV
   over_of Over next is = (heard_none left0 left1 left budget old new lines heard Over refl next, (record { going = next.stopped.0; none = next.divided.1 }, next.stopped.1))
 
   -- the input stopped before a line
-  pub took_end : {E : Type 0} (most : ℕ) (into0 into : List ℕ) (result : Result LineEvent E) (lacks0 lacks : Bool) → TakesLine left1 left old new most into0 into result → result ≡ Ok End
-      → HasTakenOne left0 left budget new lines most into0 into lacks0 lacks (Some payloads.Cut)
-  took_end {E} most into0 into result lacks0 lacks t is = end_of t.event t.next (subst (λ (r : Result LineEvent E). MatchResult r (λ told. told ≡ taken_as t.event) (λ refused. IsLineEvent t.event)) is t.answer)
+  pub took_end : {E : Type 0} (most : ℕ) (into0 into : List ℕ) (lacks0 lacks : Bool) (answered : LineEvent) → TakesLine {E = E} left1 left old new most into0 into (Ok answered) → answered ≡ End → HasTakenOne left0 left budget new lines most into0 into lacks0 lacks (Some payloads.Cut)
+  took_end most into0 into lacks0 lacks answered t is = end_of t.event t.next (sym is ∙ t.answer)
 
-  pub took_failed : {E : Type 0} (most : ℕ) (into0 into : List ℕ) (result : Result LineEvent E) (lacks0 lacks : Bool) → TakesLine left1 left old new most into0 into result → result ≡ Ok Failed
+  pub took_failed : {E : Type 0} (most : ℕ) (into0 into : List ℕ) (lacks0 lacks : Bool) (answered : LineEvent) → TakesLine {E = E} left1 left old new most into0 into (Ok answered) → answered ≡ Failed
       → HasTakenOne left0 left budget new lines most into0 into lacks0 lacks (Some (payloads.Stopped ReadFailed))
-  took_failed {E} most into0 into result lacks0 lacks t is = failed_of t.event t.next (subst (λ (r : Result LineEvent E). MatchResult r (λ told. told ≡ taken_as t.event) (λ refused. IsLineEvent t.event)) is t.answer)
+  took_failed most into0 into lacks0 lacks answered t is = failed_of t.event t.next (sym is ∙ t.answer)
 
-  pub took_over : {E : Type 0} (most : ℕ) (into0 into : List ℕ) (result : Result LineEvent E) (lacks0 lacks : Bool) → TakesLine left1 left old new most into0 into result → result ≡ Ok Over
+  pub took_over : {E : Type 0} (most : ℕ) (into0 into : List ℕ) (lacks0 lacks : Bool) (answered : LineEvent) → TakesLine {E = E} left1 left old new most into0 into (Ok answered) → answered ≡ Over
       → HasTakenOne left0 left budget new lines most into0 into lacks0 lacks (Some (payloads.Stopped Spent))
-  took_over {E} most into0 into result lacks0 lacks t is = over_of t.event t.next (subst (λ (r : Result LineEvent E). MatchResult r (λ told. told ≡ taken_as t.event) (λ refused. IsLineEvent t.event)) is t.answer)
+  took_over most into0 into lacks0 lacks answered t is = over_of t.event t.next (sym is ∙ t.answer)
 
 -- so many lines were taken, and their bytes kept unless memory lacked
 pub record Taking (left0 left : Option (List ℕ)) (budget : ℕ) (reader : LinesView) (heard : List (List ℕ)) (count most : ℕ) (bytes : List ℕ) (lacks : Bool) : Type 0 where
@@ -299,9 +291,9 @@ module _ (left0 left1 left : Option (List ℕ)) (budget : ℕ) (old new : LinesV
   stopped_taking wanted less payloads.Cut (read, stopped) = record { more = t.more; read = read; is = (omega (arith, t.len, less), stopped) }
   stopped_taking wanted less (payloads.Stopped ending) (read, stopped) = record { more = t.more; read = read; is = (omega (arith, t.len, less), stopped) }
 
-pub taken_unkept : (left0 left : Option (List ℕ)) (budget : ℕ) (reader : LinesView) (heard : List (List ℕ)) (count most : ℕ) (bytes : List ℕ) (lacks : Bool) → Taking left0 left budget reader heard count most bytes lacks → lacks ≡ true → HasTaken left0 left budget reader heard count most payloads.Unkept
-taken_unkept left0 left budget reader heard count most bytes lacks t is = record { more = t.more; read = t.all_heard.read; is = (t.len, t.all_heard.settled, t.some is) }
+module _ (left0 left : Option (List ℕ)) (budget : ℕ) (reader : LinesView) (heard : List (List ℕ)) (count wanted most : ℕ) (same : count ≡ wanted) where
+  pub taken_unkept : (bytes : List ℕ) (lacks : Bool) → Taking left0 left budget reader heard count most bytes lacks → lacks ≡ true → HasTaken left0 left budget reader heard wanted most payloads.Unkept
+  taken_unkept bytes lacks t is = record { more = t.more; read = t.all_heard.read; is = (t.len ∙ same, t.all_heard.settled, omega (arith, t.some is, same)) }
 
-pub taken_kept : (left0 left : Option (List ℕ)) (budget : ℕ) (reader : LinesView) (heard : List (List ℕ)) (count most : ℕ) (bytes : Vec ℕ Global) (lacks : Bool) → Taking left0 left budget reader heard count most bytes.items lacks → lacks ≡ false
-    → HasTaken left0 left budget reader heard count most (payloads.Kept bytes)
-taken_kept left0 left budget reader heard count most bytes lacks t is = record { more = t.more; read = t.all_heard.read; is = (t.len, t.all_heard.settled, t.kept is) }
+  pub taken_kept : (bytes : Vec ℕ Global) (lacks : Bool) → Taking left0 left budget reader heard count most bytes.items lacks → lacks ≡ false → HasTaken left0 left budget reader heard wanted most (payloads.Kept bytes)
+  taken_kept bytes lacks t is = record { more = t.more; read = t.all_heard.read; is = (t.len ∙ same, t.all_heard.settled, t.kept is) }

@@ -1,5 +1,6 @@
 mod Long
 mod Hearing
-mod Requests
 mod Shortness
+mod Requests
+mod Replies
 mod Runs

@@ -27,10 +27,11 @@ one_line line lines = omega (arith, length-append (line ++ 10 ∷ []) (written l
 no_shorter : (line bytes : List ℕ) → length line + length bytes ≤ length (written (lines_from line bytes))
 no_shorter [] [] = omega arith
 no_shorter (b ∷ line) [] = omega (arith, one_line (b ∷ line) [])
-no_shorter line (b ∷ bytes) = at (b == 10) where
-  at : (newline : Bool) → length line + length (b ∷ bytes) ≤ length (written (cond newline (line ∷ lines_from [] bytes) (lines_from (line ++ b ∷ []) bytes)))
-  at true = omega (arith, one_line line (lines_from [] bytes), no_shorter [] bytes)
-  at false = omega (arith, length-append line (b ∷ []), no_shorter (line ++ b ∷ []) bytes)
+no_shorter line (b ∷ bytes) = at (b == 10) (no_shorter [] bytes) (no_shorter (line ++ b ∷ []) bytes) where
+  at : (newline : Bool) → length {A = ℕ} [] + length bytes ≤ length (written (lines_from [] bytes)) → length (line ++ b ∷ []) + length bytes ≤ length (written (lines_from (line ++ b ∷ []) bytes))
+      → length line + length (b ∷ bytes) ≤ length (written (cond newline (line ∷ lines_from [] bytes) (lines_from (line ++ b ∷ []) bytes)))
+  at true first next = omega (arith, one_line line (lines_from [] bytes), first)
+  at false first next = omega (arith, length-append line (b ∷ []), next)
 
 three : (a b c : List (List ℕ)) → length (written b) ≤ length (written (a ++ b ++ c))
 three a b c =

@@ -108,17 +108,18 @@ not_end command kind is other end = other (sym is ∙ ap kind_of end)
 -- the lines that are said to follow a line are those that follow its command
 pub same_count : (line : List ℕ) (n : ℕ) (command : EditCommand) → HasLines line n → IsCommand line command → n ≡ lines_behind command
 same_count line n command (lines_of_command other is_other is) is_command = is ∙ ap lines_behind (one_command line other command is_other is_command)
-same_count line n command (lines_of_none none is) is_command = absurd (none command is_command)
+same_count line n command (lines_of_none apart is) is_command = absurd (apart command is_command)
 
 -- ---- which orders lines are
 
 none_later : (ended : Bool) (rest : List (List ℕ)) (later : List Order) → rest ≡ [] → AreOrders ended rest later → later ≡ []
-none_later ended [] [] is none = refl
+none_later ended [] [] is orders = refl
+none_later ended [] (_ ∷ _) is orders = elim orders [ ]
 none_later ended (line ∷ rest) later is orders = cc
 
 module _ (line : List ℕ) where
   pub says_bad : ((command : EditCommand) → IsCommand line command → ⊥) → (closed : Bool) → Say closed (line ∷ []) (bad ∷ [])
-  says_bad none closed ended rest later last orders = no_command none orders
+  says_bad apart closed ended rest later last orders = no_command apart orders
 
   module _ (command : EditCommand) (is_command : IsCommand line command) (more : List (List ℕ)) where
     says_whole : command ≢ commands.End → length more ≡ lines_behind command → (closed : Bool) → Say closed (line ∷ more) (whole command more ∷ [])
@@ -170,19 +171,19 @@ module _ (line : List ℕ) where
 -- what comes next is what the line asks for with those behind it
 module _ (left0 left : Option (List ℕ)) (budget : ℕ) (old new : LinesView) (heard : List (List ℕ)) (line : List ℕ) (going : old.ended ≡ false) where
   pub asks_bad : ((command : EditCommand) → IsCommand line command → ⊥) → HasHeard left0 left budget new (heard ++ line ∷ []) → HasNext left0 left budget old new heard (Asks wanted.Bad)
-  asks_bad none all_heard = record {
+  asks_bad apart all_heard = record {
     going = going;
     more = line ∷ [];
     heard_all = all_heard;
     order = bad;
-    says = says_bad line none new.ended;
+    says = says_bad line apart new.ended;
     is_for = λ present reply made h. h;
   }
 
   pub followed : (more : List (List ℕ)) (next : Next) → HasRead left0 left budget new (heard ++ line ∷ more) → Follows line more new next → HasNext left0 left budget old new heard next
   followed more next read (of_command command is_command obeys) = obeyed line command is_command more left0 left budget old new heard going read next obeys
-  followed more next read (of_none none nothing settled) =
-      asks_bad none (record { read = subst (λ (l : List (List ℕ)). HasRead left0 left budget new (heard ++ line ∷ l)) nothing read; settled = settled })
+  followed more next read (of_none apart nothing settled) =
+      asks_bad apart (record { read = subst (λ (l : List (List ℕ)). HasRead left0 left budget new (heard ++ line ∷ l)) nothing read; settled = settled })
 
 -- ---- a command, by what it is
 
@@ -226,13 +227,13 @@ module _ (command : EditCommand) (n : ℕ) (count : n ≡ lines_behind command) 
   obeys_some len settled some = obeys_unkept (edit_kind command (omega (arith, some, count))) len settled
 
   pub obeys_cut : HasStopped reader payloads.Cut → length more < n → Obeys command more reader (Asks wanted.Cut)
-  obeys_cut stopped less = cuts (omega (arith, less, count)) stopped.0 stopped.1
+  obeys_cut halted less = cuts (omega (arith, less, count)) halted.0 halted.1
 
   pub obeys_stopped : (ending : Ending) → HasStopped reader (payloads.Stopped ending) → length more < n → Obeys command more reader (Ends ending)
-  obeys_stopped Finished stopped less = absurd stopped
-  obeys_stopped WriteFailed stopped less = absurd stopped
-  obeys_stopped ReadFailed stopped less = fails (omega (arith, less, count)) stopped
-  obeys_stopped Spent stopped less = spends (omega (arith, less, count)) stopped.0 stopped.1
+  obeys_stopped Finished halted less = absurd halted
+  obeys_stopped WriteFailed halted less = absurd halted
+  obeys_stopped ReadFailed halted less = fails (omega (arith, less, count)) halted
+  obeys_stopped Spent halted less = spends (omega (arith, less, count)) halted.0 halted.1
 
 -- ---- a line whose command isn't kept
 
@@ -244,10 +245,10 @@ module _ (line : List ℕ) (more : List (List ℕ)) (reader : LinesView) (kind :
   follows_unkept len settled = of_command kind.0 kind.1 (obeys_unkept kind.0 n count_is more reader (sym kind.2) len settled)
 
   pub follows_cut : HasStopped reader payloads.Cut → length more < n → Follows line more reader (Asks wanted.Cut)
-  follows_cut stopped less = of_command kind.0 kind.1 (obeys_cut kind.0 n count_is more reader stopped less)
+  follows_cut halted less = of_command kind.0 kind.1 (obeys_cut kind.0 n count_is more reader halted less)
 
   pub follows_stopped : (ending : Ending) → HasStopped reader (payloads.Stopped ending) → length more < n → Follows line more reader (Ends ending)
-  follows_stopped ending stopped less = of_command kind.0 kind.1 (obeys_stopped kind.0 n count_is more reader ending stopped less)
+  follows_stopped ending halted less = of_command kind.0 kind.1 (obeys_stopped kind.0 n count_is more reader ending halted less)
 
 module _ (left0 left : Option (List ℕ)) (budget : ℕ) (reader : LinesView) (heard : List (List ℕ)) (line : List ℕ) (h : HasHeard left0 left budget reader heard) where
   nothing_more : HasRead left0 left budget reader (heard ++ [])
@@ -266,7 +267,7 @@ module _ (left0 left : Option (List ℕ)) (budget : ℕ) (reader : LinesView) (h
   followed_end (command, is, kind) = record { more = []; read = nothing_more; follows = of_command command is (all (ends (end_kind command (sym kind)) refl) h.settled) }
 
   pub followed_none : ((command : EditCommand) → IsCommand line command → ⊥) → HasFollowed left0 left budget reader heard line (Asks wanted.Bad)
-  followed_none none = record { more = []; read = nothing_more; follows = of_none none refl h.settled }
+  followed_none apart = record { more = []; read = nothing_more; follows = of_none apart refl h.settled }
 
 -- ---- what comes next, by the event
 

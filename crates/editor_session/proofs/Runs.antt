@@ -31,7 +31,7 @@ module _ (left0 left : Option (List ℕ)) (budget : ℕ) (reader : LinesView) (l
     ahead = reader.ahead;
     lines_are =
         ap (raw_lines ended) (sym (append-nil heard.read.taken)) ∙ heard.read.goes_on going ended []
-        ∙ ap (λ (l : List ℕ). lines ++ raw_lines ended (l ++ (reader.ahead ++ []))) (none_begun left0 left budget reader lines heard)
+        ∙ ap (λ (l : List ℕ). lines ++ raw_lines ended (l ++ reader.ahead ++ [])) (none_begun left0 left budget reader lines heard)
         ∙ ap (λ (l : List ℕ). lines ++ raw_lines ended l) (append-nil reader.ahead);
     few = heard.settled.few;
   }
@@ -51,8 +51,8 @@ module _ (left0 left : Option (List ℕ)) (budget : ℕ) (reader : LinesView) (l
   all_read : (read : HasRead left0 left budget reader lines) → HasFailed reader → raw_lines false read.taken ≡ lines
   all_read read failed =
       ap (raw_lines false) (sym (append-nil read.taken)) ∙ read.goes_on failed.going false []
-      ∙ ap (λ (l : List ℕ). lines ++ raw_lines false (read.begun ++ (l ++ []))) failed.none
-      ∙ ap (λ (l : List ℕ). lines ++ raw_lines false l) (append-nil read.begun)
+      ∙ ap (λ (l : List ℕ). lines ++ raw_lines false (read.begun ++ l ++ [])) failed.none
+      ∙ ap (λ (l : List ℕ). lines ++ raw_lines false l) (append-nil (read.begun ++ []) ∙ append-nil read.begun)
       ∙ ap (λ (l : List (List ℕ)). lines ++ l) (raw_lines-within read.begun read.within) ∙ append-nil lines
 
 -- ---- what was written
@@ -124,6 +124,7 @@ sofar_start loaded names budget left held0 held reader start are_names appended 
 -- and the first line failed
 pub failed_start : (loaded : Version) (names : List (List ℕ)) (budget : ℕ) (left held1 held2 : Option (List ℕ)) (reader : LinesView) (written rest : List ℕ) → reader ≡ at_start budget → AreNames (Defines loaded.project) names
     → accepted_line loaded.number names ≡ written ++ rest → Appends held1 held2 written → HasEdited loaded budget left left held1 held2 WriteFailed
+unfolding sofar_start
 failed_start loaded names budget left held1 held2 reader written rest start are_names is appended =
     cut_short loaded loaded budget left left None None reader (sofar_start loaded names budget left None None reader start are_names tt) held1 held2 written rest (append-nil (accepted_line loaded.number names) ∙ is) appended
 
@@ -167,6 +168,7 @@ module _ (loaded present next : Version) (budget : ℕ) (left0 left1 left held0 
 pub failed_more : (loaded present next : Version) (budget : ℕ) (left0 left1 left held0 held1 held : Option (List ℕ)) (old new : LinesView) (s : Sofar loaded present budget left0 left1 held0 held1 old) (request : Request)
     → HasAsked left0 left budget old new s.lines request → (reply : List ℕ) (made : Option Version) → next ≡ unwrap_or made present → RepliesToRequest present request reply made
     → (front rest : List ℕ) → reply ≡ front ++ rest → Appends held1 held front → HasEdited loaded budget left0 left held0 held WriteFailed
+unfolding untold sofar_more
 failed_more loaded present next budget left0 left1 left held0 held1 held old new s request a reply made next_is replies front rest is appended =
     let first = accepted_line loaded.number s.names in
     let grown = sofar_more loaded present next budget left0 left1 left None None None old new (untold loaded present budget left0 left1 held0 held1 old s) request a reply made next_is replies tt in

@@ -24,7 +24,7 @@ use Rattle.editor_session.specs.declared.payload.Payload.TheVariants as payloads
 use Rattle.editor_session.specs.declared.request.Next.{Next}
 use Rattle.editor_session.specs.declared.request.Next.TheVariants.{Asks, Ends}
 use Rattle.editor_session.specs.declared.request.Request.{Request}
-use Rattle.editor_session.specs.declared.request.Request.TheVariants as requests
+use Rattle.editor_session.specs.declared.request.Request.TheVariants as wanted
 
 -- the most bytes that are kept of the lines that follow a command: one more than a file may have
 unfoldable pub most_kept : ℕ
@@ -89,7 +89,7 @@ pub data IsAsked (command : EditCommand) (more : List (List ℕ)) : Next → Typ
 -- and with the lines that were read
 pub data Obeys (command : EditCommand) (more : List (List ℕ)) (reader : LinesView) : Next → Type 0 where
   all : {next : Next} → IsAsked command more next → IsSettled reader → Obeys command more reader next
-  cuts : length more < lines_behind command → reader.ended ≡ true → IsSettled reader → Obeys command more reader (Asks requests.Cut)
+  cuts : length more < lines_behind command → reader.ended ≡ true → IsSettled reader → Obeys command more reader (Asks wanted.Cut)
   fails : length more < lines_behind command → HasFailed reader → Obeys command more reader (Ends ReadFailed)
   spends : length more < lines_behind command → HasFailed reader → reader.budget ≡ 0 → Obeys command more reader (Ends Spent)
 
@@ -101,7 +101,7 @@ pub record HasObeyed (left0 left : Option (List ℕ)) (budget : ℕ) (reader : L
 -- what a line asks for, with the lines behind it that were read
 pub data Follows (line : List ℕ) (more : List (List ℕ)) (reader : LinesView) : Next → Type 0 where
   of_command : {next : Next} (command : EditCommand) → IsCommand line command → Obeys command more reader next → Follows line more reader next
-  of_none : ((command : EditCommand) → IsCommand line command → ⊥) → more ≡ [] → IsSettled reader → Follows line more reader (Asks requests.Bad)
+  of_none : ((command : EditCommand) → IsCommand line command → ⊥) → more ≡ [] → IsSettled reader → Follows line more reader (Asks wanted.Bad)
 
 pub record HasFollowed (left0 left : Option (List ℕ)) (budget : ℕ) (reader : LinesView) (heard : List (List ℕ)) (line : List ℕ) (next : Next) : Type 0 where
   pub more : List (List ℕ)

@@ -1,4 +1,4 @@
-ghost use Rattle.std.specs.Prelude.{◌≡◌, ◌≤◌, ℕ, List, Option, IfNone, Ok, MatchOption};
+ghost use Rattle.std.specs.Prelude.{◌≡◌, ◌≢◌, ◌≤◌, ℕ, List, Option, Some};
 ghost use Rattle.fsm_io.specs.Causes.{Rose};
 ghost use Rattle.fsm_io.specs.Reading.{size_of};
 ghost use Rattle.editor_session.specs.Reading.{HasHeard, HasTaken, HasTakenOne};
@@ -32,11 +32,13 @@ fn take_one<I: Source>(
     ensures taken { (left0 : Option (List ℕ)) (budget : ℕ) (heard : List (List ℕ)) → HasHeard left0 (I.left input.old) budget lines.old heard
         → HasTakenOne left0 (I.left input.new) budget lines.new heard most bytes.old.items bytes.new.items lacks.old lacks.new result }
     ensures later { size_of lines.new ≤ size_of lines.old }
+    ensures unwritten { result ≢ Some (Payload.Stopped Ending.WriteFailed) }
     ensures failed { result ≡ Some (Payload.Stopped Ending.ReadFailed) → Rose (I.faults input.old) (I.faults input.new) }
     ensures later_input { I.faults input.old ≤ I.faults input.new }
 {
     match lines.take_line(input, bytes, most) {
-        Ok(LineEvent::Line | LineEvent::Long) => None,
+        Ok(LineEvent::Line) => None,
+        Ok(LineEvent::Long) => None,
         Ok(LineEvent::End) => Some(Payload::Cut),
         Ok(LineEvent::Failed) => Some(Payload::Stopped(Ending::ReadFailed)),
         Ok(LineEvent::Over) => Some(Payload::Stopped(Ending::Spent)),
@@ -58,6 +60,7 @@ pub fn take_lines<I: Source>(
     ensures taken { (left0 : Option (List ℕ)) (budget : ℕ) (heard : List (List ℕ)) → HasHeard left0 (I.left input.old) budget lines.old heard
         → HasTaken left0 (I.left input.new) budget lines.new heard count most result }
     ensures later { size_of lines.new ≤ size_of lines.old }
+    ensures unwritten { result ≢ Payload.Stopped Ending.WriteFailed }
     ensures failed { result ≡ Payload.Stopped Ending.ReadFailed → Rose (I.faults input.old) (I.faults input.new) }
     ensures later_input { I.faults input.old ≤ I.faults input.new }
 {

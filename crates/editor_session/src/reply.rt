@@ -14,11 +14,11 @@ ghost use Rattle.reply_meaning.specs.Replies.{RepliesToWord, headed, line_of};
 ghost use Rattle.editor_session.specs.Replying.{IsShort, RepliesToRequest, bytes_of, edit_reply};
 
 use crate::request::Request;
-use fsm_base::nfc;
+use fsm_base::{Text, nfc};
 use fsm_io::{Failed, Sink, write_all};
 use lookup_answers::Direction;
 use project_edits::Edit;
-use project_versions::{EditError, Edited, Version, edit};
+use project_versions::{EditError, Version, edit};
 use reply_text::{Head, accepted, refused, short};
 use std::alloc::{AllocError, Global};
 
@@ -80,14 +80,9 @@ fn reply_to_edit(alloc: Global, version: &mut Version, change: &Edit) -> Reply
         × RepliesToEdit readers_so_far rows_so_far present (edit_of change.now) (bytes_of result) new }
 {
     match edit(alloc, version, change) {
-        Ok(
-            Edited {
-                version: next,
-                rebuilt,
-            },
-        ) => match accepted(alloc, next.number(), &rebuilt) {
+        Ok(edited) => match accepted(alloc, edited.version.number(), &edited.rebuilt) {
             Ok(bytes) => {
-                *version = next;
+                *version = edited.version;
                 Reply::Bytes(bytes)
             }
             Err(_) => Reply::Memory,
@@ -117,13 +112,13 @@ fn reply_to_look_up(
     alloc: Global,
     version: &Version,
     direction: Direction,
-    net: &str,
-    word: &str,
+    net: &Text,
+    word: &Text,
 ) -> Reply
     requires { length word.now ≤ most_line }
     ensures { (present : Meant) → Stands version.now present → RepliesToWord present.project direction present.number (nfc_of net.now) (nfc_of word.now) (bytes_of result) }
 {
-    match reply_to_word(alloc, version, direction, net, word) {
+    match reply_to_word(alloc, version, direction, net.as_str(), word.as_str()) {
         Ok(bytes) => Reply::Bytes(bytes),
         Err(_) => Reply::MemoryAt(version.number()),
     }
@@ -141,7 +136,7 @@ pub fn reply_to(alloc: Global, version: &mut Version, request: &Request) -> Repl
             direction,
             net,
             word,
-        } => reply_to_look_up(alloc, version, *direction, net.as_str(), word.as_str()),
+        } => reply_to_look_up(alloc, version, *direction, net, word),
         Request::Bad => Reply::Bad,
         Request::Cut => Reply::Cut,
         Request::UnkeptEdit => Reply::Memory,

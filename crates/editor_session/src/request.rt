@@ -1,4 +1,4 @@
-ghost use Rattle.std.specs.Prelude.{◌≡◌, ◌≤◌, ◌<◌, ℕ, List, Option, length, take};
+ghost use Rattle.std.specs.Prelude.{◌≡◌, ◌≢◌, ◌≤◌, ◌<◌, ℕ, List, Option, length, take};
 ghost use Rattle.editor_meaning.specs.Editing.{content_of};
 ghost use Rattle.edit_script.specs.Commands.{HasKind, lines_behind};
 ghost use Rattle.fsm_io.specs.Causes.{Rose};
@@ -58,6 +58,8 @@ pub enum Next {
 fn asked(command: EditCommand, bytes: Vec<u8>) -> Next
     ensures asked { (more : List (List ℕ)) → length more ≡ lines_behind command → bytes.items ≡ take most_kept (content_of more) → IsAsked command more result }
     ensures short { IsShortCommand command → IsShortNext result }
+    ensures other { result ≢ Next.Ends Ending.WriteFailed }
+    ensures unread { result ≢ Next.Ends Ending.ReadFailed }
 {
     match command {
         EditCommand::Put { file, .. } => Next::Asks(Request::Edit(Edit::Put { file, bytes })),
@@ -93,6 +95,7 @@ fn obeyed<I: Source>(alloc: Global, command: EditCommand, lines: &mut Lines, inp
     ensures obeyed { (left0 : Option (List ℕ)) (budget : ℕ) (heard : List (List ℕ)) → HasHeard left0 (I.left input.old) budget lines.old heard
         → HasObeyed left0 (I.left input.new) budget lines.new heard command result }
     ensures later { size_of lines.new ≤ size_of lines.old }
+    ensures unwritten { result ≢ Next.Ends Ending.WriteFailed }
     ensures failed { result ≡ Next.Ends Ending.ReadFailed → Rose (I.faults input.old) (I.faults input.new) }
     ensures later_input { I.faults input.old ≤ I.faults input.new }
 {
@@ -111,12 +114,14 @@ fn unkept_edit<I: Source>(alloc: Global, lines: &mut Lines, input: &mut I) -> Ne
     ensures followed { (left0 : Option (List ℕ)) (budget : ℕ) (heard : List (List ℕ)) → HasHeard left0 (I.left input.old) budget lines.old heard
         → HasKind lines.old.text CommandKind.Edit → HasFollowed left0 (I.left input.new) budget lines.new heard lines.old.text result }
     ensures later { size_of lines.new ≤ size_of lines.old }
+    ensures unwritten { result ≢ Next.Ends Ending.WriteFailed }
     ensures failed { result ≡ Next.Ends Ending.ReadFailed → Rose (I.faults input.old) (I.faults input.new) }
     ensures later_input { I.faults input.old ≤ I.faults input.new }
 {
     let count = command_lines(lines.text());
     match take_lines(alloc, lines, input, count, 0) {
-        Payload::Kept(_) | Payload::Unkept => Next::Asks(Request::UnkeptEdit),
+        Payload::Kept(_bytes) => Next::Asks(Request::UnkeptEdit),
+        Payload::Unkept => Next::Asks(Request::UnkeptEdit),
         Payload::Cut => Next::Asks(Request::Cut),
         Payload::Stopped(ending) => Next::Ends(ending),
     }
@@ -128,6 +133,7 @@ fn unkept<I: Source>(alloc: Global, lines: &mut Lines, input: &mut I) -> Next
     ensures followed { (left0 : Option (List ℕ)) (budget : ℕ) (heard : List (List ℕ)) → HasHeard left0 (I.left input.old) budget lines.old heard
         → HasFollowed left0 (I.left input.new) budget lines.new heard lines.old.text result }
     ensures later { size_of lines.new ≤ size_of lines.old }
+    ensures unwritten { result ≢ Next.Ends Ending.WriteFailed }
     ensures failed { result ≡ Next.Ends Ending.ReadFailed → Rose (I.faults input.old) (I.faults input.new) }
     ensures later_input { I.faults input.old ≤ I.faults input.new }
 {
@@ -145,6 +151,7 @@ fn followed<I: Source>(alloc: Global, lines: &mut Lines, input: &mut I) -> Next
     ensures followed { (left0 : Option (List ℕ)) (budget : ℕ) (heard : List (List ℕ)) → HasHeard left0 (I.left input.old) budget lines.old heard
         → HasFollowed left0 (I.left input.new) budget lines.new heard lines.old.text result }
     ensures later { size_of lines.new ≤ size_of lines.old }
+    ensures unwritten { result ≢ Next.Ends Ending.WriteFailed }
     ensures failed { result ≡ Next.Ends Ending.ReadFailed → Rose (I.faults input.old) (I.faults input.new) }
     ensures later_input { I.faults input.old ≤ I.faults input.new }
 {
@@ -161,6 +168,7 @@ pub fn next_request<I: Source>(alloc: Global, lines: &mut Lines, input: &mut I) 
     ensures next { (left0 : Option (List ℕ)) (budget : ℕ) (heard : List (List ℕ)) → HasHeard left0 (I.left input.old) budget lines.old heard
         → HasNext left0 (I.left input.new) budget lines.old lines.new heard result }
     ensures progress { IsGoing result → size_of lines.new < size_of lines.old }
+    ensures unwritten { result ≢ Next.Ends Ending.WriteFailed }
     ensures failed { result ≡ Next.Ends Ending.ReadFailed → Rose (I.faults input.old) (I.faults input.new) }
     ensures later_input { I.faults input.old ≤ I.faults input.new }
 {
