@@ -1,0 +1,2 @@
+pub mod Grammared
+pub mod Networked
