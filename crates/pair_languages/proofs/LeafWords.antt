@@ -1,7 +1,7 @@
 -- Automata of leaves.
-use Rattle.std.proofs.Common.{◌≡◌, ◌↔◌, ℕ, List, [], ◌∷◌, Option, None, Some, MatchOption, map, refl, sym, ap, subst, ◌∙◌}
+use Rattle.std.proofs.Common.{◌≡◌, ◌↔◌, ◌<◌, ℕ, List, [], ◌∷◌, Option, None, Some, MatchOption, map, refl, sym, ap, subst, ◌∙◌}
 use Rattle.std.specs.List.{Contains, slice_get}
-use Rattle.std.proofs.lemmas.Option.{slice_get_within}
+use Rattle.std.proofs.lemmas.Option.{same_Some, slice_get_within}
 use Rattle.fsm_base.specs.declared.letters.Bound.{Bound}
 use Rattle.fsm_base.specs.declared.letters.Bound.TheVariants.{Inner}
 use Rattle.fsm_base.specs.declared.letters.Pair.{Pair as Letter}
@@ -9,6 +9,7 @@ use Rattle.fsm_base.specs.declared.letters.Sym.{Sym}
 use Rattle.word_relations.proofs.Members.{Contains-map, Contains-map_cases, Contains-tail}
 use Rattle.word_relations.proofs.Places.{Contains-from_slice_get}
 use Rattle.word_relations.specs.Operations.{IsOneLetter}
+use Rattle.word_relations.specs.Words.{IsDistinct}
 use Rattle.regex_ast.specs.declared.expr.Atom.{Atom}
 use Rattle.fsa.specs.Automaton.{Automaton, UsesLetter}
 use Rattle.fsa.specs.Language.{Accepts}
@@ -22,6 +23,13 @@ use Rattle.grammar_pairs.specs.Tables.{AreNumbers, under}
 use Rattle.pair_languages.specs.Meaning.{IsScope, stands}
 use Rattle.pair_languages.specs.declared.scope.Scope.{Scope}
 use Rattle.pair_languages.proofs.Rows.{HasWords}
+
+-- the numbers of pairs differ
+pub numbers_distinct : (scope : Scope) → IsScope scope → IsDistinct scope.numbers.items
+numbers_distinct scope is i j n first second =
+    let place : (k : ℕ) → slice_get scope.numbers.items k ≡ Some n → k ≡ n.0
+        = λ k at. ap (λ (z : Sym). z.0) (same_Some (record { 0 = k }) n (sym (is.numbers.each k (subst (λ (c : ℕ). k < c) is.numbers.count (slice_get_within scope.numbers.items k n at))) ∙ at)) in
+    place i first ∙ sym (place j second)
 
 -- numbers of pairs are among those of all pairs
 number_known : (scope : Scope) → IsScope scope → (P : Letter → Type 0) (n : Sym) → IsNumber scope.pairs P n → Contains scope.numbers.items n
