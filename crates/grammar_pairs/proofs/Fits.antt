@@ -1,5 +1,5 @@
 -- The numbers of the pairs that an atom may be, or that are a symbol with itself.
-use Rattle.std.proofs.Common.{◌≡◌, ◌↔◌, ◌⊎◌, ◌+◌, ◌<◌, ◌≤◌, ℕ, Bool, true, false, IsTrue, List, [], ◌∷◌, ◌++◌, Option, None, Some, MatchOption, length, take, refl, sym, ap, subst, ◌∙◌, inl, inr, arith}
+use Rattle.std.proofs.Common.{◌≡◌, ◌↔◌, ◌⊎◌, ◌+◌, ◌<◌, ◌≤◌, ℕ, Bool, IsTrue, List, [], ◌∷◌, ◌++◌, Option, None, Some, MatchOption, length, take, refl, sym, ap, subst, ◌∙◌, inl, inr, arith}
 use Rattle.std.proofs.lemmas.Bool.{cases_lt}
 use Rattle.std.proofs.lemmas.List.{take_all}
 use Rattle.std.proofs.lemmas.Option.{slice_get_within, same_Some}
@@ -15,7 +15,7 @@ use Rattle.project_meaning.proofs.Places.{in_front, in_back}
 use Rattle.grammar_pairs.specs.Feasible.{named_side, written_pair}
 use Rattle.grammar_pairs.specs.Fitting.{Fits, IsNumber, IsTwice, IsTwiceOf, MayBe}
 use Rattle.grammar_pairs.specs.Plain.{symbol_in}
-use Rattle.grammar_pairs.specs.Tables.{HasSymbol, under}
+use Rattle.grammar_pairs.specs.Tables.{under}
 use Rattle.grammar_pairs.proofs.Growing.{alone, front_or_back}
 
 -- a side that names a symbol, or nothing, may be that alone

@@ -1,12 +1,12 @@
 -- What is listed of expressions over pairs.
-use Rattle.std.proofs.Common.{◌≡◌, List, [], ◌∷◌, ◌++◌, map, refl, sym, ap, ◌∙◌, append-nil}
+use Rattle.std.proofs.Common.{◌≡◌, List, ◌++◌, map, refl, sym, ap, ◌∙◌, append-nil}
 use Rattle.std.proofs.lemmas.Grind.{flat_map-append}
 use Rattle.std.proofs.lemmas.List.{map-append}
 use Rattle.std.specs.List.{flat_map}
-use Rattle.regex_ast.specs.Terms.{Term, Terms, Links, Contexts, empty, any, edge, atom, group, maybe, not_one, suffixed, prefixed, ignore, concat, chain, no_term, then_term, no_link, or, and, less, no_context, between}
-use Rattle.expr_leaves.specs.Leaves.{listed, listed_each, listed_links, listed_contexts, leaf_alone}
-use Rattle.expr_leaves.specs.Mapped.{mapped, mapped_each, mapped_links, mapped_contexts}
-use Rattle.grammar_pairs.specs.Plain.{IsPairForm, ArePairForms, LinksArePairForms, ContextsArePairForms}
+use Rattle.regex_ast.specs.Terms.{Term, Terms, Links, empty, any, edge, atom, group, maybe, not_one, suffixed, prefixed, ignore, concat, chain, no_term, then_term, no_link, or, and, less}
+use Rattle.expr_leaves.specs.Leaves.{listed, listed_each, listed_links, leaf_alone}
+use Rattle.expr_leaves.specs.Mapped.{mapped, mapped_each, mapped_links}
+use Rattle.grammar_pairs.specs.Plain.{IsPairForm, ArePairForms, LinksArePairForms}
 
 -- what is listed of an expression with other leaves
 module _ {A B X Y : Type 0} (f : A → B) (h : B → List Y) (k : A → List X) (s : X → Y) (same : (a : A) → h (f a) ≡ map s (k a)) where

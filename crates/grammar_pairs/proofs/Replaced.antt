@@ -1,12 +1,12 @@
 -- Grammars whose leaves are replaced twice.
-use Rattle.std.proofs.Common.{◌≡◌, Bool, IsTrue, List, [], ◌∷◌, All, map, refl, ap, ◌∙◌}
+use Rattle.std.proofs.Common.{◌≡◌, Bool, IsTrue, List, [], ◌∷◌, All, map, refl, ap}
 use Rattle.std.proofs.lemmas.Bool.{and_parts}
 use Rattle.std.proofs.lemmas.List.Elements.{All-head, All-tail}
 use Rattle.regex_ast.specs.Terms.{Term, Terms, Links, Contexts, empty, any, edge, atom, group, maybe, not_one, suffixed, prefixed, ignore, concat, chain, no_term, then_term, no_link, or, and, less, no_context, between}
 use Rattle.regex_ast.specs.declared.expr.Raw.{Raw}
 use Rattle.expr_kinds.specs.Built.{IsBuilt, AreBuilt, LinksAreBuilt, ContextsAreBuilt}
 use Rattle.expr_leaves.specs.Mapped.{mapped, mapped_each, mapped_links, mapped_contexts}
-use Rattle.project_meaning.specs.Leaves.{resolved_side, resolved_pair, resolved_part, resolved_set, resolved_pairs, resolved_rule, symbol_of}
+use Rattle.project_meaning.specs.Leaves.{resolved_side, resolved_pair, resolved_part, resolved_set, symbol_of}
 use Rattle.project_meaning.specs.Trees.{Side, nothing, anything, one, member, Pair, Part, pair, called, Set, PairDefinition, Rule, Grammar}
 use Rattle.grammar_pairs.specs.Laws.{side_passes, pair_passes, part_passes, HasLeaves, GrammarIsInTexts, ResolvedIsMapped}
 use Rattle.grammar_pairs.specs.Mapped.{mapped_side, mapped_pair, mapped_part, mapped_set, mapped_definition, mapped_rule, mapped_grammar}

@@ -1,5 +1,5 @@
 -- A grammar over numbers of symbols, and the same over their texts: its feasible pairs, its sets, and what its atoms may be.
-use Rattle.std.proofs.Common.{◌≡◌, ◌↔◌, ◌⊎◌, ◌<◌, ℕ, Bool, true, false, cond, List, [], ◌∷◌, ◌++◌, Option, None, Some, All, length, map, nat_eq, refl, sym, ap, subst, ◌∙◌, inl, inr, arith}
+use Rattle.std.proofs.Common.{◌≡◌, ◌↔◌, ◌<◌, ℕ, Bool, true, false, cond, List, [], ◌∷◌, ◌++◌, Option, None, Some, All, length, map, nat_eq, refl, sym, ap, subst, ◌∙◌, arith}
 use Rattle.std.proofs.lemmas.List.{map-append}
 use Rattle.std.proofs.lemmas.List.Elements.{All-nil, All-cons, All-head, All-tail, All-contains}
 use Rattle.std.proofs.lemmas.Option.{slice_get-map, same_Some}
@@ -10,10 +10,9 @@ use Rattle.fsm_base.specs.Symbols.{IsSymbol}
 use Rattle.fsm_base.specs.declared.letters.Pair.{Pair as Letter}
 use Rattle.fsm_base.specs.declared.letters.Sym.{Sym}
 use Rattle.fsm_base.proofs.AlphabetLemmas.{same_symbol, text_of-pair}
-use Rattle.word_relations.specs.Words.{IsDistinct}
-use Rattle.word_relations.proofs.Members.{Contains-nil_cases, Contains-head, Contains-tail, Contains-map, Contains-map_cases}
+use Rattle.word_relations.proofs.Members.{Contains-head, Contains-tail, Contains-map, Contains-map_cases}
 use Rattle.word_relations.proofs.Places.{slice_get_from_Contains, same_at}
-use Rattle.regex_ast.specs.Terms.{term, contexts_of}
+use Rattle.regex_ast.specs.Terms.{term}
 use Rattle.regex_ast.specs.declared.expr.Atom.{Atom}
 use Rattle.regex_ast.specs.declared.expr.Context.{Context}
 use Rattle.regex_ast.specs.declared.twolc.Grammar.{Grammar as GrammarOf}
@@ -21,15 +20,15 @@ use Rattle.regex_ast.specs.declared.twolc.PairAtom.{PairAtom}
 use Rattle.regex_ast.specs.declared.twolc.PairDefine.{PairDefine}
 use Rattle.regex_ast.specs.declared.twolc.PairPart.{PairPart}
 use Rattle.regex_ast.specs.declared.twolc.TwoLevelRule.{TwoLevelRule}
-use Rattle.expr_leaves.specs.Leaves.{listed, listed_contexts, leaves_in}
+use Rattle.expr_leaves.specs.Leaves.{listed, listed_contexts}
 use Rattle.expr_leaves.specs.Mapped.{mapped, mapped_contexts}
 use Rattle.project_meaning.specs.Trees.{Side, nothing, anything, one, member, Pair, Part, pair, called, Set, PairDefinition, Rule, Grammar}
 use Rattle.project_meaning.specs.Leaves.{Leaf}
 use Rattle.project_meaning.specs.Lexicons.{text_in}
-use Rattle.project_meaning.specs.Grammars.{Letter as TextLetter, named_side as named_in_texts, written_pair as written_in_texts, written_part as part_in_texts, feasible as feasible_in_texts, IsMember as IsMemberInTexts, MayBe as MayBeInTexts}
-use Rattle.grammar_pairs.specs.Plain.{symbol_in, pair_of, part_of, term_of, contexts_in, definition_of, rule_of, set_of, grammar_of, IsPairForm, ContextsArePairForms, IsFormed, IsFormedRule}
-use Rattle.grammar_pairs.specs.Feasible.{named_side, written_pair, written_part, of_atom, of_part, of_expression, of_context, of_definition, of_rule, feasible}
-use Rattle.grammar_pairs.specs.Fitting.{MayBe, Fits}
+use Rattle.project_meaning.specs.Grammars.{Letter as TextLetter, written_pair as written_in_texts, written_part as part_in_texts, feasible as feasible_in_texts, IsMember as IsMemberInTexts, MayBe as MayBeInTexts}
+use Rattle.grammar_pairs.specs.Plain.{symbol_in, pair_of, part_of, term_of, contexts_in, definition_of, rule_of, grammar_of, IsPairForm, ContextsArePairForms, IsFormed, IsFormedRule}
+use Rattle.grammar_pairs.specs.Feasible.{written_pair, written_part, of_atom, of_expression, of_context, of_definition, of_rule, feasible}
+use Rattle.grammar_pairs.specs.Fitting.{MayBe}
 use Rattle.grammar_pairs.specs.Mapped.{mapped_side, mapped_pair, mapped_part, mapped_set, mapped_definition, mapped_rule}
 use Rattle.grammar_pairs.specs.Tables.{HasSymbol, IsMember}
 use Rattle.grammar_pairs.specs.Texts.{in_text, in_texts, letter_in, HasOwnTexts}

@@ -14,7 +14,7 @@ use Rattle.regex_ast.specs.declared.twolc.PairDefine.{PairDefine}
 use Rattle.regex_ast.specs.declared.twolc.PairPart.{PairPart}
 use Rattle.regex_ast.specs.declared.twolc.TwoLevelRule.{TwoLevelRule}
 use Rattle.expr_leaves.specs.Leaves.{leaves_in}
-use Rattle.project_meaning.specs.Trees.{Side, nothing, anything, one, member, Pair, Part, pair, called}
+use Rattle.project_meaning.specs.Trees.{Side, nothing, one, Pair, Part, pair, called}
 use Rattle.grammar_pairs.specs.Plain.{part_of, pair_of, symbol_in}
 
 -- the one symbol, or nothing, that a side names, if it names one

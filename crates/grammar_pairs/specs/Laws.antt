@@ -5,7 +5,7 @@ use Rattle.regex_ast.specs.declared.expr.Atom.{Atom}
 use Rattle.regex_ast.specs.declared.expr.Raw.{Raw}
 use Rattle.expr_kinds.specs.Built.{IsBuilt, ContextsAreBuilt}
 use Rattle.project_meaning.specs.Leaves.{Leaf, resolved_grammar, symbol_of}
-use Rattle.project_meaning.specs.Trees.{Side, nothing, anything, one, member, Pair, Part, pair, called, Grammar}
+use Rattle.project_meaning.specs.Trees.{Side, one, Pair, Part, pair, called, Grammar}
 use Rattle.grammar_pairs.specs.Mapped.{mapped_grammar}
 use Rattle.grammar_pairs.specs.Plain.{IsFormed}
 use Rattle.grammar_pairs.specs.Texts.{in_text, in_texts}

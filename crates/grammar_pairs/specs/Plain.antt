@@ -1,5 +1,5 @@
 -- Grammars of the program as plain trees, and the forms of expressions over pairs.
-use Rattle.std.specs.Prelude.{◌≡◌, ℕ, List, [], ◌∷◌, All, map}
+use Rattle.std.specs.Prelude.{List, All, map}
 use Rattle.fsm_base.specs.declared.letters.Sym.{Sym as Symbol}
 use Rattle.regex_ast.specs.Terms.{Term, Terms, Links, Contexts, empty, any, edge, atom, group, maybe, not_one, suffixed, prefixed, ignore, concat, chain, no_term, then_term, no_link, or, and, less, no_context, between, term, terms_of, links_of, contexts_of}
 use Rattle.regex_ast.specs.declared.expr.Atom.{Atom}

@@ -114,13 +114,6 @@ module _ (g : GrammarOf Atom) (scope : Scope) (built : IsBuilt g (reverse (map d
         λ context has. let s = pair_right (IsContextOf scope) r.0.contexts.items rule.contexts.items r.2.contexts context has in context_over s.0 context s.2,
       )
 
--- elements that are added at the ends
-pub pair_more : {A B : Type 0} (R : A → B → Type 0) (xs : List A) (ys : List B) (x : A) (y : B) → Pairwise R xs ys → R x y → Pairwise R (xs ++ x ∷ []) (ys ++ y ∷ [])
-pair_more R [] [] x y all here = (here, tt)
-pair_more R [] (b ∷ ys) x y all here = absurd all
-pair_more R (a ∷ xs) [] x y all here = absurd all
-pair_more R (a ∷ xs) (b ∷ ys) x y (first, rest) here = (first, pair_more R xs ys x y rest here)
-
 -- symbols on a side of pairs that are over an alphabet
 module _ (symbols : List Sym) (side : Letter → Option Sym) where
   on_side : (p : List Letter) → All (λ x. (s : Sym) → side x ≡ Some s → Contains symbols s) p → IsOver symbols (symbols_on side p)

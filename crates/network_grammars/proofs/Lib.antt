@@ -1,2 +1,4 @@
+pub mod Rows
+pub mod Languages
 pub mod Grammared
 pub mod Networked

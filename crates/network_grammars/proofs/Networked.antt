@@ -24,8 +24,8 @@ use Rattle.network_grammars.specs.Meaning.{IsNetworkOf, IsOverSymbols}
 use Rattle.network_grammars.specs.Rules.{IsRuleOf, Pairwise}
 use Rattle.network_grammars.proofs.Grammared.{begun, on_side, pairs_over, stands_for}
 use Rattle.two_level.specs.Rules.{GrammarRelates}
+use Rattle.two_level.specs.Spelled.{GrammarIsSpelled}
 use Rattle.two_level.specs.declared.rule.LangRule.{LangRule}
-use Rattle.two_level.proofs.SpelledStrings.{spelled_there, spelled_back}
 
 -- the symbols on a side of a string of pairs
 side_over : (symbols : List Sym) (side : Letter → Option Sym) (P : List Letter) → ((x : Letter) (s : Sym) → Contains P x → side x ≡ Some s → Contains symbols s) → (p : List Letter) → IsOver P p → IsOver symbols (symbols_on side p)
@@ -39,8 +39,8 @@ side_over symbols side P among p over = on_side symbols side p (each p over)
 module _ (g : GrammarOf Atom) (formed : IsFormed (grammar_of g)) (scope : Scope) (is_scope : IsScope scope) (built : IsBuilt g (reverse (map definition_of g.definitions.items)) scope)
     (rules : List LangRule) (ruled : Pairwise (IsRuleOf scope) g.rules.items rules) where
   -- by the texts of an alphabet
-  pub network_meant : (m : Automaton Letter) (n : Network) → AreSame (IsRelated m) (GrammarRelates scope.pairs rules) → AreSame (PairsOf n) (IsRelated m) → IsNetworkOf g n
-  network_meant m n related paired alphabet lettered over =
+  pub network_meant : GrammarIsSpelled → (m : Automaton Letter) (n : Network) → AreSame (IsRelated m) (GrammarRelates scope.pairs rules) → AreSame (PairsOf n) (IsRelated m) → IsNetworkOf g n
+  network_meant law m n related paired alphabet lettered over =
       let text = text_of alphabet in
       let symbols = symbols_of alphabet in
       let own = own_texts alphabet lettered in
@@ -54,8 +54,8 @@ module _ (g : GrammarOf Atom) (formed : IsFormed (grammar_of g)) (scope : Scope)
               subst (IsOver symbols) low (side_over symbols (λ x. x.low) scope.pairs (λ x s among is. (known x among).low s is) p whole),
             );
         same = λ u w. (
-          λ h. let (x, y, first, second, r) = spelled_there text G scope.pairs rules stands u w h in (x, y, (paired x y).1 ((related x y).1 r), first, second),
-          λ (x, y, r, first, second). spelled_back text G scope.pairs rules stands u w (x, y, first, second, (related x y).0 ((paired x y).0 r)),
+          λ h. let (x, y, first, second, r) = (law text G scope.pairs rules stands u w).0 h in (x, y, (paired x y).1 ((related x y).1 r), first, second),
+          λ (x, y, r, first, second). (law text G scope.pairs rules stands u w).1 (x, y, first, second, (related x y).0 ((paired x y).0 r)),
         );
       }
 

@@ -10,6 +10,7 @@ use network_algebra::{Network, reduced};
 use pair_languages::scope_of;
 use regex_ast::{Atom, Grammar};
 use std::alloc::{AllocError, Global};
+use two_level::grammar_is_spelled;
 
 /// The network of a grammar: what its rules allow of strings of its feasible pairs. The expressions have the forms that stand in a
 /// text, and each rule is about one pair. Each definition is built once.
@@ -19,6 +20,8 @@ pub fn network_of_grammar(alloc: Global, grammar: &Grammar<Atom>) -> Result<Netw
     ensures kind { IfOk result (λ n. kind_of_network n ≡ Kind.Relation) }
     ensures meaning { IfOk result (IsNetworkOf grammar.now) }
 {
+    // By symbols the network relates what it does by their texts.
+    grammar_is_spelled();
     let scope = scope_of(alloc, grammar)?;
     let rules = rules_of(alloc, &scope, &grammar.rules)?;
     let pairs = two_level::grammar(alloc, scope.pairs.as_slice(), &rules)?;

@@ -1,4 +1,4 @@
-use Rattle.std.proofs.Common.{◌↔◌, ◌+◌, List, ℕ, arith, map, sym, subst, take}
+use Rattle.std.proofs.Common.{◌↔◌, List, ℕ, arith, map, sym, subst, take}
 use Rattle.std.proofs.lemmas.List.{take_all}
 use Rattle.fsm_base.specs.declared.letters.Sym.{Sym}
 use Rattle.regex_ast.specs.declared.expr.Atom.{Atom}

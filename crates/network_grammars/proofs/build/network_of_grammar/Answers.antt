@@ -9,5 +9,5 @@ returns-clause-letters c =
 
 pub returns-clause-meaning : goal.returns-clause-meaning
 returns-clause-meaning c =
-    IfOk-weaker _ _ _ (λ n is. network_meant c.args.grammar.now c.requires c.in_ok-scope.scope c.in_ok-scope.ensures.scope c.in_ok-scope.ensures.built c.in_ok-rules.rules.items c.in_ok-rules.ensures c.in_ok-pairs.pairs n
+    IfOk-weaker _ _ _ (λ n is. network_meant c.args.grammar.now c.requires c.in_ok-scope.scope c.in_ok-scope.ensures.scope c.in_ok-scope.ensures.built c.in_ok-rules.rules.items (rw c.deref.ensures.value at c.in_ok-rules.ensures) c.grammar_is_spelled.ensures c.in_ok-pairs.pairs n
     (rw (c.as_slice.ensures.pairs, c.deref.ensures.value) at c.in_ok-pairs.ensures.relation) is.pairs) c.reduced.ensures.meaning

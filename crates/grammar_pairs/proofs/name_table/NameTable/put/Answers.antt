@@ -1,4 +1,4 @@
-use Rattle.std.proofs.Common.{ℕ, List, Option, Some, cond, sym, ap, ◌∙◌}
+use Rattle.std.proofs.Common.{ℕ, List, Some, cond, sym, ap, ◌∙◌}
 use Rattle.std.proofs.lemmas.Map.Text.{hash_map_updates_text}
 use Rattle.std.specs.Str.{bytes_eq}
 use Rattle.std.specs.String.{string_bytes}

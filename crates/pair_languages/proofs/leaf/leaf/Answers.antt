@@ -1,0 +1,21 @@
+use Rattle.std.proofs.Common.{IfOk, sym, subst}
+use Rattle.std.proofs.lemmas.Result.{IfOk-weaker}
+use Rattle.regex_ast.specs.Terms.{atom}
+use Rattle.regex_ast.specs.declared.expr.Atom.{Atom}
+use Rattle.regex_ast.specs.declared.twolc.PairPart.{PairPart}
+use Rattle.grammar_pairs.specs.Fitting.{Fits, IsTwice}
+use Rattle.grammar_pairs.specs.Plain.{pair_of, part_of}
+use Rattle.pair_languages.specs.Meaning.{HasWordsOf}
+use Rattle.pair_languages.proofs.LeafWords.{named_words, numbers_over, pair_words, set_words}
+use Rattle.pair_languages.proofs.leaf.leaf.Goals as goal
+
+pub returns-in_ok-numbers-in-Atom-clause-letters : goal.returns-in_ok-numbers-in-Atom-clause-letters
+returns-in_ok-numbers-in-Atom-clause-letters c =
+    let scope = c.args.scope.now in
+    IfOk-weaker _ _ _ (λ m. numbers_over scope c.requires (Fits scope.sets (pair_of c.in-Atom.pair)) c.in_ok-numbers-in-Atom.numbers.items c.in_ok-numbers-in-Atom.ensures m) (rw c.deref.ensures.value at c.one_of.ensures.letters)
+
+pub returns-in_ok-numbers-in-Atom-clause-words : goal.returns-in_ok-numbers-in-Atom-clause-words
+returns-in_ok-numbers-in-Atom-clause-words c =
+    let scope = c.args.scope.now in
+    subst (λ (p : PairPart Atom). IfOk c.one_of.result (HasWordsOf scope (atom (part_of p)))) (sym c.in-Atom.is)
+    (IfOk-weaker _ _ _ (λ m. pair_words scope (pair_of c.in-Atom.pair) c.in_ok-numbers-in-Atom.numbers.items m c.in_ok-numbers-in-Atom.ensures) (rw c.deref.ensures.value at c.one_of.ensures.words))
