@@ -164,12 +164,11 @@ pub union_operands-returns-in_ok-second-in_default-clause-letters : goal.union_o
 union_operands-returns-in_ok-second-in_default-clause-letters t c =
     IfOk-weaker _ _ _ (λ m used. two_only (all_letters c.args.scope.now.numbers.items) c.in_ok-first-in_default.first c.in_ok-second-in_default.second m used c.in_ok-first-in_default.ensures.letters c.in_ok-second-in_default.ensures.letters) c.union.ensures.letters
 
-pub union_operands-returns-in_ok-new-in-empty-clause-words : goal.union_operands-returns-in_ok-new-in-empty-clause-words
-union_operands-returns-in_ok-new-in-empty-clause-words t c =
-    let leaf = stands c.args.scope.now in
+pub union_operands-returns-in-empty-clause-words : goal.union_operands-returns-in-empty-clause-words
+union_operands-returns-in-empty-clause-words t c =
     let A = c.args.scope.now.numbers.items in
-    let m = c.in_ok-new-in-empty.field-0 in
-    subst (λ (z : List (Link (PairPart Atom))). HasWords m (InChain leaf A (λ v. ⊥) (links_in z))) (sym (no_item c.args.links.now (omega arith))) (λ w. (none_accepted m c.in_ok-new-in-empty.ensures w, λ never. absurd never))
+    subst (λ (z : List (Link (PairPart Atom))). IfOk c.new.result (λ m. HasWords m (InChain (stands c.args.scope.now) A (λ v. ⊥) (links_in z)))) (sym (no_item c.args.links.now (omega arith)))
+    (IfOk-weaker _ _ _ (λ m is w. (none_accepted m is w, λ never. absurd never)) c.new.ensures)
 
 pub union_operands-returns-in_ok-new-in-len1-clause-words : goal.union_operands-returns-in_ok-new-in-len1-clause-words
 union_operands-returns-in_ok-new-in-len1-clause-words t c =
@@ -177,8 +176,14 @@ union_operands-returns-in_ok-new-in-len1-clause-words t c =
     let A = c.args.scope.now.numbers.items in
     let item = c.link-item.result in
     let none = c.in_ok-new-in-len1.field-0 in
-    subst (λ (z : List (Link (PairPart Atom))). IfOk c.linked.result (λ m. HasWords m (InChain leaf A (λ v. ⊥) (links_in z)))) (sym (one_item c.args.links.now item (omega arith) (omega arith) c.link-item.is))
-    (IfOk-weaker _ _ _ (λ m. before_same leaf A (item ∷ []) (Accepts none) (λ v. ⊥) m (λ w. (none_accepted none c.in_ok-new-in-len1.ensures w, λ never. absurd never))) c.linked.ensures.words)
+    subst (λ (z : List (Link (PairPart Atom))). IfOk c.linked-2.result (λ m. HasWords m (InChain leaf A (λ v. ⊥) (links_in z)))) (sym (one_item c.args.links.now item (omega arith) (omega arith) c.link-item.is))
+    (IfOk-weaker _ _ _ (λ m. before_same leaf A (item ∷ []) (Accepts none) (λ v. ⊥) m (λ w. (none_accepted none c.in_ok-new-in-len1.ensures w, λ never. absurd never))) c.linked-2.ensures.words)
+
+pub ignored-returns-in-empty-clause-letters : goal.ignored-returns-in-empty-clause-letters
+ignored-returns-in-empty-clause-letters t c = IfOk-weaker _ _ _ (λ m. empty_only (all_letters c.args.scope.now.numbers.items) m) c.word.ensures.letters
+
+pub concat_operands-returns-in-empty-clause-letters : goal.concat_operands-returns-in-empty-clause-letters
+concat_operands-returns-in-empty-clause-letters t c = IfOk-weaker _ _ _ (λ m. empty_only (all_letters c.args.scope.now.numbers.items) m) c.word.ensures.letters
 
 pub in_chain-union_operands-requires : goal.in_chain-union_operands-requires
 in_chain-union_operands-requires t c = (omega (arith, c.decreases), (c.requires.scope, (c.are_choices.ensures.0 c.if-are_choices.true, c.requires.form)))
@@ -210,16 +215,12 @@ in_chain-in_chain-requires-in_default-2 t c =
     let forms = links_forms front back (subst (λ (z : List (Link (PairPart Atom))). LinksArePairForms (links_in z)) (sym is) c.requires.form) in
     (omega (arith, c.decreases, light.1), (c.requires.scope, (c.in_ok-first-in_default-2.ensures.letters, forms.1)))
 
-pub in_chain-returns-in-empty-clause-words : goal.in_chain-returns-in-empty-clause-words
-in_chain-returns-in-empty-clause-words t c =
-    subst (λ (z : List (Link (PairPart Atom))). HasWords c.args.before (InChain (stands c.args.scope.now) c.args.scope.now.numbers.items (Accepts c.args.before) (links_in z))) (sym (no_item c.args.links.now (omega arith))) (λ w. (λ h. h, λ h. h))
-
 pub in_chain-returns-in_ok-union-in_default-clause-letters : goal.in_chain-returns-in_ok-union-in_default-clause-letters
 in_chain-returns-in_ok-union-in_default-clause-letters t c =
     let A = all_letters c.args.scope.now.numbers.items in
     let either = c.in_ok-union-in_default.field-0 in
     let two = two_only A c.args.before c.in_ok-choice-in_default.choice either c.in_ok-union-in_default.ensures.letters c.requires.before c.in_ok-choice-in_default.ensures.letters in
-    IfOk-weaker _ _ _ (λ m used. less_only A either m used two) c.reduced.ensures.letters
+    IfOk-weaker _ _ _ (λ m used. less_only A either m used two) c.reduced-2.ensures.letters
 
 pub in_chain-returns-in_ok-union-in_default-clause-words : goal.in_chain-returns-in_ok-union-in_default-clause-words
 in_chain-returns-in_ok-union-in_default-clause-words t c =
@@ -229,7 +230,7 @@ in_chain-returns-in_ok-union-in_default-clause-words t c =
     let either = c.in_ok-union-in_default.field-0 in
     let all = c.are_choices.ensures.0 c.if-are_choices.true in
     let chosen = chain_choice leaf A links all c.args.before c.in_ok-choice-in_default.choice either c.in_ok-choice-in_default.ensures.words c.in_ok-union-in_default.ensures.language in
-    IfOk-weaker _ _ _ (λ m same. words_then (Accepts m) (Accepts either) (InChain leaf A (Accepts c.args.before) (links_in links)) same chosen) c.reduced.ensures.language
+    IfOk-weaker _ _ _ (λ m same. words_then (Accepts m) (Accepts either) (InChain leaf A (Accepts c.args.before) (links_in links)) same chosen) c.reduced-2.ensures.language
 
 pub in_chain-returns-in-len1-clause-words : goal.in_chain-returns-in-len1-clause-words
 in_chain-returns-in-len1-clause-words t c =
@@ -267,11 +268,11 @@ linked-words_of-requires-in-Less t c =
 
 pub linked-both-requires : goal.linked-both-requires
 linked-both-requires t c =
-    rw c.deref.ensures.value (numbers_distinct c.args.scope.now c.requires.scope, (c.requires.before, c.in_ok-words-in-And.ensures.letters))
+    rw c.deref.ensures.value (record { distinct = numbers_distinct c.args.scope.now c.requires.scope; first = c.requires.before; second = c.in_ok-words-in-And.ensures.letters })
 
 pub linked-minus-requires : goal.linked-minus-requires
 linked-minus-requires t c =
-    rw c.deref-in-Less.ensures.value (numbers_distinct c.args.scope.now c.requires.scope, (c.requires.before, c.in_ok-words-in-Less.ensures.letters))
+    rw c.deref-in-Less.ensures.value (record { distinct = numbers_distinct c.args.scope.now c.requires.scope; first = c.requires.before; second = c.in_ok-words-in-Less.ensures.letters })
 
 pub linked-returns-in_ok-words-in-Or-clause-letters : goal.linked-returns-in_ok-words-in-Or-clause-letters
 linked-returns-in_ok-words-in-Or-clause-letters t c =
@@ -306,7 +307,7 @@ linked-returns-in_ok-words-in-Less-clause-words t c =
 
 pub in_ignoring-ignore-requires : goal.in_ignoring-ignore-requires
 in_ignoring-ignore-requires t c =
-    rw c.deref.ensures.value (numbers_distinct c.args.scope.now c.requires.scope, (c.requires.before, c.in_ok-words-in-len1.ensures.letters))
+    rw c.deref.ensures.value (record { distinct = numbers_distinct c.args.scope.now c.requires.scope; first = c.requires.before; second = c.in_ok-words-in-len1.ensures.letters })
 
 pub words_of-words_of-requires : goal.words_of-words_of-requires
 words_of-words_of-requires t c =
@@ -365,21 +366,21 @@ words_of-in_chain-requires t c =
     (rw slice (omega (arith, c.decreases, ap weight is)), (c.requires.scope, (c.in_ok-words-in-Chain.ensures.letters, rw slice form.1)))
 
 pub words_of-not_one_times-requires : goal.words_of-not_one_times-requires
-words_of-not_one_times-requires t c = rw c.deref-in-NotOne-2.ensures.value (numbers_distinct c.args.scope.now c.requires.scope, c.in_ok-words-in-NotOne.ensures.letters)
+words_of-not_one_times-requires t c = rw c.deref-in-NotOne-2.ensures.value (record { distinct = numbers_distinct c.args.scope.now c.requires.scope; only = c.in_ok-words-in-NotOne.ensures.letters })
 
 pub words_of-apply_prefixes-requires : goal.words_of-apply_prefixes-requires
-words_of-apply_prefixes-requires t c = rw c.deref-in-Prefixed-2.ensures.value (numbers_distinct c.args.scope.now c.requires.scope, c.in_ok-words-in-Prefixed.ensures.letters)
+words_of-apply_prefixes-requires t c = rw c.deref-in-Prefixed-2.ensures.value (record { distinct = numbers_distinct c.args.scope.now c.requires.scope; only = c.in_ok-words-in-Prefixed.ensures.letters })
 
 pub words_of-returns-in-Empty-clause-letters : goal.words_of-returns-in-Empty-clause-letters
 words_of-returns-in-Empty-clause-letters t c = IfOk-weaker _ _ _ (λ m. empty_only (all_letters c.args.scope.now.numbers.items) m) c.word.ensures.letters
 
 pub words_of-returns-in-Any-clause-letters : goal.words_of-returns-in-Any-clause-letters
 words_of-returns-in-Any-clause-letters t c =
-    IfOk-weaker _ _ _ (λ m only x used. inside_all c.args.scope.now.numbers.items x (only x used)) (rw c.deref-in-Any.ensures.value at c.one_of.ensures.letters)
+    IfOk-weaker _ _ _ (λ m only x used. inside_all c.args.scope.now.numbers.items x (only x used)) (rw c.deref.ensures.value at c.one_of.ensures.letters)
 
 pub words_of-returns-in-Any-clause-words : goal.words_of-returns-in-Any-clause-words
 words_of-returns-in-Any-clause-words t c =
-    subst (λ (x : Expr (PairPart Atom)). IfOk c.one_of.result (HasWordsOf c.args.scope.now (term_of x))) (sym c.in-Any.is) (rw c.deref-in-Any.ensures.value at c.one_of.ensures.words)
+    subst (λ (x : Expr (PairPart Atom)). IfOk c.one_of.result (HasWordsOf c.args.scope.now (term_of x))) (sym c.in-Any.is) (rw c.deref.ensures.value at c.one_of.ensures.words)
 
 pub words_of-returns-in-Edge-clause-letters : goal.words_of-returns-in-Edge-clause-letters
 words_of-returns-in-Edge-clause-letters t c = IfOk-weaker _ _ _ (λ m. edge_only c.args.scope.now.numbers.items m) c.word-in-Edge.ensures.letters
@@ -396,8 +397,8 @@ words_of-returns-in_ok-words_of-in-Maybe-clause-words t c =
     let e = term_of c.in-Maybe.inner.value in
     let words = c.in_ok-words_of-in-Maybe.field-0 in
     let first = rw c.deref-in-Maybe.ensures at c.in_ok-words_of-in-Maybe.ensures.words in
-    subst (λ (x : Expr (PairPart Atom)). IfOk c.perhaps.result (HasWordsOf c.args.scope.now (term_of x))) (sym c.in-Maybe.is)
-    (IfOk-weaker _ _ _ (λ m. maybe_words c.args.scope.now e words m first) c.perhaps.ensures.words)
+    subst (λ (x : Expr (PairPart Atom)). IfOk c.perhaps-2.result (HasWordsOf c.args.scope.now (term_of x))) (sym c.in-Maybe.is)
+    (IfOk-weaker _ _ _ (λ m. maybe_words c.args.scope.now e words m first) c.perhaps-2.ensures.words)
 
 pub words_of-returns-in_ok-words-in-NotOne-clause-letters : goal.words_of-returns-in_ok-words-in-NotOne-clause-letters
 words_of-returns-in_ok-words-in-NotOne-clause-letters t c = rw c.deref-in-NotOne-2.ensures.value at c.not_one_times.ensures.letters
@@ -435,7 +436,7 @@ words_of-returns-in-Ignore-clause-words t c =
 
 pub words_of-returns-in_ok-concat_operands-in-Concat-clause-letters : goal.words_of-returns-in_ok-concat_operands-in-Concat-clause-letters
 words_of-returns-in_ok-concat_operands-in-Concat-clause-letters t c =
-    IfOk-weaker _ _ _ (λ m used. less_only (all_letters c.args.scope.now.numbers.items) c.in_ok-concat_operands-in-Concat.field-0 m used c.in_ok-concat_operands-in-Concat.ensures.letters) c.reduced.ensures.letters
+    IfOk-weaker _ _ _ (λ m used. less_only (all_letters c.args.scope.now.numbers.items) c.in_ok-concat_operands-in-Concat.field-0 m used c.in_ok-concat_operands-in-Concat.ensures.letters) c.reduced-2.ensures.letters
 
 pub words_of-returns-in_ok-concat_operands-in-Concat-clause-words : goal.words_of-returns-in_ok-concat_operands-in-Concat-clause-words
 words_of-returns-in_ok-concat_operands-in-Concat-clause-words t c =
@@ -445,8 +446,8 @@ words_of-returns-in_ok-concat_operands-in-Concat-clause-words t c =
     let words = c.in_ok-concat_operands-in-Concat.field-0 in
     let row = In leaf A (concat (terms_in c.in-Concat.operands.items)) in
     let first = rw c.deref-in-Concat.ensures.value at c.in_ok-concat_operands-in-Concat.ensures.words in
-    subst (λ (e : Term (PairPart Atom)). IfOk c.reduced.result (HasWordsOf c.args.scope.now (mapped part_of e))) (sym is)
-    (IfOk-weaker _ _ _ (λ m same. words_then (Accepts m) (Accepts words) row same first) c.reduced.ensures.language)
+    subst (λ (e : Term (PairPart Atom)). IfOk c.reduced-2.result (HasWordsOf c.args.scope.now (mapped part_of e))) (sym is)
+    (IfOk-weaker _ _ _ (λ m same. words_then (Accepts m) (Accepts words) row same first) c.reduced-2.ensures.language)
 
 pub words_of-returns-in_ok-words-in-Chain-clause-words : goal.words_of-returns-in_ok-words-in-Chain-clause-words
 words_of-returns-in_ok-words-in-Chain-clause-words t c =
