@@ -71,6 +71,11 @@ module _ (scope : Scope) (name : List ℕ) where
         λ (u, is, (h, same)). (language w).1 (u, is, h),
       )
 
+-- the words of a definition are over the numbers of pairs
+pub named_over : (scope : Scope) → IsScope scope → (name : List ℕ) (words m : Automaton (Bound Sym)) → under name scope.definitions ≡ Some words
+    → ((symbols : List Sym) → UsesOnly (all_letters symbols) words → UsesOnly (all_letters symbols) m) → UsesOnly (all_letters scope.numbers.items) m
+named_over scope is name words m found through = through scope.numbers.items (is.over name words found)
+
 -- the words without the edge
 module _ (words m : Automaton (Bound Sym)) (inside : Automaton Sym) where
   pub edge_only : ((x : Sym) → UsesLetter inside x → UsesLetter words (Inner x)) → ((x : Bound Sym) → UsesLetter m x → (s : Sym) × UsesLetter inside s × (x ≡ Inner s)) → (symbols : List Sym) → UsesOnly (all_letters symbols) words → UsesOnly (all_letters symbols) m

@@ -201,3 +201,6 @@ pub none_accepted : {L : Type 0} (m : Automaton L) → m ≡ record { edges = []
 none_accepted {L} m is v (stop f) = let h : Some false ≡ Some true = subst (λ (z : Automaton L). slice_get z.finals 0 ≡ Some true) is f in cc
 none_accepted {L} m is v (read {q = q} {x = x} has rest) = Contains-nil_cases (record { from = 0; letter = Some x; to = q }) (subst (λ (z : Automaton L). Contains z.edges (record { from = 0; letter = Some x; to = q })) is has)
 none_accepted {L} m is v (skip {q = q} has rest) = Contains-nil_cases (record { from = 0; letter = None; to = q }) (subst (λ (z : Automaton L). Contains z.edges (record { from = 0; letter = None; to = q })) is has)
+
+pub none_words : (m : Automaton (Bound Sym)) → m ≡ record { edges = []; finals = false ∷ [] } → HasWords m (λ v. ⊥)
+none_words m is w = (none_accepted m is w, λ never. absurd never)

@@ -3,8 +3,9 @@ use Rattle.std.proofs.lemmas.List.Elements.{All-nil}
 use Rattle.std.proofs.lemmas.Result.{IfOk-weaker}
 use Rattle.fsm_base.specs.declared.letters.Bound.{Bound}
 use Rattle.fsm_base.specs.declared.letters.Sym.{Sym}
-use Rattle.network_sets.proofs.Inside.{inside_all, over_left, over_right}
-use Rattle.network_sets.proofs.Restrictions.{edge_only}
+use Rattle.word_relations.specs.Words.{IsDistinct}
+use Rattle.network_sets.proofs.Inside.{over_left, over_right}
+use Rattle.network_sets.proofs.Restrictions.{edge_only, inner_only}
 use Rattle.regex_ast.specs.Terms.{Term, concat, ignore, term, terms_of, links_of}
 use Rattle.regex_ast.specs.declared.expr.Atom.{Atom}
 use Rattle.regex_ast.specs.declared.expr.Expr.{Expr}
@@ -15,12 +16,12 @@ use Rattle.expr_leaves.specs.Mapped.{mapped}
 use Rattle.expr_meaning.specs.Meaning.{In, InChain, InIgnoring}
 use Rattle.fsa.specs.Language.{Accepts}
 use Rattle.network_affixes.proofs.Alike.{words_then}
-use Rattle.network_algebra.specs.Networks.{all_letters}
+use Rattle.network_algebra.specs.Networks.{UsesOnly, all_letters}
 use Rattle.grammar_pairs.specs.Plain.{ArePairForms, IsPairForm, LinksArePairForms, links_in, part_of, term_of, terms_in}
 use Rattle.pair_languages.specs.Meaning.{HasWordsOf, stands}
 use Rattle.pair_languages.specs.Rows.{IsChoice}
 use Rattle.pair_languages.proofs.LeafWords.{numbers_distinct}
-use Rattle.pair_languages.proofs.Rows.{HasWords, before_same, chain_choice, chain_two, choice_two, concat_one, concat_two, each_forms, empty_only, halves_joined, ignore_one, ignore_row, ignore_two, less_only, linked_and, linked_less, linked_or, links_forms, no_item, none_accepted, one_item, two_only}
+use Rattle.pair_languages.proofs.Rows.{HasWords, before_same, chain_choice, chain_two, choice_two, concat_one, concat_two, each_forms, empty_only, halves_joined, ignore_one, ignore_row, ignore_two, less_only, linked_and, linked_less, linked_or, links_forms, no_item, none_words, one_item, two_only}
 use Rattle.pair_languages.proofs.Weights.{each_halves, links_halves, link_lighter, link_weight, weight, weight_links}
 use Rattle.pair_languages.proofs.Words.{maybe_words, not_one_words, prefixed_words, suffixed_words}
 use Rattle.pair_languages.proofs.build.+build.Goals as goal
@@ -168,7 +169,7 @@ pub union_operands-returns-in-empty-clause-words : goal.union_operands-returns-i
 union_operands-returns-in-empty-clause-words t c =
     let A = c.args.scope.now.numbers.items in
     subst (λ (z : List (Link (PairPart Atom))). IfOk c.new.result (λ m. HasWords m (InChain (stands c.args.scope.now) A (λ v. ⊥) (links_in z)))) (sym (no_item c.args.links.now (omega arith)))
-    (IfOk-weaker _ _ _ (λ m is w. (none_accepted m is w, λ never. absurd never)) c.new.ensures)
+    (IfOk-weaker _ _ _ (λ m. none_words m) c.new.ensures)
 
 pub union_operands-returns-in_ok-new-in-len1-clause-words : goal.union_operands-returns-in_ok-new-in-len1-clause-words
 union_operands-returns-in_ok-new-in-len1-clause-words t c =
@@ -176,8 +177,8 @@ union_operands-returns-in_ok-new-in-len1-clause-words t c =
     let A = c.args.scope.now.numbers.items in
     let item = c.link-item.result in
     let none = c.in_ok-new-in-len1.field-0 in
-    subst (λ (z : List (Link (PairPart Atom))). IfOk c.linked-2.result (λ m. HasWords m (InChain leaf A (λ v. ⊥) (links_in z)))) (sym (one_item c.args.links.now item (omega arith) (omega arith) c.link-item.is))
-    (IfOk-weaker _ _ _ (λ m. before_same leaf A (item ∷ []) (Accepts none) (λ v. ⊥) m (λ w. (none_accepted none c.in_ok-new-in-len1.ensures w, λ never. absurd never))) c.linked-2.ensures.words)
+    subst (λ (z : List (Link (PairPart Atom))). IfOk c.linked-in-len1.result (λ m. HasWords m (InChain leaf A (λ v. ⊥) (links_in z)))) (sym (one_item c.args.links.now item (omega arith) (omega arith) c.link-item.is))
+    (IfOk-weaker _ _ _ (λ m. before_same leaf A (item ∷ []) (Accepts none) (λ v. ⊥) m (none_words none c.in_ok-new-in-len1.ensures)) c.linked-in-len1.ensures.words)
 
 pub ignored-returns-in-empty-clause-letters : goal.ignored-returns-in-empty-clause-letters
 ignored-returns-in-empty-clause-letters t c = IfOk-weaker _ _ _ (λ m. empty_only (all_letters c.args.scope.now.numbers.items) m) c.word.ensures.letters
@@ -220,7 +221,7 @@ in_chain-returns-in_ok-union-in_default-clause-letters t c =
     let A = all_letters c.args.scope.now.numbers.items in
     let either = c.in_ok-union-in_default.field-0 in
     let two = two_only A c.args.before c.in_ok-choice-in_default.choice either c.in_ok-union-in_default.ensures.letters c.requires.before c.in_ok-choice-in_default.ensures.letters in
-    IfOk-weaker _ _ _ (λ m used. less_only A either m used two) c.reduced-2.ensures.letters
+    IfOk-weaker _ _ _ (λ m used. less_only A either m used two) c.reduced-in_default.ensures.letters
 
 pub in_chain-returns-in_ok-union-in_default-clause-words : goal.in_chain-returns-in_ok-union-in_default-clause-words
 in_chain-returns-in_ok-union-in_default-clause-words t c =
@@ -230,7 +231,7 @@ in_chain-returns-in_ok-union-in_default-clause-words t c =
     let either = c.in_ok-union-in_default.field-0 in
     let all = c.are_choices.ensures.0 c.if-are_choices.true in
     let chosen = chain_choice leaf A links all c.args.before c.in_ok-choice-in_default.choice either c.in_ok-choice-in_default.ensures.words c.in_ok-union-in_default.ensures.language in
-    IfOk-weaker _ _ _ (λ m same. words_then (Accepts m) (Accepts either) (InChain leaf A (Accepts c.args.before) (links_in links)) same chosen) c.reduced-2.ensures.language
+    IfOk-weaker _ _ _ (λ m same. words_then (Accepts m) (Accepts either) (InChain leaf A (Accepts c.args.before) (links_in links)) same chosen) c.reduced-in_default.ensures.language
 
 pub in_chain-returns-in-len1-clause-words : goal.in_chain-returns-in-len1-clause-words
 in_chain-returns-in-len1-clause-words t c =
@@ -268,11 +269,23 @@ linked-words_of-requires-in-Less t c =
 
 pub linked-both-requires : goal.linked-both-requires
 linked-both-requires t c =
-    rw c.deref.ensures.value (record { distinct = numbers_distinct c.args.scope.now c.requires.scope; first = c.requires.before; second = c.in_ok-words-in-And.ensures.letters })
+    let scope = c.args.scope.now in
+    let same = sym c.deref.ensures.value in
+    record {
+      distinct = subst (λ (z : List Sym). IsDistinct z) same (numbers_distinct scope c.requires.scope);
+      first = subst (λ (z : List Sym). UsesOnly (all_letters z) c.args.before.now) same c.requires.before;
+      second = subst (λ (z : List Sym). UsesOnly (all_letters z) c.in_ok-words-in-And.words) same c.in_ok-words-in-And.ensures.letters;
+    }
 
 pub linked-minus-requires : goal.linked-minus-requires
 linked-minus-requires t c =
-    rw c.deref-in-Less.ensures.value (record { distinct = numbers_distinct c.args.scope.now c.requires.scope; first = c.requires.before; second = c.in_ok-words-in-Less.ensures.letters })
+    let scope = c.args.scope.now in
+    let same = sym c.deref-in-Less.ensures.value in
+    record {
+      distinct = subst (λ (z : List Sym). IsDistinct z) same (numbers_distinct scope c.requires.scope);
+      first = subst (λ (z : List Sym). UsesOnly (all_letters z) c.args.before.now) same c.requires.before;
+      second = subst (λ (z : List Sym). UsesOnly (all_letters z) c.in_ok-words-in-Less.words) same c.in_ok-words-in-Less.ensures.letters;
+    }
 
 pub linked-returns-in_ok-words-in-Or-clause-letters : goal.linked-returns-in_ok-words-in-Or-clause-letters
 linked-returns-in_ok-words-in-Or-clause-letters t c =
@@ -307,7 +320,13 @@ linked-returns-in_ok-words-in-Less-clause-words t c =
 
 pub in_ignoring-ignore-requires : goal.in_ignoring-ignore-requires
 in_ignoring-ignore-requires t c =
-    rw c.deref.ensures.value (record { distinct = numbers_distinct c.args.scope.now c.requires.scope; first = c.requires.before; second = c.in_ok-words-in-len1.ensures.letters })
+    let scope = c.args.scope.now in
+    let same = sym c.deref.ensures.value in
+    record {
+      distinct = subst (λ (z : List Sym). IsDistinct z) same (numbers_distinct scope c.requires.scope);
+      first = subst (λ (z : List Sym). UsesOnly (all_letters z) c.args.before) same c.requires.before;
+      second = subst (λ (z : List Sym). UsesOnly (all_letters z) c.in_ok-words-in-len1.words) same c.in_ok-words-in-len1.ensures.letters;
+    }
 
 pub words_of-words_of-requires : goal.words_of-words_of-requires
 words_of-words_of-requires t c =
@@ -366,17 +385,29 @@ words_of-in_chain-requires t c =
     (rw slice (omega (arith, c.decreases, ap weight is)), (c.requires.scope, (c.in_ok-words-in-Chain.ensures.letters, rw slice form.1)))
 
 pub words_of-not_one_times-requires : goal.words_of-not_one_times-requires
-words_of-not_one_times-requires t c = rw c.deref-in-NotOne-2.ensures.value (record { distinct = numbers_distinct c.args.scope.now c.requires.scope; only = c.in_ok-words-in-NotOne.ensures.letters })
+words_of-not_one_times-requires t c =
+    let scope = c.args.scope.now in
+    let same = sym c.deref-in-NotOne-2.ensures.value in
+    record {
+      distinct = subst (λ (z : List Sym). IsDistinct z) same (numbers_distinct scope c.requires.scope);
+      only = subst (λ (z : List Sym). UsesOnly (all_letters z) c.in_ok-words-in-NotOne.words) same c.in_ok-words-in-NotOne.ensures.letters;
+    }
 
 pub words_of-apply_prefixes-requires : goal.words_of-apply_prefixes-requires
-words_of-apply_prefixes-requires t c = rw c.deref-in-Prefixed-2.ensures.value (record { distinct = numbers_distinct c.args.scope.now c.requires.scope; only = c.in_ok-words-in-Prefixed.ensures.letters })
+words_of-apply_prefixes-requires t c =
+    let scope = c.args.scope.now in
+    let same = sym c.deref-in-Prefixed-2.ensures.value in
+    record {
+      distinct = subst (λ (z : List Sym). IsDistinct z) same (numbers_distinct scope c.requires.scope);
+      only = subst (λ (z : List Sym). UsesOnly (all_letters z) c.in_ok-words-in-Prefixed.words) same c.in_ok-words-in-Prefixed.ensures.letters;
+    }
 
 pub words_of-returns-in-Empty-clause-letters : goal.words_of-returns-in-Empty-clause-letters
 words_of-returns-in-Empty-clause-letters t c = IfOk-weaker _ _ _ (λ m. empty_only (all_letters c.args.scope.now.numbers.items) m) c.word.ensures.letters
 
 pub words_of-returns-in-Any-clause-letters : goal.words_of-returns-in-Any-clause-letters
 words_of-returns-in-Any-clause-letters t c =
-    IfOk-weaker _ _ _ (λ m only x used. inside_all c.args.scope.now.numbers.items x (only x used)) (rw c.deref.ensures.value at c.one_of.ensures.letters)
+    IfOk-weaker _ _ _ (λ m. inner_only c.args.scope.now.numbers.items m) (rw c.deref.ensures.value at c.one_of.ensures.letters)
 
 pub words_of-returns-in-Any-clause-words : goal.words_of-returns-in-Any-clause-words
 words_of-returns-in-Any-clause-words t c =
@@ -397,8 +428,8 @@ words_of-returns-in_ok-words_of-in-Maybe-clause-words t c =
     let e = term_of c.in-Maybe.inner.value in
     let words = c.in_ok-words_of-in-Maybe.field-0 in
     let first = rw c.deref-in-Maybe.ensures at c.in_ok-words_of-in-Maybe.ensures.words in
-    subst (λ (x : Expr (PairPart Atom)). IfOk c.perhaps-2.result (HasWordsOf c.args.scope.now (term_of x))) (sym c.in-Maybe.is)
-    (IfOk-weaker _ _ _ (λ m. maybe_words c.args.scope.now e words m first) c.perhaps-2.ensures.words)
+    subst (λ (x : Expr (PairPart Atom)). IfOk c.perhaps-in-Maybe.result (HasWordsOf c.args.scope.now (term_of x))) (sym c.in-Maybe.is)
+    (IfOk-weaker _ _ _ (λ m. maybe_words c.args.scope.now e words m first) c.perhaps-in-Maybe.ensures.words)
 
 pub words_of-returns-in_ok-words-in-NotOne-clause-letters : goal.words_of-returns-in_ok-words-in-NotOne-clause-letters
 words_of-returns-in_ok-words-in-NotOne-clause-letters t c = rw c.deref-in-NotOne-2.ensures.value at c.not_one_times.ensures.letters
@@ -436,7 +467,7 @@ words_of-returns-in-Ignore-clause-words t c =
 
 pub words_of-returns-in_ok-concat_operands-in-Concat-clause-letters : goal.words_of-returns-in_ok-concat_operands-in-Concat-clause-letters
 words_of-returns-in_ok-concat_operands-in-Concat-clause-letters t c =
-    IfOk-weaker _ _ _ (λ m used. less_only (all_letters c.args.scope.now.numbers.items) c.in_ok-concat_operands-in-Concat.field-0 m used c.in_ok-concat_operands-in-Concat.ensures.letters) c.reduced-2.ensures.letters
+    IfOk-weaker _ _ _ (λ m used. less_only (all_letters c.args.scope.now.numbers.items) c.in_ok-concat_operands-in-Concat.field-0 m used c.in_ok-concat_operands-in-Concat.ensures.letters) c.reduced-in-Concat.ensures.letters
 
 pub words_of-returns-in_ok-concat_operands-in-Concat-clause-words : goal.words_of-returns-in_ok-concat_operands-in-Concat-clause-words
 words_of-returns-in_ok-concat_operands-in-Concat-clause-words t c =
@@ -446,8 +477,8 @@ words_of-returns-in_ok-concat_operands-in-Concat-clause-words t c =
     let words = c.in_ok-concat_operands-in-Concat.field-0 in
     let row = In leaf A (concat (terms_in c.in-Concat.operands.items)) in
     let first = rw c.deref-in-Concat.ensures.value at c.in_ok-concat_operands-in-Concat.ensures.words in
-    subst (λ (e : Term (PairPart Atom)). IfOk c.reduced-2.result (HasWordsOf c.args.scope.now (mapped part_of e))) (sym is)
-    (IfOk-weaker _ _ _ (λ m same. words_then (Accepts m) (Accepts words) row same first) c.reduced-2.ensures.language)
+    subst (λ (e : Term (PairPart Atom)). IfOk c.reduced-in-Concat.result (HasWordsOf c.args.scope.now (mapped part_of e))) (sym is)
+    (IfOk-weaker _ _ _ (λ m same. words_then (Accepts m) (Accepts words) row same first) c.reduced-in-Concat.ensures.language)
 
 pub words_of-returns-in_ok-words-in-Chain-clause-words : goal.words_of-returns-in_ok-words-in-Chain-clause-words
 words_of-returns-in_ok-words-in-Chain-clause-words t c =

@@ -6,7 +6,7 @@ use Rattle.regex_ast.specs.declared.twolc.PairPart.{PairPart}
 use Rattle.grammar_pairs.specs.Fitting.{Fits, IsTwice}
 use Rattle.grammar_pairs.specs.Plain.{pair_of, part_of}
 use Rattle.pair_languages.specs.Meaning.{HasWordsOf}
-use Rattle.pair_languages.proofs.LeafWords.{numbers_over, pair_words, set_words}
+use Rattle.pair_languages.proofs.LeafWords.{named_over, numbers_over, pair_words, set_words}
 use Rattle.pair_languages.proofs.leaf.leaf.Goals as goal
 
 pub returns-in_ok-numbers-in-Atom-clause-letters : goal.returns-in_ok-numbers-in-Atom-clause-letters
@@ -24,7 +24,7 @@ pub returns-in-Some-clause-letters : goal.returns-in-Some-clause-letters
 returns-in-Some-clause-letters c =
     let scope = c.args.scope.now in
     let found = sym (rw c.as_str.ensures at c.in-Some.ensures) in
-    IfOk-weaker _ _ _ (λ m through. through scope.numbers.items (c.requires.over c.in-Named.name c.in-Some.words.now found)) c.without_edge.ensures.letters
+    IfOk-weaker _ _ _ (λ m. named_over scope c.requires c.in-Named.name c.in-Some.words.now m found) c.without_edge.ensures.letters
 
 pub returns-in_ok-numbers-in-None-clause-letters : goal.returns-in_ok-numbers-in-None-clause-letters
 returns-in_ok-numbers-in-None-clause-letters c =
