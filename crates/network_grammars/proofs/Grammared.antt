@@ -116,7 +116,7 @@ module _ (g : GrammarOf Atom) (scope : Scope) (built : IsBuilt g (reverse (map d
 
 -- symbols on a side of pairs that are over an alphabet
 module _ (symbols : List Sym) (side : Letter → Option Sym) where
-  on_side : (p : List Letter) → All (λ x. (s : Sym) → side x ≡ Some s → Contains symbols s) p → IsOver symbols (symbols_on side p)
+  pub on_side : (p : List Letter) → All (λ x. (s : Sym) → side x ≡ Some s → Contains symbols s) p → IsOver symbols (symbols_on side p)
   on_side [] all = All-nil (Contains symbols)
   on_side (x ∷ p) all =
       let Q : Letter → Type 0 = λ x. (s : Sym) → side x ≡ Some s → Contains symbols s in

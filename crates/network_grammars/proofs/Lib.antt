@@ -1,4 +1,4 @@
 pub mod Rows
-pub mod Languages
+pub mod Renamed
 pub mod Grammared
 pub mod Networked

@@ -1,6 +1,6 @@
 -- What the network of a grammar relates, by texts.
 use Rattle.std.proofs.Common.{◌≡◌, ◌↔◌, ℕ, List, [], ◌∷◌, Option, Some, All, map, reverse, refl, sym, ap, subst, ◌∙◌}
-use Rattle.std.proofs.lemmas.List.Elements.{All-nil, All-cons, All-head, All-tail}
+use Rattle.std.proofs.lemmas.List.Elements.{All-contains, All-nil, All-cons, All-head, All-tail}
 use Rattle.std.specs.List.{Contains}
 use Rattle.fsm_base.specs.Alphabet.{IsAlphabet, spelled as spelled_word, symbols_of, text_of}
 use Rattle.fsm_base.specs.declared.letters.Pair.{Pair as Letter}
@@ -11,8 +11,10 @@ use Rattle.regex_ast.specs.declared.expr.Atom.{Atom}
 use Rattle.regex_ast.specs.declared.twolc.Grammar.{Grammar as GrammarOf}
 use Rattle.fsa.specs.Automaton.{Automaton}
 use Rattle.fst_relation.specs.Relation.{IsRelated, uppers, lowers, symbols_on}
-use Rattle.network_algebra.specs.Networks.{PairsOf, UsesOnly, UsesSymbols}
+use Rattle.expr_kinds.specs.declared.form.Kind.TheVariants.{Relation}
+use Rattle.network_algebra.specs.Networks.{IsFor, IsNetwork, PairsOf, UsesOnly, UsesSymbols, WordsOf, kind_of_network}
 use Rattle.network_algebra.specs.declared.network.Network.{Network}
+use Rattle.network_algebra.specs.declared.network.Network.TheVariants.{Pairs}
 use Rattle.grammar_pairs.specs.Feasible.{feasible}
 use Rattle.grammar_pairs.specs.Plain.{IsFormed, definition_of, grammar_of}
 use Rattle.grammar_pairs.specs.Texts.{IsPairOver, in_texts}
@@ -39,8 +41,9 @@ side_over symbols side P among p over = on_side symbols side p (each p over)
 module _ (g : GrammarOf Atom) (formed : IsFormed (grammar_of g)) (scope : Scope) (is_scope : IsScope scope) (built : IsBuilt g (reverse (map definition_of g.definitions.items)) scope)
     (rules : List LangRule) (ruled : Pairwise (IsRuleOf scope) g.rules.items rules) where
   -- by the texts of an alphabet
-  pub network_meant : GrammarIsSpelled → (m : Automaton Letter) (n : Network) → AreSame (IsRelated m) (GrammarRelates scope.pairs rules) → AreSame (PairsOf n) (IsRelated m) → IsNetworkOf g n
-  network_meant law m n related paired alphabet lettered over =
+  pub network_meant : GrammarIsSpelled → (m : Automaton Letter) (n : Network) → AreSame (IsRelated m) (GrammarRelates scope.pairs rules) → IsFor Relation (WordsOf (Pairs m)) (PairsOf (Pairs m)) n → IsNetworkOf g n
+  network_meant law m n related is alphabet lettered over =
+      let paired = is.pairs in
       let text = text_of alphabet in
       let symbols = symbols_of alphabet in
       let own = own_texts alphabet lettered in
@@ -60,11 +63,15 @@ module _ (g : GrammarOf Atom) (formed : IsFormed (grammar_of g)) (scope : Scope)
       }
 
   -- over symbols that the feasible pairs have
-  pub network_over : (symbols : List Sym) → IsOverSymbols symbols g → (m : Automaton Letter) → UsesOnly scope.pairs m → UsesSymbols symbols m
-  network_over symbols over m only =
+  pub network_over : (m : Automaton Letter) → UsesOnly scope.pairs m → (n : Network) → ((symbols : List Sym) → UsesSymbols symbols m → IsNetwork symbols n) → (symbols : List Sym) → IsOverSymbols symbols g → IsNetwork symbols n
+  network_over m only n through symbols over =
       let start = begun g (reverse (map definition_of g.definitions.items)) scope built in
-      let known = λ (x : Letter) (among : Contains scope.pairs x). Rattle.std.proofs.lemmas.List.Elements.All-contains (IsPairOver symbols) (feasible g) x over ((start.0 x).0 among) in
-      record {
+      let known = λ (x : Letter) (among : Contains scope.pairs x). All-contains (IsPairOver symbols) (feasible g) x over ((start.0 x).0 among) in
+      through symbols (record {
         upper = λ s (x, used, is). (known x (only x used)).up s is;
         lower = λ s (x, used, is). (known x (only x used)).low s is;
-      }
+      })
+
+-- a smaller network of a relation is one of a relation
+pub relation_kind : (m : Automaton Letter) (n : Network) → IsFor Relation (WordsOf (Pairs m)) (PairsOf (Pairs m)) n → kind_of_network n ≡ Relation
+relation_kind m n is = is.kind_is

@@ -15,6 +15,7 @@ use std::alloc::{AllocError, Global};
 use two_level::every_letter;
 
 /// The pairs in place of their numbers.
+#[derive(Drop)]
 struct AsPairs<'a> {
     /// The pairs.
     pairs: &'a [Pair],

@@ -11,8 +11,8 @@ use Rattle.network_grammars.proofs.rules.contexts_of.Goals as goal
 pub language_of-requires-clause-form : goal.language_of-requires-clause-form
 language_of-requires-clause-form c = (context_forms c.args.contexts.now c.requires.forms c.contexts.context-index c.context-item.result (omega arith) c.context-item.is).0
 
-pub language_of-requires-clause-form-in-contexts : goal.language_of-requires-clause-form-in-contexts
-language_of-requires-clause-form-in-contexts c = (context_forms c.args.contexts.now c.requires.forms c.contexts.context-index c.context-item.result (omega arith) c.context-item.is).1
+pub language_of-requires-in-contexts-clause-form : goal.language_of-requires-in-contexts-clause-form
+language_of-requires-in-contexts-clause-form c = (context_forms c.args.contexts.now c.requires.forms c.contexts.context-index c.context-item.result (omega arith) c.context-item.is).1
 
 pub contexts-preserved : goal.contexts-preserved
 contexts-preserved c =
