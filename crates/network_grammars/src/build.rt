@@ -20,7 +20,7 @@ pub fn network_of_grammar(alloc: Global, grammar: &Grammar<Atom>) -> Result<Netw
     ensures kind { IfOk result (λ n. kind_of_network n ≡ Kind.Relation) }
     ensures meaning { IfOk result (IsNetworkOf grammar.now) }
 {
-    // By symbols the network relates what it does by their texts.
+    // A law: by the numbers of symbols a grammar relates what it does by their texts.
     grammar_is_spelled();
     let scope = scope_of(alloc, grammar)?;
     let rules = rules_of(alloc, &scope, &grammar.rules)?;

@@ -1,5 +1,5 @@
 -- Automata of leaves.
-use Rattle.std.proofs.Common.{◌≡◌, ◌↔◌, ◌<◌, ℕ, List, [], ◌∷◌, Option, None, Some, MatchOption, map, refl, sym, ap, subst, ◌∙◌}
+use Rattle.std.proofs.Common.{◌≡◌, ◌↔◌, ◌<◌, ℕ, List, [], ◌∷◌, Option, None, Some, MatchOption, refl, sym, ap, subst, ◌∙◌}
 use Rattle.std.specs.List.{Contains, slice_get}
 use Rattle.std.proofs.lemmas.Option.{same_Some, slice_get_within}
 use Rattle.fsm_base.specs.declared.letters.Bound.{Bound}
@@ -15,11 +15,10 @@ use Rattle.fsa.specs.Automaton.{Automaton, UsesLetter}
 use Rattle.fsa.specs.Language.{Accepts}
 use Rattle.expr_meaning.specs.Meaning.{InLeaf}
 use Rattle.expr_meaning.specs.Operators.{inner, WithEdge}
-use Rattle.expr_meaning.proofs.Inner.{inner_same}
 use Rattle.network_algebra.specs.Networks.{UsesOnly, all_letters}
-use Rattle.project_meaning.specs.Trees.{Pair, Part, pair, called}
+use Rattle.project_meaning.specs.Trees.{Pair, pair, called}
 use Rattle.grammar_pairs.specs.Fitting.{Fits, IsNumber, IsOneOf, IsTwice}
-use Rattle.grammar_pairs.specs.Tables.{AreNumbers, under}
+use Rattle.grammar_pairs.specs.Tables.{under}
 use Rattle.pair_languages.specs.Meaning.{IsScope, stands}
 use Rattle.pair_languages.specs.declared.scope.Scope.{Scope}
 use Rattle.pair_languages.proofs.Rows.{HasWords}
@@ -28,7 +27,7 @@ use Rattle.pair_languages.proofs.Rows.{HasWords}
 pub numbers_distinct : (scope : Scope) → IsScope scope → IsDistinct scope.numbers.items
 numbers_distinct scope is i j n first second =
     let place : (k : ℕ) → slice_get scope.numbers.items k ≡ Some n → k ≡ n.0
-        = λ k at. ap (λ (z : Sym). z.0) (same_Some (record { 0 = k }) n (sym (is.numbers.each k (subst (λ (c : ℕ). k < c) is.numbers.count (slice_get_within scope.numbers.items k n at))) ∙ at)) in
+    = λ k at. ap (λ (z : Sym). z.0) (same_Some (record { 0 = k }) n (sym (is.numbers.each k (subst (λ (c : ℕ). k < c) is.numbers.count (slice_get_within scope.numbers.items k n at))) ∙ at)) in
     place i first ∙ sym (place j second)
 
 -- numbers of pairs are among those of all pairs
@@ -63,13 +62,6 @@ module _ (scope : Scope) (name : List ℕ) where
   set_words none numbers m has language w =
       let one = one_number scope.pairs (IsTwice scope.sets name) numbers has w in
       subst (λ (o : Option (Automaton (Bound Sym))). Accepts m w ↔ WithEdge (λ u. Relates o u u) w) none (λ a. one.0 ((language w).0 a), λ h. (language w).1 (one.1 h))
-
-  pub named_words : (words m : Automaton (Bound Sym)) → Some words ≡ under name scope.definitions → ((w : List (Bound Sym)) → Accepts m w ↔ WithEdge (λ u. Accepts words (inner u)) w) → HasWords m (InLeaf (stands scope) scope.numbers.items (called name))
-  named_words words m found language w =
-      subst (λ (o : Option (Automaton (Bound Sym))). Accepts m w ↔ WithEdge (λ u. Relates o u u) w) found (
-        λ a. let (u, is, h) = (language w).0 a in (u, is, (h, refl)),
-        λ (u, is, (h, same)). (language w).1 (u, is, h),
-      )
 
 -- the words of a definition are over the numbers of pairs
 pub named_over : (scope : Scope) → IsScope scope → (name : List ℕ) (words m : Automaton (Bound Sym)) → under name scope.definitions ≡ Some words

@@ -1,7 +1,7 @@
 -- Rows of operands in two parts, and what their automata accept.
-use Rattle.std.proofs.Common.{◌≡◌, ◌↔◌, ◌⊎◌, ◌<◌, ◌≤◌, ℕ, Bool, true, false, IsTrue, Option, None, Some, List, [], ◌∷◌, ◌++◌, All, length, take, drop, get_or, arith, map, refl, sym, ap, subst, ◌∙◌, inl, inr}
-use Rattle.std.proofs.lemmas.List.{map-append, take-append-drop}
-use Rattle.std.proofs.lemmas.List.Elements.{All-nil, All-cons, All-head, All-tail}
+use Rattle.std.proofs.Common.{◌≡◌, ◌↔◌, ◌⊎◌, ◌<◌, ◌≤◌, ℕ, true, false, None, Some, List, [], ◌∷◌, ◌++◌, All, length, take, drop, get_or, arith, refl, sym, ap, subst, ◌∙◌, inl, inr}
+use Rattle.std.proofs.lemmas.List.{take-append-drop}
+use Rattle.std.proofs.lemmas.List.Elements.{All-head, All-tail}
 use Rattle.std.specs.List.{Contains, slice_get}
 use Rattle.fsm_base.specs.declared.letters.Bound.{Bound}
 use Rattle.fsm_base.specs.declared.letters.Sym.{Sym}
@@ -11,7 +11,7 @@ use Rattle.word_relations.proofs.Members.{Contains-nil_cases}
 use Rattle.word_relations.proofs.Laws.{IsConcatenation-more, IsConcatenation-assoc, IsConcatenation-empty_left, IsConcatenation-empty_right}
 use Rattle.fsa.specs.Automaton.{Automaton, UsesLetter}
 use Rattle.fsa.specs.Language.{Accepts, stop, read, skip}
-use Rattle.regex_ast.specs.Terms.{Term, Terms, Links, ignore, term, no_term, then_term, no_link, or, and, less, terms_of, links_of}
+use Rattle.regex_ast.specs.Terms.{Terms, Links, ignore, no_term, then_term, no_link, or, and, less}
 use Rattle.regex_ast.specs.declared.expr.Atom.{Atom}
 use Rattle.regex_ast.specs.declared.expr.Expr.{Expr}
 use Rattle.regex_ast.specs.declared.expr.Link.{Link, Or, And, Less}

@@ -1,5 +1,5 @@
 -- What the leaves of a grammar relate in numbers of pairs they relate in texts, definition by definition.
-use Rattle.std.proofs.Common.{◌≡◌, ◌≢◌, ◌↔◌, ◌⊎◌, ◌<◌, ℕ, zero, suc, Bool, true, false, cond, IsTrue, List, [], ◌∷◌, ◌++◌, Option, None, Some, All, MatchOption, length, map, refl, sym, ap, subst, ◌∙◌, inl, inr, arith, true≢false}
+use Rattle.std.proofs.Common.{◌≡◌, ◌≢◌, ◌↔◌, ◌⊎◌, ◌<◌, ℕ, zero, suc, Bool, true, false, cond, List, [], ◌∷◌, Option, None, Some, All, MatchOption, length, map, refl, sym, ap, subst, ◌∙◌, inl, inr, arith, true≢false}
 use Rattle.std.proofs.lemmas.List.Elements.{All-head, All-tail}
 use Rattle.std.proofs.lemmas.Option.{slice_get_within, same_Some}
 use Rattle.std.proofs.lemmas.Slice.Eq.{bytes_eq-Decides}
@@ -29,14 +29,14 @@ use Rattle.project_meaning.specs.Trees.{Pair, Part, pair, called, PairDefinition
 use Rattle.project_meaning.specs.Leaves.{Leaf}
 use Rattle.project_meaning.specs.Grammars.{Letter as TextLetter, feasible as feasible_in_texts, IsMember as IsMemberInTexts, PartRelates}
 use Rattle.grammar_pairs.specs.Feasible.{feasible}
-use Rattle.grammar_pairs.specs.Fitting.{Fits, IsNumber, IsOneOf, IsTwice}
+use Rattle.grammar_pairs.specs.Fitting.{IsOneOf, IsTwice}
 use Rattle.grammar_pairs.specs.Mapped.{mapped_definition, mapped_pair, mapped_part}
 use Rattle.grammar_pairs.specs.Plain.{IsFormed, IsPairForm, ArePairForms, LinksArePairForms, grammar_of, set_of}
 use Rattle.grammar_pairs.specs.Tables.{AreNumbers, HasSymbol, IsMember, under}
 use Rattle.grammar_pairs.specs.Texts.{HasOwnTexts, IsPairOver, in_text, in_texts, letter_in}
 use Rattle.grammar_pairs.proofs.Forms.{mapped_same}
 use Rattle.grammar_pairs.proofs.Spelled.{feasible_same, member_there, member_back, side_there, side_back}
-use Rattle.pair_languages.specs.Built.{IsBegun, IsBuilt, IsWith}
+use Rattle.pair_languages.specs.Built.{IsBuilt, IsWith}
 use Rattle.pair_languages.specs.Meaning.{HasWordsOf, stands}
 use Rattle.pair_languages.specs.declared.scope.Scope.{Scope}
 
@@ -202,9 +202,6 @@ module _ (text : Sym → List ℕ) (g : GrammarOf Atom) (formed : IsFormed (gram
 
     up : Meets all_pass (spelled_out above) (in_numbers scope on)
     up = record { tells = spelling_tells; leaves = λ c _. agree.back c }
-
-    same_term : (w : List (Bound Sym)) → In (stands scope) scope.numbers.items (mapped (λ (c : Part Atom). c) e) w ≡ InNumbers w
-    same_term w = ap (λ (t : Term (Part Atom)). In (stands scope) scope.numbers.items t w) (mapped_same e form)
 
     pub expression_there : Carries (bound number) (bound spelling) InNumbers InTexts
     expression_there =

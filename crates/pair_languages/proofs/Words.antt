@@ -1,5 +1,5 @@
 -- Automata of expressions over pairs, by their forms.
-use Rattle.std.proofs.Common.{◌≡◌, ◌↔◌, ◌⊎◌, ℕ, Bool, true, false, List, [], ◌∷◌, Option, None, Some, MatchOption, refl, sym, ap, subst, ◌∙◌, inl, inr}
+use Rattle.std.proofs.Common.{◌≡◌, ◌⊎◌, ℕ, true, false, List, [], ◌∷◌, Option, None, Some, MatchOption, refl, ap, ◌∙◌, inl, inr}
 use Rattle.std.specs.List.{Contains}
 use Rattle.fsm_base.specs.declared.letters.Bound.{Bound}
 use Rattle.fsm_base.specs.declared.letters.Sym.{Sym}
@@ -12,16 +12,15 @@ use Rattle.regex_ast.specs.declared.expr.Atom.{Atom}
 use Rattle.regex_ast.specs.declared.expr.Prefix.{Prefix}
 use Rattle.regex_ast.specs.declared.expr.Suffix.{Suffix}
 use Rattle.regex_ast.specs.declared.expr.Suffix.TheVariants.{Star, Plus, Power, Upper, Lower, Inverse, Reverse}
-use Rattle.expr_kinds.specs.Kinds.{Leaves, both, kind_behind, kind_of, kind_of_each, kind_of_chain, with_suffixes}
-use Rattle.expr_kinds.specs.declared.form.Kind.{Kind}
+use Rattle.expr_kinds.specs.Kinds.{Leaves, both, kind_of, kind_of_each, kind_of_chain, with_suffixes}
 use Rattle.expr_kinds.specs.declared.form.Kind.TheVariants.{Language}
 use Rattle.expr_meaning.specs.Leaves.{AreSound}
 use Rattle.expr_meaning.specs.Meaning.{In, Relates}
 use Rattle.expr_meaning.specs.Operators.{AreSuffixed, ArePrefixed, IsEmpty, IsItself, IsNotOne, inner}
 use Rattle.expr_meaning.proofs.Languages.{language_itself}
-use Rattle.network_affixes.proofs.Alike.{SameWords, not_one_same, prefixes_same, suffixes_words, words_then}
+use Rattle.network_affixes.proofs.Alike.{not_one_same, prefixes_same, suffixes_words, words_then}
 use Rattle.network_algebra.specs.Networks.{UsesOnly, all_letters}
-use Rattle.project_meaning.specs.Trees.{Pair, Part, pair, called}
+use Rattle.project_meaning.specs.Trees.{Part, pair, called}
 use Rattle.grammar_pairs.specs.Fitting.{IsOneOf, IsTwice}
 use Rattle.grammar_pairs.specs.Plain.{IsPairForm, ArePairForms, LinksArePairForms}
 use Rattle.grammar_pairs.specs.Tables.{under}
@@ -113,9 +112,6 @@ module _ (scope : Scope) where
           λ h. (whole u w).1 ((first (inner u)).0 h.0, h.1),
           λ h. let r = (whole u w).0 h in ((first (inner u)).1 r.0, r.1),
         )
-
-    pub alone_words : SameWords (In (stands scope) N e) (In (stands scope) N (group e))
-    alone_words w = (λ h. h, λ h. h)
 
 -- the empty word, or a word of a language
 module _ (empty words either m : Automaton (Bound Sym)) where

@@ -1,12 +1,10 @@
-use Rattle.std.proofs.Common.{◌↔◌, ◌∷◌, [], ◌/◌, List, IfOk, All, length, map, refl, sym, ap, subst, ◌∙◌, arith}
-use Rattle.std.proofs.lemmas.List.Elements.{All-nil}
+use Rattle.std.proofs.Common.{◌∷◌, [], ◌/◌, List, IfOk, All, length, sym, ap, subst, ◌∙◌, arith}
 use Rattle.std.proofs.lemmas.Result.{IfOk-weaker}
-use Rattle.fsm_base.specs.declared.letters.Bound.{Bound}
 use Rattle.fsm_base.specs.declared.letters.Sym.{Sym}
 use Rattle.word_relations.specs.Words.{IsDistinct}
 use Rattle.network_sets.proofs.Inside.{over_left, over_right}
 use Rattle.network_sets.proofs.Restrictions.{edge_only, inner_only}
-use Rattle.regex_ast.specs.Terms.{Term, concat, ignore, term, terms_of, links_of}
+use Rattle.regex_ast.specs.Terms.{Term, concat, ignore, term, links_of}
 use Rattle.regex_ast.specs.declared.expr.Atom.{Atom}
 use Rattle.regex_ast.specs.declared.expr.Expr.{Expr}
 use Rattle.regex_ast.specs.declared.expr.Link.{Link}
