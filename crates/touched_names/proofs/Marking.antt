@@ -1,0 +1,152 @@
+-- Marks along an order in which each place stands behind those that it refers to.
+use Rattle.std.proofs.Common.{◌≡◌, ◌≢◌, ◌↔◌, ℕ, zero, suc, ◌+◌, ◌<◌, ◌≤◌, Bool, true, false, List, [], ◌∷◌, ◌++◌, length, take, set, get_or, slice_get, Contains, Option, Some, ◌⊎◌, inl, inr, refl, sym, ap, subst, ◌∙◌, arith, length-append}
+use Rattle.std.proofs.lemmas.Option.{slice_get-get_or, slice_get_within}
+use Rattle.std.proofs.lemmas.List.Elements.{Contains-append_left, Contains-push, Contains-push_cases, Contains-get_or}
+use Rattle.word_relations.proofs.Members.{Contains-nil_cases}
+use Rattle.std.proofs.lemmas.Bool.{cases_lt}
+use Rattle.std.proofs.Math.ListN.{get_or-append}
+use Rattle.std.proofs.Math.Seq.{get_or-append_seam}
+use Rattle.word_relations.proofs.Places.{Contains-from_slice_get, slice_get_from_Contains, slice_get-set_same, slice_get-set_other, same_at}
+use Rattle.name_order.specs.Graph.{Refers}
+use Rattle.name_order.specs.Orders.{IsOrder}
+use Rattle.touched_names.specs.Touched.{AreMarked, ArePlaces, IsMarked, Touched, by_itself, by_reference}
+
+same_mark : (a b : Bool) → Some a ≡ Some b → a ≡ b
+same_mark a b same = cc
+
+-- a place of a front
+front_place : (n : ℕ) (xs : List ℕ) (k x : ℕ) → slice_get (take n xs) k ≡ Some x → (k < n) × (slice_get xs k ≡ Some x)
+front_place zero [] k x at = cc
+front_place zero (y ∷ xs) k x at = cc
+front_place (suc n) [] k x at = cc
+front_place (suc n) (y ∷ xs) zero x at = (omega arith, at)
+front_place (suc n) (y ∷ xs) (suc k) x at = let rest = front_place n xs k x at in (omega (arith, rest.0), rest.1)
+
+-- the marks of the first places of the order are right
+abbrev pub AreRight : List (List ℕ) → List Bool → List ℕ → ℕ → List Bool → Type 0
+AreRight graph itself order i marks = (k place : ℕ) → k < i → slice_get order k ≡ Some place → IsMarked marks place ↔ Touched graph itself place
+
+-- the place is touched by itself, or refers to a marked one
+abbrev pub IsNext : List Bool → List ℕ → List Bool → ℕ → Type 0
+IsNext itself refers marks place = IsMarked itself place ⊎ ((other : ℕ) × Contains refers other × IsMarked marks other)
+
+module _ (graph : List (List ℕ)) (itself : List Bool) (order : List ℕ) (ordered : IsOrder graph order) where
+  pub place_inside : (i place : ℕ) → slice_get order i ≡ Some place → place < length graph
+  place_inside i place at = (ordered.places place).0 (Contains-from_slice_get order i place at)
+
+  right_none : (marks : List Bool) → AreRight graph itself order 0 marks
+  right_none marks k place less at = absurd (omega arith)
+
+  module _ (i place : ℕ) (at : slice_get order i ≡ Some place) (refers : List ℕ) (below : slice_get graph place ≡ Some refers) (marks : List Bool) (right : AreRight graph itself order i marks) where
+    earlier : (other : ℕ) → Contains refers other → IsMarked marks other ↔ Touched graph itself other
+    earlier other h =
+        let found = slice_get_from_Contains (take i order) other (ordered.behind i place other at (refers, below, h)) in
+        let front = front_place i order found.0 other found.1 in
+        right found.0 other front.0 front.1
+
+    touched_next : IsNext itself refers marks place → Touched graph itself place
+    touched_next (inl marked) = by_itself marked
+    touched_next (inr (other, h, marked)) = by_reference (refers, below, h) ((earlier other h).0 marked)
+
+    next_touched : Touched graph itself place → IsNext itself refers marks place
+    next_touched (by_itself marked) = inl marked
+    next_touched (by_reference {other = other} (others, is, h) touched) =
+        let both : Some others ≡ Some refers = sym is ∙ below in
+        let same : others ≡ refers = cc in
+        let here : Contains refers other = subst (λ (l : List ℕ). Contains l other) same h in
+        inr (other, here, (earlier other here).1 touched)
+
+    -- the next place gets its mark
+    pub right_more : (mark : Bool) → (mark ≡ true ↔ IsNext itself refers marks place) → place < length marks → AreRight graph itself order (i + 1) (set marks place mark)
+    right_more mark decides within k other less at_k = elim (cases_lt k i) [
+      | inl before ↦
+          let apart : other ≢ place = λ same. let here : k ≡ i = ordered.once k i other at_k (at ∙ ap Some (sym same)) in omega arith in
+          let kept : slice_get (set marks place mark) other ≡ slice_get marks other = slice_get-set_other marks place other mark apart in
+          let old = right k other before at_k in
+          (λ h. old.0 (sym kept ∙ h), λ touched. kept ∙ old.1 touched)
+      | inr behind ↦
+          let here : k ≡ i = omega arith in
+          let same : other ≡ place = same_at order i other place (ap (slice_get order) (sym here) ∙ at_k) at in
+          let is : slice_get (set marks place mark) place ≡ Some mark = slice_get-set_same marks place mark within in
+          subst (λ (p : ℕ). IsMarked (set marks place mark) p ↔ Touched graph itself p) (sym same)
+          (λ h. touched_next (decides.0 (same_mark mark true (sym is ∙ h))), λ touched. is ∙ ap Some (decides.1 (next_touched touched)))
+    ]
+
+  -- when all places have theirs
+  pub all_right : (marks : List Bool) → length marks ≡ length graph → length itself ≡ length graph → AreRight graph itself order (length order) marks → AreMarked marks (Touched graph itself)
+  all_right marks many many_itself right place =
+      (λ h. (right_at (marked_inside h)).0 h, λ touched. (right_at (touched_inside touched)).1 touched)
+    where
+      right_at : place < length graph → IsMarked marks place ↔ Touched graph itself place
+      right_at less = let found = slice_get_from_Contains order place ((ordered.places place).1 less) in right found.0 place (slice_get_within order found.0 place found.1) found.1
+
+      marked_inside : IsMarked marks place → place < length graph
+      marked_inside h = let less : place < length marks = slice_get_within marks place true h in omega arith
+
+      touched_inside : Touched graph itself place → place < length graph
+      touched_inside (by_itself marked) = let less : place < length itself = slice_get_within itself place true marked in omega arith
+      touched_inside (by_reference refers touched) = slice_get_within graph place refers.0 refers.1
+
+-- ---- the places that are marked
+
+-- those below a place
+pub record AreBelow (marks : List Bool) (i : ℕ) (places : List ℕ) : Type 0 where
+  pub within : (place : ℕ) → Contains places place ↔ ((place < i) × IsMarked marks place)
+  pub ascending : (k : ℕ) → k + 1 < length places → get_or places k 0 < get_or places (k + 1) 0
+
+pub below_start : (marks : List Bool) → AreBelow marks 0 []
+below_start marks = record { within = λ place. (λ h. absurd (Contains-nil_cases place h), λ h. let less = h.0 in absurd (omega arith)); ascending = λ k less. absurd (omega arith) }
+
+module _ (marks : List Bool) (i : ℕ) (places : List ℕ) (before : AreBelow marks i places) where
+  pub below_plain : slice_get marks i ≡ Some false → AreBelow marks (i + 1) places
+  below_plain at = record { within = λ place. (λ h. let it = (before.within place).0 h in let less = it.0 in (omega arith, it.1), λ h. (before.within place).1 (lower place h.0 h.1, h.1)); ascending = before.ascending }
+    where
+      lower : (place : ℕ) → place < i + 1 → IsMarked marks place → place < i
+      lower place less marked = elim (cases_lt place i) [
+        | inl under ↦ under
+        | inr over ↦
+            let same : place ≡ i = omega arith in
+            let both : true ≡ false = same_at marks i true false (ap (slice_get marks) (sym same) ∙ marked) at in
+            cc
+      ]
+
+  pub below_marked : slice_get marks i ≡ Some true → AreBelow marks (i + 1) (places ++ i ∷ [])
+  below_marked at = record { within = λ place. (to place, back place); ascending = ascending }
+    where
+      to : (place : ℕ) → Contains (places ++ i ∷ []) place → (place < i + 1) × IsMarked marks place
+      to place h = elim (Contains-push_cases places i place h) [
+        | inl had ↦ let it = (before.within place).0 had in let less = it.0 in (omega arith, it.1)
+        | inr same ↦ (omega (arith, same), ap (slice_get marks) (sym same) ∙ at)
+      ]
+
+      back : (place : ℕ) → (place < i + 1) × IsMarked marks place → Contains (places ++ i ∷ []) place
+      back place h = elim (cases_lt place i) [
+        | inl under ↦ Contains-append_left places (i ∷ []) place ((before.within place).1 (under, h.1))
+        | inr over ↦
+            let less = h.0 in
+            let same : i ≡ place = omega arith in
+            subst (λ (p : ℕ). Contains (places ++ i ∷ []) p) same (Contains-push places i)
+      ]
+
+      ascending : (k : ℕ) → k + 1 < length (places ++ i ∷ []) → get_or (places ++ i ∷ []) k 0 < get_or (places ++ i ∷ []) (k + 1) 0
+      ascending k less =
+          let many : length (places ++ i ∷ []) ≡ length places + 1 = length-append places (i ∷ []) in
+          elim (cases_lt (k + 1) (length places)) [
+            | inl inside ↦
+                let low : get_or (places ++ i ∷ []) k 0 ≡ get_or places k 0 = get_or-append places (i ∷ []) 0 k (omega arith) in
+                let high : get_or (places ++ i ∷ []) (k + 1) 0 ≡ get_or places (k + 1) 0 = get_or-append places (i ∷ []) 0 (k + 1) inside in
+                omega (arith, low, high, before.ascending k inside)
+            | inr over ↦
+                let last : k + 1 ≡ length places = omega arith in
+                let low : get_or (places ++ i ∷ []) k 0 ≡ get_or places k 0 = get_or-append places (i ∷ []) 0 k (omega arith) in
+                let high : get_or (places ++ i ∷ []) (k + 1) 0 ≡ i = ap (λ (n : ℕ). get_or (places ++ i ∷ []) n 0) last ∙ get_or-append_seam places i [] 0 in
+                let under = ((before.within (get_or places k 0)).0 (Contains-get_or places k 0 (omega arith))).0 in
+                omega (arith, low, high, under)
+          ]
+
+pub below_all : (marks : List Bool) (places : List ℕ) → AreBelow marks (length marks) places → ArePlaces (IsMarked marks) places
+below_all marks places below = record { all = λ place. (λ h. ((below.within place).0 h).1, λ h. (below.within place).1 (slice_get_within marks place true h, h)); ascending = below.ascending }
+
+-- the same of what the marks say
+pub same_places : (P Q : ℕ → Type 0) (places : List ℕ) → ((place : ℕ) → P place ↔ Q place) → ArePlaces P places → ArePlaces Q places
+same_places P Q places same p = record { all = λ place. (λ h. (same place).0 ((p.all place).0 h), λ h. (p.all place).1 ((same place).1 h)); ascending = p.ascending }

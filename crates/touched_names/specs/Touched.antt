@@ -1,0 +1,34 @@
+-- The places of the touched names of a project, by definitions that stand for it and for the one before it.
+use Rattle.std.specs.Prelude.{◌≡◌, ℕ, List, All, Contains, Some, map, slice_get}
+use Rattle.word_relations.specs.Words.{IsDistinct}
+use Rattle.fsm_base.specs.Alphabet.{IsAlphabet, texts_of}
+use Rattle.fsm_base.specs.declared.letters.Sym.{Sym}
+use Rattle.project_meaning.specs.Projects.{Project, names_of}
+use Rattle.project_meaning.specs.Touched.{Touched}
+use Rattle.project_sources.specs.Sources.{Said, project_in}
+use Rattle.project_model.specs.Numbered.{IsBodyOver}
+use Rattle.project_model.specs.Stands.{entry_in, entry_of}
+use Rattle.project_model.specs.declared.definition.Definition.{Definition}
+use Rattle.touched_names.specs.Places.{ArePlaces}
+
+-- Definitions over the numbers of an alphabet stand for what sources say: they are the same, each leaf is a symbol of the alphabet
+-- or a name, and names are distinct
+pub record StandFor (said : Said) (definitions : List Definition) (alphabet : List (Sym × List ℕ)) : Type 0 where
+  pub formed : IsAlphabet alphabet
+  pub texts : texts_of alphabet ≡ (project_in said).alphabet
+  pub definitions : map entry_of definitions ≡ map (entry_in (names_of said.written) (project_in said).alphabet) said.written
+  pub leaves : All (λ d. IsBodyOver (project_in said).alphabet d.body) (project_in said).definitions
+  pub names : IsDistinct (map (λ d. d.name) definitions)
+
+-- the definition at this place has a touched name
+abbrev pub IsTouchedAt : Project → Project → List Definition → ℕ → Type 0
+IsTouchedAt old new definitions place = (d : Definition) × (slice_get definitions place ≡ Some d) × Touched old new d.name
+
+-- the definition at one of these places has this name
+abbrev pub IsNamedAt : List Definition → List ℕ → List ℕ → Type 0
+IsNamedAt definitions places name = (place : ℕ) × (d : Definition) × Contains places place × (slice_get definitions place ≡ Some d) × (d.name ≡ name)
+
+-- just the places of definitions with touched names, ascending; each touched name has its place there
+pub record AreTouched (old new : Project) (definitions : List Definition) (places : List ℕ) : Type 0 where
+  pub places : ArePlaces (IsTouchedAt old new definitions) places
+  pub names : (name : List ℕ) → Touched old new name → IsNamedAt definitions places name
