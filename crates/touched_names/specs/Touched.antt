@@ -1,24 +1,26 @@
 -- The places of the touched names of a project, by definitions that stand for it and for the one before it.
-use Rattle.std.specs.Prelude.{◌≡◌, ℕ, List, All, Contains, Some, map, slice_get}
-use Rattle.word_relations.specs.Words.{IsDistinct}
-use Rattle.fsm_base.specs.Alphabet.{IsAlphabet, texts_of}
+use Rattle.std.specs.Prelude.{◌≡◌, ℕ, List, Contains, Some, map, slice_get}
+use Rattle.fsm_base.specs.Alphabet.{IsAlphabet, listed, symbols_of, texts_of}
 use Rattle.fsm_base.specs.declared.letters.Sym.{Sym}
+use Rattle.expr_kinds.specs.declared.form.Form.{Form}
 use Rattle.project_meaning.specs.Projects.{Project, names_of}
 use Rattle.project_meaning.specs.Touched.{Touched}
 use Rattle.project_sources.specs.Sources.{Said, project_in}
-use Rattle.project_model.specs.Numbered.{IsBodyOver}
+use Rattle.project_model.specs.Numbered.{numbers_in}
+use Rattle.project_model.specs.Plans.{IsPlan}
 use Rattle.project_model.specs.Stands.{entry_in, entry_of}
 use Rattle.project_model.specs.declared.definition.Definition.{Definition}
 use Rattle.touched_names.specs.Places.{ArePlaces}
 
--- Definitions over the numbers of an alphabet stand for what sources say: they are the same, each leaf is a symbol of the alphabet
--- or a name, and names are distinct
+-- Definitions over the numbers of an alphabet stand for what sources say: they are the same, the number of a symbol is its place in the
+-- alphabet, and they are a plan's
 pub record StandFor (said : Said) (definitions : List Definition) (alphabet : List (Sym × List ℕ)) : Type 0 where
   pub formed : IsAlphabet alphabet
+  pub alphabet : alphabet ≡ listed (project_in said).alphabet (numbers_in (project_in said).alphabet (project_in said).alphabet)
   pub texts : texts_of alphabet ≡ (project_in said).alphabet
   pub definitions : map entry_of definitions ≡ map (entry_in (names_of said.written) (project_in said).alphabet) said.written
-  pub leaves : All (λ d. IsBodyOver (project_in said).alphabet d.body) (project_in said).definitions
-  pub names : IsDistinct (map (λ d. d.name) definitions)
+  pub forms : List Form
+  pub plan : IsPlan (record { definitions = definitions; symbols = symbols_of alphabet; forms = forms })
 
 -- the definition at this place has a touched name
 abbrev pub IsTouchedAt : Project → Project → List Definition → ℕ → Type 0
