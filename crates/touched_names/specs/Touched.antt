@@ -14,13 +14,13 @@ use Rattle.touched_names.specs.Places.{ArePlaces}
 
 -- Definitions over the numbers of an alphabet stand for what sources say: they are the same, the number of a symbol is its place in the
 -- alphabet, and they are a plan's
-pub record StandFor (said : Said) (definitions : List Definition) (alphabet : List (Sym × List ℕ)) : Type 0 where
-  pub formed : IsAlphabet alphabet
-  pub alphabet : alphabet ≡ listed (project_in said).alphabet (numbers_in (project_in said).alphabet (project_in said).alphabet)
-  pub texts : texts_of alphabet ≡ (project_in said).alphabet
-  pub definitions : map entry_of definitions ≡ map (entry_in (names_of said.written) (project_in said).alphabet) said.written
+pub record StandFor (said : Said) (given : List Definition) (symbols : List (Sym × List ℕ)) : Type 0 where
+  pub formed : IsAlphabet symbols
+  pub alphabet : symbols ≡ listed (project_in said).alphabet (numbers_in (project_in said).alphabet (project_in said).alphabet)
+  pub texts : texts_of symbols ≡ (project_in said).alphabet
+  pub definitions : map entry_of given ≡ map (entry_in (names_of said.written) (project_in said).alphabet) said.written
   pub forms : List Form
-  pub plan : IsPlan (record { definitions = definitions; symbols = symbols_of alphabet; forms = forms })
+  pub plan : IsPlan (record { definitions = given; symbols = symbols_of symbols; forms = forms })
 
 -- the definition at this place has a touched name
 abbrev pub IsTouchedAt : Project → Project → List Definition → ℕ → Type 0
