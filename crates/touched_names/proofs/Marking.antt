@@ -1,15 +1,14 @@
 -- Marks along an order in which each place stands behind those that it refers to.
-use Rattle.std.proofs.Common.{◌≡◌, ◌≢◌, ◌↔◌, ℕ, zero, suc, ◌+◌, ◌<◌, ◌≤◌, Bool, true, false, List, [], ◌∷◌, ◌++◌, length, take, set, get_or, slice_get, Contains, Option, Some, ◌⊎◌, inl, inr, refl, sym, ap, subst, ◌∙◌, arith, length-append}
+use Rattle.std.proofs.Common.{◌≡◌, ◌≢◌, ◌↔◌, ℕ, zero, suc, ◌+◌, ◌<◌, ◌≤◌, Bool, true, false, List, [], ◌∷◌, ◌++◌, length, take, set, get_or, slice_get, AllPairs, Contains, Option, Some, ◌⊎◌, inl, inr, refl, sym, ap, subst, ◌∙◌, arith}
 use Rattle.std.proofs.lemmas.Option.{slice_get-get_or, slice_get_within}
 use Rattle.std.proofs.lemmas.List.Elements.{Contains-append_left, Contains-push, Contains-push_cases, Contains-get_or}
 use Rattle.word_relations.proofs.Members.{Contains-nil_cases}
 use Rattle.std.proofs.lemmas.Bool.{cases_lt}
-use Rattle.std.proofs.Math.ListN.{get_or-append}
-use Rattle.std.proofs.Math.Seq.{get_or-append_seam}
+use Rattle.std.proofs.lemmas.List.Quantifiers.{all_pairs_push}
 use Rattle.word_relations.proofs.Places.{Contains-from_slice_get, slice_get_from_Contains, slice_get-set_same, slice_get-set_other, same_at}
 use Rattle.name_order.specs.Graph.{Refers}
 use Rattle.name_order.specs.Orders.{IsOrder}
-use Rattle.touched_names.specs.Touched.{AreMarked, ArePlaces, IsMarked, Touched, by_itself, by_reference}
+use Rattle.touched_names.specs.Places.{AreMarked, ArePlaces, HasMarked, IsMarked, TouchedPlace, by_itself, by_reference}
 
 same_mark : (a b : Bool) → Some a ≡ Some b → a ≡ b
 same_mark a b same = cc
@@ -24,11 +23,11 @@ front_place (suc n) (y ∷ xs) (suc k) x at = let rest = front_place n xs k x at
 
 -- the marks of the first places of the order are right
 abbrev pub AreRight : List (List ℕ) → List Bool → List ℕ → ℕ → List Bool → Type 0
-AreRight graph itself order i marks = (k place : ℕ) → k < i → slice_get order k ≡ Some place → IsMarked marks place ↔ Touched graph itself place
+AreRight graph itself order i marks = (k place : ℕ) → k < i → slice_get order k ≡ Some place → IsMarked marks place ↔ TouchedPlace graph itself place
 
 -- the place is touched by itself, or refers to a marked one
 abbrev pub IsNext : List Bool → List ℕ → List Bool → ℕ → Type 0
-IsNext itself refers marks place = IsMarked itself place ⊎ ((other : ℕ) × Contains refers other × IsMarked marks other)
+IsNext itself refers marks place = IsMarked itself place ⊎ HasMarked marks refers
 
 module _ (graph : List (List ℕ)) (itself : List Bool) (order : List ℕ) (ordered : IsOrder graph order) where
   pub place_inside : (i place : ℕ) → slice_get order i ≡ Some place → place < length graph
@@ -38,17 +37,17 @@ module _ (graph : List (List ℕ)) (itself : List Bool) (order : List ℕ) (orde
   right_none marks k place less at = absurd (omega arith)
 
   module _ (i place : ℕ) (at : slice_get order i ≡ Some place) (refers : List ℕ) (below : slice_get graph place ≡ Some refers) (marks : List Bool) (right : AreRight graph itself order i marks) where
-    earlier : (other : ℕ) → Contains refers other → IsMarked marks other ↔ Touched graph itself other
+    earlier : (other : ℕ) → Contains refers other → IsMarked marks other ↔ TouchedPlace graph itself other
     earlier other h =
         let found = slice_get_from_Contains (take i order) other (ordered.behind i place other at (refers, below, h)) in
         let front = front_place i order found.0 other found.1 in
         right found.0 other front.0 front.1
 
-    touched_next : IsNext itself refers marks place → Touched graph itself place
+    touched_next : IsNext itself refers marks place → TouchedPlace graph itself place
     touched_next (inl marked) = by_itself marked
     touched_next (inr (other, h, marked)) = by_reference (refers, below, h) ((earlier other h).0 marked)
 
-    next_touched : Touched graph itself place → IsNext itself refers marks place
+    next_touched : TouchedPlace graph itself place → IsNext itself refers marks place
     next_touched (by_itself marked) = inl marked
     next_touched (by_reference {other = other} (others, is, h) touched) =
         let both : Some others ≡ Some refers = sym is ∙ below in
@@ -68,22 +67,22 @@ module _ (graph : List (List ℕ)) (itself : List Bool) (order : List ℕ) (orde
           let here : k ≡ i = omega arith in
           let same : other ≡ place = same_at order i other place (ap (slice_get order) (sym here) ∙ at_k) at in
           let is : slice_get (set marks place mark) place ≡ Some mark = slice_get-set_same marks place mark within in
-          subst (λ (p : ℕ). IsMarked (set marks place mark) p ↔ Touched graph itself p) (sym same)
+          subst (λ (p : ℕ). IsMarked (set marks place mark) p ↔ TouchedPlace graph itself p) (sym same)
           (λ h. touched_next (decides.0 (same_mark mark true (sym is ∙ h))), λ touched. is ∙ ap Some (decides.1 (next_touched touched)))
     ]
 
   -- when all places have theirs
-  pub all_right : (marks : List Bool) → length marks ≡ length graph → length itself ≡ length graph → AreRight graph itself order (length order) marks → AreMarked marks (Touched graph itself)
+  pub all_right : (marks : List Bool) → length marks ≡ length graph → length itself ≡ length graph → AreRight graph itself order (length order) marks → AreMarked marks (TouchedPlace graph itself)
   all_right marks many many_itself right place =
       (λ h. (right_at (marked_inside h)).0 h, λ touched. (right_at (touched_inside touched)).1 touched)
     where
-      right_at : place < length graph → IsMarked marks place ↔ Touched graph itself place
+      right_at : place < length graph → IsMarked marks place ↔ TouchedPlace graph itself place
       right_at less = let found = slice_get_from_Contains order place ((ordered.places place).1 less) in right found.0 place (slice_get_within order found.0 place found.1) found.1
 
       marked_inside : IsMarked marks place → place < length graph
       marked_inside h = let less : place < length marks = slice_get_within marks place true h in omega arith
 
-      touched_inside : Touched graph itself place → place < length graph
+      touched_inside : TouchedPlace graph itself place → place < length graph
       touched_inside (by_itself marked) = let less : place < length itself = slice_get_within itself place true marked in omega arith
       touched_inside (by_reference refers touched) = slice_get_within graph place refers.0 refers.1
 
@@ -92,10 +91,13 @@ module _ (graph : List (List ℕ)) (itself : List Bool) (order : List ℕ) (orde
 -- those below a place
 pub record AreBelow (marks : List Bool) (i : ℕ) (places : List ℕ) : Type 0 where
   pub within : (place : ℕ) → Contains places place ↔ ((place < i) × IsMarked marks place)
-  pub ascending : (k : ℕ) → k + 1 < length places → get_or places k 0 < get_or places (k + 1) 0
+  pub ascending : AllPairs (λ one next. one < next) places
 
 pub below_start : (marks : List Bool) → AreBelow marks 0 []
-below_start marks = record { within = λ place. (λ h. absurd (Contains-nil_cases place h), λ h. let less = h.0 in absurd (omega arith)); ascending = λ k less. absurd (omega arith) }
+below_start marks = record {
+  within = λ place. (λ h. absurd (Contains-nil_cases place h), λ h. let less = h.0 in absurd (omega arith));
+  ascending = λ i j d before less. absurd (omega arith);
+}
 
 module _ (marks : List Bool) (i : ℕ) (places : List ℕ) (before : AreBelow marks i places) where
   pub below_plain : slice_get marks i ≡ Some false → AreBelow marks (i + 1) places
@@ -111,7 +113,10 @@ module _ (marks : List Bool) (i : ℕ) (places : List ℕ) (before : AreBelow ma
       ]
 
   pub below_marked : slice_get marks i ≡ Some true → AreBelow marks (i + 1) (places ++ i ∷ [])
-  below_marked at = record { within = λ place. (to place, back place); ascending = ascending }
+  below_marked at = record {
+    within = λ place. (to place, back place);
+    ascending = all_pairs_push (λ one next. one < next) places i before.ascending (λ k d less. ((before.within (get_or places k d)).0 (Contains-get_or places k d less)).0);
+  }
     where
       to : (place : ℕ) → Contains (places ++ i ∷ []) place → (place < i + 1) × IsMarked marks place
       to place h = elim (Contains-push_cases places i place h) [
@@ -127,22 +132,6 @@ module _ (marks : List Bool) (i : ℕ) (places : List ℕ) (before : AreBelow ma
             let same : i ≡ place = omega arith in
             subst (λ (p : ℕ). Contains (places ++ i ∷ []) p) same (Contains-push places i)
       ]
-
-      ascending : (k : ℕ) → k + 1 < length (places ++ i ∷ []) → get_or (places ++ i ∷ []) k 0 < get_or (places ++ i ∷ []) (k + 1) 0
-      ascending k less =
-          let many : length (places ++ i ∷ []) ≡ length places + 1 = length-append places (i ∷ []) in
-          elim (cases_lt (k + 1) (length places)) [
-            | inl inside ↦
-                let low : get_or (places ++ i ∷ []) k 0 ≡ get_or places k 0 = get_or-append places (i ∷ []) 0 k (omega arith) in
-                let high : get_or (places ++ i ∷ []) (k + 1) 0 ≡ get_or places (k + 1) 0 = get_or-append places (i ∷ []) 0 (k + 1) inside in
-                omega (arith, low, high, before.ascending k inside)
-            | inr over ↦
-                let last : k + 1 ≡ length places = omega arith in
-                let low : get_or (places ++ i ∷ []) k 0 ≡ get_or places k 0 = get_or-append places (i ∷ []) 0 k (omega arith) in
-                let high : get_or (places ++ i ∷ []) (k + 1) 0 ≡ i = ap (λ (n : ℕ). get_or (places ++ i ∷ []) n 0) last ∙ get_or-append_seam places i [] 0 in
-                let under = ((before.within (get_or places k 0)).0 (Contains-get_or places k 0 (omega arith))).0 in
-                omega (arith, low, high, under)
-          ]
 
 pub below_all : (marks : List Bool) (places : List ℕ) → AreBelow marks (length marks) places → ArePlaces (IsMarked marks) places
 below_all marks places below = record { all = λ place. (λ h. ((below.within place).0 h).1, λ h. (below.within place).1 (slice_get_within marks place true h, h)); ascending = below.ascending }

@@ -6,8 +6,10 @@
 //! the places, ascending, at which a definition has a name that is `Touched` (project_meaning), and each such name has its place there.
 #![tactic(auto)]
 
+mod bodies;
 mod places;
 mod stand;
+mod texts;
 mod touched;
 
 pub use stand::Stand;

@@ -1,7 +1,8 @@
-ghost use Rattle.std.specs.Prelude.{◌≡◌, ◌<◌, ◌↔◌, [], All, Contains, IfOk, IsTrue, OnOk, length, map, ℕ, List};
+ghost use Rattle.std.specs.Prelude.{◌≡◌, ◌<◌, ◌↔◌, [], All, IfOk, IsTrue, OnOk, length};
 ghost use Rattle.fsm_base.specs.Alphabet.{texts_of};
 ghost use Rattle.fsm_base.specs.Symbols.{number_of, with_text};
-ghost use Rattle.project_meaning.specs.Projects.{with_texts};
+ghost use Rattle.touched_names.specs.Itself.{names_in, places_among};
+ghost use Rattle.word_relations.specs.Words.{IsDistinct};
 
 use fsm_base::{Alphabet, Text};
 use indexmap::IndexSet;
@@ -26,9 +27,9 @@ impl Model for Texts {
 }
 
 impl Texts {
-    /// These texts, each once.
+    /// These texts, which are distinct.
     fn of(alloc: Global, texts: &[Text]) -> Result<Texts, AllocError>
-        ensures { IfOk result (λ all. all ≡ with_texts [] texts.now) }
+        ensures { IsDistinct texts.now → IfOk result (λ all. all ≡ texts.now) }
     {
         let mut all = Texts {
             texts: IndexSet::new(alloc),
@@ -62,13 +63,14 @@ impl Texts {
     }
 }
 
-/// The places of texts among others, which stand there once each. One that isn't there has the next place.
+/// The places of texts among others, which are distinct. One that isn't there has the next place.
 pub(crate) fn places_among(
     alloc: Global,
     others: &[Text],
     texts: &[Text],
 ) -> Result<Vec<usize>, AllocError>
-    ensures { IfOk result (λ places. places.items ≡ map (λ text. number_of text (with_texts [] others.now)) texts.now) }
+    ensures places { IsDistinct others.now → IfOk result (λ places. places.items ≡ places_among others.now texts.now) }
+    ensures count { IfOk result (λ places. length places.items ≡ length texts.now) }
 {
     let others = Texts::of(alloc, others)?;
     let mut places = Vec::new(alloc);
@@ -98,7 +100,7 @@ pub(crate) fn texts_in(alloc: Global, alphabet: &Alphabet) -> Result<Vec<Text>, 
 
 /// The names of definitions, in their order.
 pub(crate) fn names_in(alloc: Global, definitions: &[Definition]) -> Result<Vec<Text>, AllocError>
-    ensures { IfOk result (λ names. names.items ≡ map (λ d. d.name) definitions.now) }
+    ensures { IfOk result (λ names. names.items ≡ names_in definitions.now) }
 {
     let mut names = Vec::new(alloc);
     'definitions: for definition in definitions {
