@@ -41,29 +41,29 @@ all_under f P Q from (x ∷ xs) all = All-cons Q x xs (from x (All-head P (f x) 
 
 -- one after the other
 module _ {A B C : Type 0} (g : B → C) (f : A → B) where
-  abbrev then : A → C
-  then a = g (f a)
+  abbrev joint : A → C
+  joint a = g (f a)
 
-  piece_twice : (p : Piece A) → piece_by g (piece_by f p) ≡ piece_by then p
+  piece_twice : (p : Piece A) → piece_by g (piece_by f p) ≡ piece_by joint p
   piece_twice (letter a) = refl
   piece_twice (flag x) = refl
 
-  form_twice : (form : Form A) → mapped_form g g (mapped_form f f form) ≡ mapped_form then then form
+  form_twice : (form : Form A) → mapped_form g g (mapped_form f f form) ≡ mapped_form joint joint form
   form_twice (sides upper lower) =
-      let p = each_twice (piece_by g) (piece_by f) (piece_by then) piece_twice upper in
-      let q = each_twice (piece_by g) (piece_by f) (piece_by then) piece_twice lower in
+      let p = each_twice (piece_by g) (piece_by f) (piece_by joint) piece_twice upper in
+      let q = each_twice (piece_by g) (piece_by f) (piece_by joint) piece_twice lower in
       λ i. sides (p i) (q i)
   form_twice (pairs e) = ap pairs (mapped_twice g f e)
 
-  entry_twice : (entry : Entry A) → mapped_entry g g (mapped_entry f f entry) ≡ mapped_entry then then entry
+  entry_twice : (entry : Entry A) → mapped_entry g g (mapped_entry f f entry) ≡ mapped_entry joint joint entry
   entry_twice entry = let p = form_twice entry.form in λ i. record { form = p i; next = entry.next }
 
-  lexicon_twice : (l : Lexicon A) → mapped_lexicon g g (mapped_lexicon f f l) ≡ mapped_lexicon then then l
-  lexicon_twice l = let p = each_twice (mapped_entry g g) (mapped_entry f f) (mapped_entry then then) entry_twice l.entries in λ i. record { name = l.name; entries = p i }
+  lexicon_twice : (l : Lexicon A) → mapped_lexicon g g (mapped_lexicon f f l) ≡ mapped_lexicon joint joint l
+  lexicon_twice l = let p = each_twice (mapped_entry g g) (mapped_entry f f) (mapped_entry joint joint) entry_twice l.entries in λ i. record { name = l.name; entries = p i }
 
-  pub body_twice : (b : Body A) → mapped_body g (mapped_body f b) ≡ mapped_body then b
+  pub body_twice : (b : Body A) → mapped_body g (mapped_body f b) ≡ mapped_body joint b
   body_twice (xfst e) = ap xfst (mapped_twice g f e)
-  body_twice (lexc lexicons) = ap lexc (each_twice (mapped_lexicon g g) (mapped_lexicon f f) (mapped_lexicon then then) lexicon_twice lexicons)
+  body_twice (lexc lexicons) = ap lexc (each_twice (mapped_lexicon g g) (mapped_lexicon f f) (mapped_lexicon joint joint) lexicon_twice lexicons)
   body_twice (twolc grammar) = refl
 
 -- by two that agree

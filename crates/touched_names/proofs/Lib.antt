@@ -1,1 +1,5 @@
-mod Marking
+pub mod Bodies
+pub mod Kept
+pub mod Marking
+pub mod Numbers
+pub mod Touching
