@@ -1,11 +1,11 @@
 -- A definition of the new project is one of the old project's exactly where the old definition at the place of its name has the same body
 -- by numbers.
-use Rattle.std.proofs.Common.{◌≡◌, ◌<◌, ◌↔◌, ◌==◌, ℕ, Bool, true, false, List, [], ◌∷◌, length, map, slice_get, Contains, All, IsTrue, Option, None, Some, is_some, refl, sym, ap, subst, ◌∙◌, arith}
+use Rattle.std.proofs.Common.{◌≡◌, ◌<◌, ◌↔◌, ◌==◌, ◌||◌, ℕ, Bool, true, false, List, [], ◌∷◌, length, map, slice_get, Contains, All, IsTrue, Option, None, Some, is_some, refl, sym, ap, subst, ◌∙◌, arith}
 use Rattle.std.specs.List.{list_any, slice_index_or}
 use Rattle.std.specs.Option.{option_map}
 use Rattle.std.proofs.lemmas.Bool.Decides.{nat_tests}
 use Rattle.std.proofs.lemmas.List.{length-map}
-use Rattle.std.proofs.lemmas.List.Elements.{All-contains, All-contains_itself}
+use Rattle.std.proofs.lemmas.List.Elements.{All-contains, All-contains_itself, All-head, All-tail}
 use Rattle.std.proofs.lemmas.Option.{get_or_from_slice_get, same_Some, slice_get-map, slice_get_within}
 use Rattle.word_relations.specs.Words.{IsDistinct}
 use Rattle.word_relations.proofs.Members.{Contains-map, Contains-map_cases}
@@ -28,6 +28,7 @@ use Rattle.name_resolution.specs.Numbered.{numbered}
 use Rattle.project_model.specs.Bodies.{mapped_body}
 use Rattle.project_model.specs.Numbered.{numbers_in}
 use Rattle.project_model.specs.Plain.{body_of}
+use Rattle.project_model.specs.Plans.{IsSoundOver}
 use Rattle.project_model.specs.Stands.{Entry, entry_in, entry_of}
 use Rattle.project_model.specs.declared.definition.Definition.{Definition}
 use Rattle.project_model.proofs.Alphabets.{at_number, number_within, numbers_held, symbols_of-listed}
@@ -42,7 +43,19 @@ use Rattle.touched_names.proofs.Numbers.{held_below, number_at_place, number_the
 -- a symbol among others has the number of one of them
 any_below : (n s : ℕ) (symbols : List Symbol) → All (λ (t : Symbol). t.0 < n) symbols → IsTrue (list_any (λ (t : Symbol). t.0 == s) symbols) → s < n
 any_below n s [] all any = let never : false ≡ true = any in absurd (cc)
-any_below n s (t ∷ symbols) all any = grind (arith, nat_tests, any_below n s symbols)
+any_below n s (t ∷ symbols) all any = by (t.0 == s) refl
+  where
+    equal : (n m : ℕ) → (n == m) ≡ true → n ≡ m
+    equal n m e = grind (arith, nat_tests)
+
+    by : (b : Bool) → (t.0 == s) ≡ b → s < n
+    by true e =
+        let less = All-head (λ (x : Symbol). x.0 < n) t symbols all in
+        let is = equal t.0 s e in
+        omega (arith, less, is)
+    by false e =
+        any_below n s symbols (All-tail (λ (x : Symbol). x.0 < n) t symbols all)
+        (subst (λ (b : Bool). IsTrue (b || list_any (λ (x : Symbol). x.0 == s) symbols)) e any)
 
 some_within : {X : Type 0} (xs : List X) (k : ℕ) → IsTrue (is_some (slice_get xs k)) → k < length xs
 some_within xs k there = by (slice_get xs k) refl there
@@ -133,7 +146,7 @@ module _ (said : Said) (definitions : List Definition) (symbols : List (Symbol �
   name_of_written k w at = slice_get-map (λ (w : Written). w.name) said.written k ∙ ap (option_map (λ (w : Written). w.name)) at
 
   pub body_built : (k : ℕ) (d : Definition) → slice_get definitions k ≡ Some d → BodyIsBuiltBy leaf letter (body_of d.body)
-  body_built k d at = (All-contains _ definitions d stand.plan.sound (Contains-from_slice_get definitions k d at)).built
+  body_built k d at = (All-contains (IsSoundOver stand.forms (symbols_of symbols)) definitions d stand.plan.sound (Contains-from_slice_get definitions k d at)).built
 
 -- the old project and the new one
 module _ (before after : Said) (olds news : List Definition) (old_symbols new_symbols : List (Symbol × List ℕ)) (old : StandFor before olds old_symbols) (new : StandFor after news new_symbols)
@@ -260,4 +273,4 @@ module _ (before after : Said) (olds news : List Definition) (old_symbols new_sy
             (a, ap (slice_get olds) (there ∙ place) ∙ at, (same_bodies k j a d v w at at_j (sym a_is) d_is).1 body_same)
 
     pub uses_is : uses_symbols (body_of d.body) ≡ body_uses_alphabet new_one.body
-    uses_is = ap uses_symbols (sym (ap (λ (e : Entry). e.body) d_is)) ∙ uses_by_leaves Nn (resolved new_names w.body)
+    uses_is = ap (λ (b : Body Atom). uses_symbols b) (sym (ap (λ (e : Entry). e.body) d_is)) ∙ uses_by_leaves Nn (resolved new_names w.body)

@@ -1,18 +1,16 @@
 -- The numbers of texts in distinct lists.
-use Rattle.std.proofs.Common.{◌≡◌, ◌<◌, ◌≤◌, ◌+◌, ◌↔◌, ℕ, Bool, true, false, List, [], ◌∷◌, ◌++◌, length, map, take, get_or, slice_get, Contains, All, Some, ◌⊎◌, inl, inr, refl, sym, ap, subst, ◌∙◌, arith}
-use Rattle.std.proofs.lemmas.List.Elements.{All-contains, All-from_each, Contains-get_or}
+use Rattle.std.proofs.Common.{◌≡◌, ◌<◌, ℕ, List, [], length, get_or, slice_get, Contains, Some, sym, ap, subst, ◌∙◌}
+use Rattle.std.proofs.lemmas.List.Elements.{Contains-get_or}
 use Rattle.std.proofs.lemmas.List.Sums.{passes_at_first}
-use Rattle.std.proofs.lemmas.Option.{slice_get-map, slice_get_within, get_or_from_slice_get, slice_get-get_or}
+use Rattle.std.proofs.lemmas.Option.{slice_get-map, get_or_from_slice_get}
 use Rattle.std.proofs.lemmas.Slice.Eq.{bytes_eq-Decides}
-use Rattle.std.specs.List.{list_any}
 use Rattle.std.specs.Option.{option_map}
 use Rattle.std.specs.Str.{bytes_eq}
-use Rattle.fsm_base.specs.Symbols.{number_of, with_text}
+use Rattle.fsm_base.specs.Symbols.{number_of}
 use Rattle.word_relations.specs.Words.{IsDistinct}
-use Rattle.word_relations.proofs.Places.{Contains-from_slice_get, slice_get_from_Contains}
-use Rattle.name_resolution.proofs.Texts.{has_from_any, with_text-new}
+use Rattle.word_relations.proofs.Places.{Contains-from_slice_get}
 use Rattle.expr_equality.specs.Renumbered.{number_at}
-use Rattle.project_model.proofs.Alphabets.{at_number, cases_bool, number_within}
+use Rattle.project_model.proofs.Alphabets.{at_number}
 use Rattle.touched_names.specs.Itself.{places_among}
 
 -- a text whose number is below the length is there
