@@ -1,6 +1,6 @@
 -- Two lists that are compared item by item, each item as something that both can be.
 use Rattle.std.proofs.Common.{◌≡◌, ◌≢◌, ◌↔◌, ◌+◌, ◌<◌, ◌≤◌, ℕ, List, [], ◌∷◌, length, drop, get_or, map, refl, sym, ap, ◌∙◌, arith}
-use Rattle.std.proofs.lemmas.List.{drop_all}
+use Rattle.std.proofs.lemmas.List.{drop_all, length-map}
 use Rattle.word_relations.proofs.Behind.{left_behind}
 
 -- they are the same exactly where they are so from a place on
@@ -37,8 +37,9 @@ module _ {X Y Z : Type 0} (g : X → Z) (h : Y → Z) (xs : List X) (ys : List Y
 
   -- lists of the same items are as long
   pub as_long : map g xs ≡ map h ys → length xs ≡ length ys
-  as_long same = sym (length_map_of g xs) ∙ ap length same ∙ length_map_of h ys
-    where
-      length_map_of : {V : Type 0} (k : V → Z) (vs : List V) → length (map k vs) ≡ length vs
-      length_map_of k [] = refl
-      length_map_of k (v ∷ vs) = ap (λ (n : ℕ). n + 1) (length_map_of k vs)
+  as_long same = sym (length-map xs g) ∙ ap length same ∙ length-map ys h
+
+-- items as they are
+pub map_itself : {X : Type 0} (xs : List X) → map (λ x. x) xs ≡ xs
+map_itself [] = refl
+map_itself {X} (x ∷ xs) = ap (λ (z : List X). x ∷ z) (map_itself xs)

@@ -16,7 +16,9 @@ fn same_token(other: Token, token: Token, numbers: &Renumbering) -> bool
 {
     match (other, token) {
         (Token::Leaf(other), Token::Leaf(leaf)) => numbers.same_leaf(other, leaf),
-        (Token::Head(other), Token::Head(head)) => other == head,
+        (Token::Node(other), Token::Node(node)) => other == node,
+        (Token::Item(other), Token::Item(item)) => other == item,
+        (Token::End(other), Token::End(list)) => other == list,
         _ => false,
     }
 }

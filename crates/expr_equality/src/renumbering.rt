@@ -4,7 +4,7 @@ ghost use Rattle.expr_equality.specs.Renumbered.{number_at, renumbered};
 use regex_ast::Atom;
 
 /// Which numbers the symbols and the names of one project have in another one.
-#[derive(Debug, Drop)]
+#[derive(Drop)]
 pub struct Renumbering {
     /// For each symbol, by its number, its number in the other project.
     pub symbols: Vec<usize>,

@@ -1,55 +1,69 @@
 use regex_ast::{Atom, Prefix, Side, Suffix};
 
-/// A piece of an expression that is written as a row: a leaf, or what stands before the parts of a node.
-#[derive(Clone, Copy, Debug, Drop)]
+/// A piece of an expression that is written as a row.
+#[derive(Clone, Copy)]
 pub(crate) enum Token {
     /// A leaf.
     Leaf(Atom),
-    /// The head of a node.
-    Head(Head),
+    /// What a node is; its parts follow.
+    Node(Node),
+    /// What an item of a list is; its parts and the other items follow.
+    Item(Item),
+    /// The end of a list.
+    End(Row),
 }
 
-/// What a node is, without its parts: of an expression, of an item of a list, or of a list's end.
-#[derive(Clone, Copy, Debug, PartialEq, Eq)]
-pub(crate) enum Head {
+/// What a node of an expression is, without its parts.
+#[derive(Clone, Copy, PartialEq, Eq)]
+pub(crate) enum Node {
     Empty,
     Any,
     Edge,
     Atom,
     Letters,
-    Letter,
-    NoLetter,
     Group,
     Maybe,
     NotOne(u32),
     Cross,
     Suffixed,
-    OneSuffix(Suffix),
-    NoSuffix,
     Prefixed,
-    OnePrefix(Prefix),
-    NoPrefix,
     Ignore,
     Concat,
-    Operand,
-    NoOperand,
     Chain,
+    Only,
+    Rules(bool),
+    Steps,
+}
+
+/// What an item of a list is, without its parts.
+#[derive(Clone, Copy, PartialEq, Eq)]
+pub(crate) enum Item {
+    Letter,
+    OneSuffix(Suffix),
+    OnePrefix(Prefix),
+    Operand,
     Or,
     And,
     Less,
-    NoLink,
-    Only,
     Between,
-    NoContext,
-    Rules(bool),
     Rewrite(Side),
-    NoGroup,
     Plain,
     Markup,
     Insert,
-    NoMapping,
-    Steps,
     CrossWith,
     Then,
-    NoStep,
+}
+
+/// What a list is of.
+#[derive(Clone, Copy, PartialEq, Eq)]
+pub(crate) enum Row {
+    Letters,
+    Suffixes,
+    Prefixes,
+    Operands,
+    Links,
+    Contexts,
+    Groups,
+    Mappings,
+    Steps,
 }

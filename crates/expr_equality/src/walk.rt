@@ -1,10 +1,10 @@
 ghost use Rattle.std.specs.Prelude.{◌≡◌, ◌++◌, ◌∷◌, [], map, IfOk, OnOk};
 ghost use Rattle.regex_ast.specs.Terms.{term, terms_of, links_of, contexts_of, steps_by, mappings_of, groups_of};
 ghost use Rattle.expr_equality.specs.Items.{context_item, group_item, link_item, mapping_item, step_item};
-ghost use Rattle.expr_equality.specs.Rows.{context_row, group_row, head_of, letter_row, link_row, mapping_row, operand_row, parts, prefix_row, row_of, step_row, suffix_row};
+ghost use Rattle.expr_equality.specs.Rows.{context_row, group_row, node_of, letter_row, link_row, mapping_row, operand_row, parts, prefix_row, row_of, step_row, suffix_row};
 ghost use Rattle.expr_equality.specs.declared.token.Token.TheVariants as token;
 
-use crate::token::{Head, Token};
+use crate::token::{Item, Node, Row, Token};
 use regex_ast::{Atom, Context, Expr, Group, Link, Mapping, Prefix, Step, Suffix};
 use std::alloc::{AllocError, Global};
 
@@ -17,11 +17,27 @@ pub(crate) fn row_of(alloc: Global, expr: &Expr<Atom>) -> Result<Vec<Token>, All
     Ok(row)
 }
 
-/// Adds a head.
-fn add_head(head: Head, row: &mut Vec<Token>) -> Result<(), AllocError>
-    ensures { OnOk result (row.new.items ≡ row.old.items ++ token.Head head ∷ []) }
+/// Adds what a node is.
+fn add_node(node: Node, row: &mut Vec<Token>) -> Result<(), AllocError>
+    ensures { OnOk result (row.new.items ≡ row.old.items ++ token.Node node ∷ []) }
 {
-    row.push(Token::Head(head))?;
+    row.push(Token::Node(node))?;
+    Ok(())
+}
+
+/// Adds what an item of a list is.
+fn add_item(item: Item, row: &mut Vec<Token>) -> Result<(), AllocError>
+    ensures { OnOk result (row.new.items ≡ row.old.items ++ token.Item item ∷ []) }
+{
+    row.push(Token::Item(item))?;
+    Ok(())
+}
+
+/// Adds the end of a list.
+fn add_end(list: Row, row: &mut Vec<Token>) -> Result<(), AllocError>
+    ensures { OnOk result (row.new.items ≡ row.old.items ++ token.End list ∷ []) }
+{
+    row.push(Token::End(list))?;
     Ok(())
 }
 
@@ -38,10 +54,10 @@ fn add_letters(letters: &[Atom], row: &mut Vec<Token>) -> Result<(), AllocError>
     ensures { OnOk result (row.new.items ≡ row.old.items ++ letter_row letters.now) }
 {
     'letters: for letter in letters {
-        add_head(Head::Letter, row)?;
+        add_item(Item::Letter, row)?;
         add_leaf(*letter, row)?;
     }
-    add_head(Head::NoLetter, row)
+    add_end(Row::Letters, row)
 }
 
 /// Adds suffixes.
@@ -49,9 +65,9 @@ fn add_suffixes(suffixes: &[Suffix], row: &mut Vec<Token>) -> Result<(), AllocEr
     ensures { OnOk result (row.new.items ≡ row.old.items ++ suffix_row suffixes.now) }
 {
     'suffixes: for suffix in suffixes {
-        add_head(Head::OneSuffix(*suffix), row)?;
+        add_item(Item::OneSuffix(*suffix), row)?;
     }
-    add_head(Head::NoSuffix, row)
+    add_end(Row::Suffixes, row)
 }
 
 /// Adds prefixes.
@@ -59,33 +75,33 @@ fn add_prefixes(prefixes: &[Prefix], row: &mut Vec<Token>) -> Result<(), AllocEr
     ensures { OnOk result (row.new.items ≡ row.old.items ++ prefix_row prefixes.now) }
 {
     'prefixes: for prefix in prefixes {
-        add_head(Head::OnePrefix(*prefix), row)?;
+        add_item(Item::OnePrefix(*prefix), row)?;
     }
-    add_head(Head::NoPrefix, row)
+    add_end(Row::Prefixes, row)
 }
 
 /// What an expression is, without its parts.
-fn head_of(expr: &Expr<Atom>) -> Head
-    ensures { result ≡ head_of (term expr.now) }
+fn node_of(expr: &Expr<Atom>) -> Node
+    ensures { result ≡ node_of (term expr.now) }
 {
     match expr {
-        Expr::Empty => Head::Empty,
-        Expr::Any => Head::Any,
-        Expr::Edge => Head::Edge,
-        Expr::Atom(_) => Head::Atom,
-        Expr::Letters(_) => Head::Letters,
-        Expr::Group(_) => Head::Group,
-        Expr::Maybe(_) => Head::Maybe,
-        Expr::NotOne(marks, _) => Head::NotOne(*marks),
-        Expr::Cross(_, _) => Head::Cross,
-        Expr::Suffixed(_, _) => Head::Suffixed,
-        Expr::Prefixed(_, _) => Head::Prefixed,
-        Expr::Ignore(_) => Head::Ignore,
-        Expr::Concat(_) => Head::Concat,
-        Expr::Chain(_, _) => Head::Chain,
-        Expr::Only(_, _) => Head::Only,
-        Expr::Rules(rules) => Head::Rules(rules.optional),
-        Expr::Steps(_, _) => Head::Steps,
+        Expr::Empty => Node::Empty,
+        Expr::Any => Node::Any,
+        Expr::Edge => Node::Edge,
+        Expr::Atom(_) => Node::Atom,
+        Expr::Letters(_) => Node::Letters,
+        Expr::Group(_) => Node::Group,
+        Expr::Maybe(_) => Node::Maybe,
+        Expr::NotOne(marks, _) => Node::NotOne(*marks),
+        Expr::Cross(_, _) => Node::Cross,
+        Expr::Suffixed(_, _) => Node::Suffixed,
+        Expr::Prefixed(_, _) => Node::Prefixed,
+        Expr::Ignore(_) => Node::Ignore,
+        Expr::Concat(_) => Node::Concat,
+        Expr::Chain(_, _) => Node::Chain,
+        Expr::Only(_, _) => Node::Only,
+        Expr::Rules(rules) => Node::Rules(rules.optional),
+        Expr::Steps(_, _) => Node::Steps,
     }
 }
 
@@ -94,7 +110,7 @@ fn head_of(expr: &Expr<Atom>) -> Head
 fn add_expr(expr: &Expr<Atom>, row: &mut Vec<Token>) -> Result<(), AllocError>
     ensures { OnOk result (row.new.items ≡ row.old.items ++ row_of (term expr.now)) }
 {
-    add_head(head_of(expr), row)?;
+    add_node(node_of(expr), row)?;
     match expr {
         Expr::Empty => Ok(()),
         Expr::Any => Ok(()),
@@ -140,10 +156,10 @@ fn add_operands(operands: &[Expr<Atom>], row: &mut Vec<Token>) -> Result<(), All
     ensures { OnOk result (row.new.items ≡ row.old.items ++ operand_row (terms_of (map term operands.now))) }
 {
     'operands: for operand in operands {
-        add_head(Head::Operand, row)?;
+        add_item(Item::Operand, row)?;
         add_expr(operand, row)?;
     }
-    add_head(Head::NoOperand, row)
+    add_end(Row::Operands, row)
 }
 
 /// Adds an operand of a row of `|`, `&` and `-`.
@@ -153,15 +169,15 @@ fn add_link(link: &Link<Atom>, row: &mut Vec<Token>) -> Result<(), AllocError>
 {
     match link {
         Link::Or(operand) => {
-            add_head(Head::Or, row)?;
+            add_item(Item::Or, row)?;
             add_expr(operand, row)
         }
         Link::And(operand) => {
-            add_head(Head::And, row)?;
+            add_item(Item::And, row)?;
             add_expr(operand, row)
         }
         Link::Less(operand) => {
-            add_head(Head::Less, row)?;
+            add_item(Item::Less, row)?;
             add_expr(operand, row)
         }
     }
@@ -175,7 +191,7 @@ fn add_links(links: &[Link<Atom>], row: &mut Vec<Token>) -> Result<(), AllocErro
     'links: for link in links {
         add_link(link, row)?;
     }
-    add_head(Head::NoLink, row)
+    add_end(Row::Links, row)
 }
 
 /// Adds a context.
@@ -183,7 +199,7 @@ fn add_links(links: &[Link<Atom>], row: &mut Vec<Token>) -> Result<(), AllocErro
 fn add_context(context: &Context<Atom>, row: &mut Vec<Token>) -> Result<(), AllocError>
     ensures { OnOk result (row.new.items ≡ row.old.items ++ context_item context.now) }
 {
-    add_head(Head::Between, row)?;
+    add_item(Item::Between, row)?;
     add_expr(&context.left, row)?;
     add_expr(&context.right, row)
 }
@@ -196,7 +212,7 @@ fn add_contexts(contexts: &[Context<Atom>], row: &mut Vec<Token>) -> Result<(), 
     'contexts: for context in contexts {
         add_context(context, row)?;
     }
-    add_head(Head::NoContext, row)
+    add_end(Row::Contexts, row)
 }
 
 /// Adds an operand of a row of `.x.` and `.o.`.
@@ -206,11 +222,11 @@ fn add_step(step: &Step<Atom>, row: &mut Vec<Token>) -> Result<(), AllocError>
 {
     match step {
         Step::CrossWith(operand) => {
-            add_head(Head::CrossWith, row)?;
+            add_item(Item::CrossWith, row)?;
             add_expr(operand, row)
         }
         Step::Then(operand) => {
-            add_head(Head::Then, row)?;
+            add_item(Item::Then, row)?;
             add_expr(operand, row)
         }
     }
@@ -224,7 +240,7 @@ fn add_steps(steps: &[Step<Atom>], row: &mut Vec<Token>) -> Result<(), AllocErro
     'steps: for step in steps {
         add_step(step, row)?;
     }
-    add_head(Head::NoStep, row)
+    add_end(Row::Steps, row)
 }
 
 /// Adds a group of mappings.
@@ -232,7 +248,7 @@ fn add_steps(steps: &[Step<Atom>], row: &mut Vec<Token>) -> Result<(), AllocErro
 fn add_group(group: &Group<Atom>, row: &mut Vec<Token>) -> Result<(), AllocError>
     ensures { OnOk result (row.new.items ≡ row.old.items ++ group_item group.now) }
 {
-    add_head(Head::Rewrite(group.side), row)?;
+    add_item(Item::Rewrite(group.side), row)?;
     add_mappings(&group.maps, row)?;
     add_contexts(&group.contexts, row)
 }
@@ -245,7 +261,7 @@ fn add_groups(groups: &[Group<Atom>], row: &mut Vec<Token>) -> Result<(), AllocE
     'groups: for group in groups {
         add_group(group, row)?;
     }
-    add_head(Head::NoGroup, row)
+    add_end(Row::Groups, row)
 }
 
 /// Adds a mapping.
@@ -255,7 +271,7 @@ fn add_mapping(map: &Mapping<Atom>, row: &mut Vec<Token>) -> Result<(), AllocErr
 {
     match map {
         Mapping::Plain { centre, result } => {
-            add_head(Head::Plain, row)?;
+            add_item(Item::Plain, row)?;
             add_expr(centre, row)?;
             add_expr(result, row)
         }
@@ -264,13 +280,13 @@ fn add_mapping(map: &Mapping<Atom>, row: &mut Vec<Token>) -> Result<(), AllocErr
             before,
             after,
         } => {
-            add_head(Head::Markup, row)?;
+            add_item(Item::Markup, row)?;
             add_expr(centre, row)?;
             add_expr(before, row)?;
             add_expr(after, row)
         }
         Mapping::Insert { result } => {
-            add_head(Head::Insert, row)?;
+            add_item(Item::Insert, row)?;
             add_expr(result, row)
         }
     }
@@ -284,5 +300,5 @@ fn add_mappings(maps: &[Mapping<Atom>], row: &mut Vec<Token>) -> Result<(), Allo
     'maps: for map in maps {
         add_mapping(map, row)?;
     }
-    add_head(Head::NoMapping, row)
+    add_end(Row::Mappings, row)
 }
