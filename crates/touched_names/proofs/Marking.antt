@@ -8,18 +8,11 @@ use Rattle.std.proofs.lemmas.List.Quantifiers.{all_pairs_push}
 use Rattle.word_relations.proofs.Places.{Contains-from_slice_get, slice_get_from_Contains, slice_get-set_same, slice_get-set_other, same_at}
 use Rattle.name_order.specs.Graph.{Refers}
 use Rattle.name_order.specs.Orders.{IsOrder}
+use Rattle.touched_names.proofs.Numbers.{front_place}
 use Rattle.touched_names.specs.Places.{AreMarked, ArePlaces, HasMarked, IsMarked, TouchedPlace, by_itself, by_reference}
 
 same_mark : (a b : Bool) → Some a ≡ Some b → a ≡ b
 same_mark a b same = cc
-
--- a place of a front
-front_place : (n : ℕ) (xs : List ℕ) (k x : ℕ) → slice_get (take n xs) k ≡ Some x → (k < n) × (slice_get xs k ≡ Some x)
-front_place zero [] k x at = cc
-front_place zero (y ∷ xs) k x at = cc
-front_place (suc n) [] k x at = cc
-front_place (suc n) (y ∷ xs) zero x at = (omega arith, at)
-front_place (suc n) (y ∷ xs) (suc k) x at = let rest = front_place n xs k x at in (omega (arith, rest.0), rest.1)
 
 -- the marks of the first places of the order are right
 abbrev pub AreRight : List (List ℕ) → List Bool → List ℕ → ℕ → List Bool → Type 0
@@ -28,6 +21,19 @@ AreRight graph itself order i marks = (k place : ℕ) → k < i → slice_get or
 -- the place is touched by itself, or refers to a marked one
 abbrev pub IsNext : List Bool → List ℕ → List Bool → ℕ → Type 0
 IsNext itself refers marks place = IsMarked itself place ⊎ HasMarked marks refers
+
+-- a mark that tells whether the place is so by itself, or refers to a marked place
+pub decided : (itself marks : List Bool) (place : ℕ) (own mark : Bool) (refers others : List ℕ) → slice_get itself place ≡ Some own → refers ≡ others
+    → (mark ≡ true ↔ ((own ≡ true) ⊎ HasMarked marks others)) → mark ≡ true ↔ IsNext itself refers marks place
+decided itself marks place own mark refers others at same told =
+    ( λ yes. elim (told.0 yes) as (λ _. IsNext itself refers marks place) [
+        | inl is ↦ inl (at ∙ ap (λ (b : Bool). Some b) is)
+        | inr has ↦ inr (subst (HasMarked marks) (sym same) has)
+      ]
+    , λ next. elim next as (λ _. mark ≡ true) [
+        | inl is ↦ told.1 (inl (same_mark own true (sym at ∙ is)))
+        | inr has ↦ told.1 (inr (subst (HasMarked marks) same has))
+      ])
 
 module _ (graph : List (List ℕ)) (itself : List Bool) (order : List ℕ) (ordered : IsOrder graph order) where
   pub place_inside : (i place : ℕ) → slice_get order i ≡ Some place → place < length graph

@@ -72,10 +72,10 @@ pub(crate) fn places_among(
     ensures places { IsDistinct others.now → IfOk result (λ places. places.items ≡ places_among others.now texts.now) }
     ensures count { IfOk result (λ places. length places.items ≡ length texts.now) }
 {
-    let others = Texts::of(alloc, others)?;
+    let table = Texts::of(alloc, others)?;
     let mut places = Vec::new(alloc);
     'texts: for text in texts {
-        places.push(others.number_of(text.as_str()))?;
+        places.push(table.number_of(text.as_str()))?;
     }
     Ok(places)
 }
