@@ -54,7 +54,7 @@ module _ {A B : Type 0} (leaf letter : A → Bool) (f g : A → B) (on_leaf : (a
 
     contexts_alike : (contexts : Contexts A) → ContextsAreBuiltBy leaf letter contexts → mapped_contexts f contexts ≡ mapped_contexts g contexts
     contexts_alike no_context h = refl
-    contexts_alike (between l r contexts) h = let p0 = alike l h.0 in let p1 = alike r h.1.0 in let p2 = contexts_alike contexts h.1.1 in λ i. between (p0 i) (p1 i) (p2 i)
+    contexts_alike (between l r contexts) h = let p0 = alike l h.0 in let p1 = alike r h.1 in let p2 = contexts_alike contexts h.2 in λ i. between (p0 i) (p1 i) (p2 i)
 
     steps_alike : (more : Steps A) → StepsAreBuiltBy leaf letter more → mapped_steps f more ≡ mapped_steps g more
     steps_alike no_step h = refl
@@ -63,13 +63,13 @@ module _ {A B : Type 0} (leaf letter : A → Bool) (f g : A → B) (on_leaf : (a
 
     mappings_alike : (maps : Mappings A) → MappingsAreBuiltBy leaf letter maps → mapped_mappings f maps ≡ mapped_mappings g maps
     mappings_alike no_mapping h = refl
-    mappings_alike (plain c r maps) h = let p0 = alike c h.1.0 in let p1 = alike r h.1.1.0 in let p2 = mappings_alike maps h.1.1.1 in λ i. plain (p0 i) (p1 i) (p2 i)
-    mappings_alike (markup c b a maps) h = let p0 = alike c h.1.0 in let p1 = alike b h.1.1.0 in let p2 = alike a h.1.1.1.0 in let p3 = mappings_alike maps h.1.1.1.1 in λ i. markup (p0 i) (p1 i) (p2 i) (p3 i)
+    mappings_alike (plain c r maps) h = let p0 = alike c h.1 in let p1 = alike r h.2 in let p2 = mappings_alike maps h.3 in λ i. plain (p0 i) (p1 i) (p2 i)
+    mappings_alike (markup c b a maps) h = let p0 = alike c h.1 in let p1 = alike b h.2 in let p2 = alike a h.3 in let p3 = mappings_alike maps h.4 in λ i. markup (p0 i) (p1 i) (p2 i) (p3 i)
     mappings_alike (insert r maps) h = let p0 = alike r h.0 in let p1 = mappings_alike maps h.1 in λ i. insert (p0 i) (p1 i)
 
     groups_alike : (groups : Groups A) → GroupsAreBuiltBy leaf letter groups → mapped_groups f groups ≡ mapped_groups g groups
     groups_alike no_group h = refl
-    groups_alike (then_group maps side contexts groups) h = let p0 = mappings_alike maps h.0 in let p1 = contexts_alike contexts h.1.0 in let p2 = groups_alike groups h.1.1 in λ i. then_group (p0 i) side (p1 i) (p2 i)
+    groups_alike (then_group maps side contexts groups) h = let p0 = mappings_alike maps h.0 in let p1 = contexts_alike contexts h.1 in let p2 = groups_alike groups h.2 in λ i. then_group (p0 i) side (p1 i) (p2 i)
 
 module _ {A : Type 0} where
   letters_same : (all : List A) → map (λ a. a) all ≡ all
