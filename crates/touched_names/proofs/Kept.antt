@@ -37,7 +37,7 @@ use Rattle.project_model.proofs.Referring.{at_map}
 use Rattle.touched_names.specs.Bodies.{uses_symbols}
 use Rattle.touched_names.specs.Itself.{AreNumbers, IsKept, names_in, number_there, places_among}
 use Rattle.touched_names.specs.Touched.{StandFor}
-use Rattle.touched_names.proofs.Bodies.{body_alike, body_same, body_twice, body_under, uses_by_leaves}
+use Rattle.touched_names.proofs.Leafwise.{body_alike, body_same, body_twice, body_under, uses_by_leaves}
 use Rattle.touched_names.proofs.Numbers.{held_below, number_at_place, number_there_is}
 
 -- a symbol among others has the number of one of them

@@ -1,5 +1,5 @@
-pub mod Bodies
 pub mod Kept
+pub mod Leafwise
 pub mod Marking
 pub mod Numbers
 pub mod Touching

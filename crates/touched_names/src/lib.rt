@@ -7,10 +7,10 @@
 #![tactic(auto)]
 
 mod bodies;
+mod changes;
 mod places;
 mod stand;
 mod texts;
-mod touched;
 
+pub use changes::touched;
 pub use stand::Stand;
-pub use touched::touched;

@@ -2,7 +2,7 @@ use Rattle.std.proofs.Common.{◌≡◌, ◌<◌, ◌↔◌, ℕ, IsTrue, Some, 
 use Rattle.project_model.specs.declared.definition.Definition.{Definition}
 use Rattle.touched_names.specs.Itself.{IsTouchedItself, number_there}
 use Rattle.touched_names.specs.Places.{IsMarked}
-use Rattle.touched_names.proofs.touched.touched_themselves.Given as goal
+use Rattle.touched_names.proofs.changes.touched_themselves.Given as goal
 
 -- the definitions so far are marked right
 abbrev pub invariant-definitions : goal.invariant-definitions
