@@ -91,7 +91,7 @@ module _ (f : Atom → Atom) where
     by_contexts no_context = refl
     by_contexts (between l r contexts) = ap (λ (z : List Token). Item item.Between ∷ z)
         (two (row_of l ++ row_of r) (context_row contexts) (row_of (mapped f l) ++ row_of (mapped f r)) (context_row (mapped_contexts f contexts))
-          (two (row_of l) (row_of r) (row_of (mapped f l)) (row_of (mapped f r)) (whole_row l (by_parts l)) (whole_row r (by_parts r))) (by_contexts contexts))
+        (two (row_of l) (row_of r) (row_of (mapped f l)) (row_of (mapped f r)) (whole_row l (by_parts l)) (whole_row r (by_parts r))) (by_contexts contexts))
 
     by_steps : (more : Steps Atom) → by (step_row more) ≡ step_row (mapped_steps f more)
     by_steps no_step = refl
@@ -102,18 +102,18 @@ module _ (f : Atom → Atom) where
     by_mappings no_mapping = refl
     by_mappings (plain c r maps) = ap (λ (z : List Token). Item item.Plain ∷ z)
         (two (row_of c ++ row_of r) (mapping_row maps) (row_of (mapped f c) ++ row_of (mapped f r)) (mapping_row (mapped_mappings f maps))
-          (two (row_of c) (row_of r) (row_of (mapped f c)) (row_of (mapped f r)) (whole_row c (by_parts c)) (whole_row r (by_parts r))) (by_mappings maps))
+        (two (row_of c) (row_of r) (row_of (mapped f c)) (row_of (mapped f r)) (whole_row c (by_parts c)) (whole_row r (by_parts r))) (by_mappings maps))
     by_mappings (markup c b a maps) = ap (λ (z : List Token). Item item.Markup ∷ z)
         (two ((row_of c ++ row_of b) ++ row_of a) (mapping_row maps) ((row_of (mapped f c) ++ row_of (mapped f b)) ++ row_of (mapped f a)) (mapping_row (mapped_mappings f maps))
-          (two (row_of c ++ row_of b) (row_of a) (row_of (mapped f c) ++ row_of (mapped f b)) (row_of (mapped f a))
-            (two (row_of c) (row_of b) (row_of (mapped f c)) (row_of (mapped f b)) (whole_row c (by_parts c)) (whole_row b (by_parts b))) (whole_row a (by_parts a))) (by_mappings maps))
+        (two (row_of c ++ row_of b) (row_of a) (row_of (mapped f c) ++ row_of (mapped f b)) (row_of (mapped f a))
+        (two (row_of c) (row_of b) (row_of (mapped f c)) (row_of (mapped f b)) (whole_row c (by_parts c)) (whole_row b (by_parts b))) (whole_row a (by_parts a))) (by_mappings maps))
     by_mappings (insert r maps) = ap (λ (z : List Token). Item item.Insert ∷ z) (two (row_of r) (mapping_row maps) (row_of (mapped f r)) (mapping_row (mapped_mappings f maps)) (whole_row r (by_parts r)) (by_mappings maps))
 
     by_groups : (groups : Groups Atom) → by (group_row groups) ≡ group_row (mapped_groups f groups)
     by_groups no_group = refl
     by_groups (then_group maps side contexts groups) = ap (λ (z : List Token). Item (item.Rewrite side) ∷ z)
         (two (mapping_row maps ++ context_row contexts) (group_row groups) (mapping_row (mapped_mappings f maps) ++ context_row (mapped_contexts f contexts)) (group_row (mapped_groups f groups))
-          (two (mapping_row maps) (context_row contexts) (mapping_row (mapped_mappings f maps)) (context_row (mapped_contexts f contexts)) (by_mappings maps) (by_contexts contexts)) (by_groups groups))
+        (two (mapping_row maps) (context_row contexts) (mapping_row (mapped_mappings f maps)) (context_row (mapped_contexts f contexts)) (by_mappings maps) (by_contexts contexts)) (by_groups groups))
 
   by_row : (t : Term Atom) → by (row_of t) ≡ row_of (mapped f t)
   by_row t = whole_row t (by_parts t)

@@ -21,9 +21,10 @@ module _ {X Y Z : Type 0} (g : X → Z) (h : Y → Z) (xs : List X) (ys : List Y
     -- these items are the same
     pub goes_on : g x ≡ h y → Goes g h xs ys i → Goes g h xs ys (i + 1)
     goes_on same so_far =
-        let xl = left_x in let yl = left_y in
-        ( λ rest. let both : map g (drop i xs) ≡ map h (drop i ys) = cc in so_far.0 both
-        , λ whole. let both : g x ∷ map g (drop (i + 1) xs) ≡ h y ∷ map h (drop (i + 1) ys) = sym xl ∙ so_far.1 whole ∙ yl in cc)
+        let xl = left_x in let yl = left_y in (
+          λ rest. let both : map g (drop i xs) ≡ map h (drop i ys) = cc in so_far.0 both,
+          λ whole. let both : g x ∷ map g (drop (i + 1) xs) ≡ h y ∷ map h (drop (i + 1) ys) = sym xl ∙ so_far.1 whole ∙ yl in cc,
+        )
 
     -- they differ
     pub goes_wrong : (g x ≡ h y → ⊥) → Goes g h xs ys i → map g xs ≡ map h ys → ⊥

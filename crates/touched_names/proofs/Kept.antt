@@ -225,13 +225,14 @@ module _ (before after : Said) (olds news : List Definition) (old_symbols new_sy
     old_built = subst (BodyIsBuiltBy (leaf before olds old_symbols old) (letter before olds old_symbols old)) old_body (body_built before olds old_symbols old k a at_k)
 
     pub same_bodies : body_of a.body ≡ mapped_body R (body_of d.body) ↔ bo ≡ bn
-    same_bodies =
-        ( λ same.
-            let numbers_same : mapped_body No bo ≡ mapped_body No bn = sym old_body ∙ same ∙ moved in
-            sym (body_back before olds old_symbols old bo old_built)
-            ∙ ap (mapped_body (spelled before olds old_symbols old)) numbers_same
-            ∙ body_back before olds old_symbols old bn (subst (BodyIsBuiltBy (leaf before olds old_symbols old) (letter before olds old_symbols old)) numbers_same old_built)
-        , λ same. old_body ∙ ap (mapped_body No) same ∙ sym moved)
+    same_bodies = (
+      λ same.
+          let numbers_same : mapped_body No bo ≡ mapped_body No bn = sym old_body ∙ same ∙ moved in
+          sym (body_back before olds old_symbols old bo old_built)
+          ∙ ap (mapped_body (spelled before olds old_symbols old)) numbers_same
+          ∙ body_back before olds old_symbols old bn (subst (BodyIsBuiltBy (leaf before olds old_symbols old) (letter before olds old_symbols old)) numbers_same old_built),
+      λ same. old_body ∙ ap (mapped_body No) same ∙ sym moved,
+    )
 
   -- a new definition at a place
   module _ (j : ℕ) (d : Definition) (w : Written) (at_j : slice_get news j ≡ Some d) (w_at : slice_get after.written j ≡ Some w) (d_is : entry_in new_names new_table w ≡ entry_of d) where
@@ -269,7 +270,7 @@ module _ (before after : Said) (olds news : List Definition) (old_symbols new_sy
             let name_same : v.name ≡ w.name = ap (λ (e : Meant). e.name) one in
             let body_same : resolved old_names v.body ≡ resolved new_names w.body = ap (λ (e : Meant). e.body) one in
             let place : number_of w.name old_names ≡ k =
-                number_at_place old_names (names_differ before olds old_symbols old) k w.name (name_of_written before olds old_symbols old k v v_at ∙ ap (λ (n : List ℕ). Some n) name_same) in
+            number_at_place old_names (names_differ before olds old_symbols old) k w.name (name_of_written before olds old_symbols old k v v_at ∙ ap (λ (n : List ℕ). Some n) name_same) in
             (a, ap (slice_get olds) (there ∙ place) ∙ at, (same_bodies k j a d v w at at_j (sym a_is) d_is).1 body_same)
 
     pub uses_is : uses_symbols (body_of d.body) ≡ body_uses_alphabet new_one.body

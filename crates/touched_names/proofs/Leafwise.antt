@@ -126,9 +126,10 @@ module _ {A B : Type 0} (leaf other : B → Bool) (f : A → B) where
   piece_under (flag x) h = h
 
   form_under : (form : Form A) → FormIsBuiltBy leaf other (mapped_form f f form) → FormIsBuiltBy (λ a. leaf (f a)) (λ a. other (f a)) form
-  form_under (sides upper lower) h =
-      ( all_under (piece_by f) (PieceIsBuiltBy other) (PieceIsBuiltBy (λ a. other (f a))) piece_under upper h.0
-      , all_under (piece_by f) (PieceIsBuiltBy other) (PieceIsBuiltBy (λ a. other (f a))) piece_under lower h.1)
+  form_under (sides upper lower) h = (
+    all_under (piece_by f) (PieceIsBuiltBy other) (PieceIsBuiltBy (λ a. other (f a))) piece_under upper h.0,
+    all_under (piece_by f) (PieceIsBuiltBy other) (PieceIsBuiltBy (λ a. other (f a))) piece_under lower h.1,
+  )
   form_under (pairs e) h = subst (λ (T : Type 0). T) (mapped_built leaf other f e) h
 
   lexicon_under : (l : Lexicon A) → LexiconIsBuiltBy leaf other (mapped_lexicon f f l) → LexiconIsBuiltBy (λ a. leaf (f a)) (λ a. other (f a)) l

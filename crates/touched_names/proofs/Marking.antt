@@ -25,15 +25,16 @@ IsNext itself refers marks place = IsMarked itself place ⊎ HasMarked marks ref
 -- a mark that tells whether the place is so by itself, or refers to a marked place
 pub decided : (itself marks : List Bool) (place : ℕ) (own mark : Bool) (refers others : List ℕ) → slice_get itself place ≡ Some own → refers ≡ others
     → (mark ≡ true ↔ ((own ≡ true) ⊎ HasMarked marks others)) → mark ≡ true ↔ IsNext itself refers marks place
-decided itself marks place own mark refers others at same told =
-    ( λ yes. elim (told.0 yes) as (λ _. IsNext itself refers marks place) [
-        | inl is ↦ inl (at ∙ ap (λ (b : Bool). Some b) is)
-        | inr has ↦ inr (subst (HasMarked marks) (sym same) has)
-      ]
-    , λ next. elim next as (λ _. mark ≡ true) [
-        | inl is ↦ told.1 (inl (same_mark own true (sym at ∙ is)))
-        | inr has ↦ told.1 (inr (subst (HasMarked marks) same has))
-      ])
+decided itself marks place own mark refers others at same told = (
+  λ yes. elim (told.0 yes) as (λ _. IsNext itself refers marks place) [
+    | inl is ↦ inl (at ∙ ap (λ (b : Bool). Some b) is)
+    | inr has ↦ inr (subst (HasMarked marks) (sym same) has)
+  ],
+  λ next. elim next as (λ _. mark ≡ true) [
+    | inl is ↦ told.1 (inl (same_mark own true (sym at ∙ is)))
+    | inr has ↦ told.1 (inr (subst (HasMarked marks) same has))
+  ],
+)
 
 module _ (graph : List (List ℕ)) (itself : List Bool) (order : List ℕ) (ordered : IsOrder graph order) where
   pub place_inside : (i place : ℕ) → slice_get order i ≡ Some place → place < length graph

@@ -35,8 +35,8 @@ pub number_there_is : (others texts : List (List ℕ)) (numbers : List ℕ) → 
 number_there_is others texts numbers are text among =
     get_or_from_slice_get numbers (number_of text texts) (number_of text others) (number_of text texts)
     (ap (λ (z : List ℕ). slice_get z (number_of text texts)) are
-      ∙ slice_get-map (λ (t : List ℕ). number_of t others) texts (number_of text texts)
-      ∙ ap (option_map (λ (t : List ℕ). number_of t others)) (at_number texts text among))
+    ∙ slice_get-map (λ (t : List ℕ). number_of t others) texts (number_of text texts)
+    ∙ ap (option_map (λ (t : List ℕ). number_of t others)) (at_number texts text among))
 
 -- a place of a front
 pub front_place : {X : Type 0} (n : ℕ) (xs : List X) (k : ℕ) (x : X) → slice_get (take n xs) k ≡ Some x → (k < n) × (slice_get xs k ≡ Some x)

@@ -30,7 +30,9 @@ pub(crate) fn same_body(
 {
     match (other, body) {
         (Body::Xfst(other), Body::Xfst(expr)) => same_expr(alloc, other, expr, numbers),
-        (Body::Lexc(others), Body::Lexc(lexicons)) => same_lexicons(alloc, others, lexicons, numbers),
+        (Body::Lexc(others), Body::Lexc(lexicons)) => same_lexicons(
+            alloc, others, lexicons, numbers,
+        ),
         _ => Ok(false),
     }
 }

@@ -115,7 +115,19 @@ pub fn touched(
     let old_symbols = texts_in(alloc, old.alphabet)?;
     let new_symbols = texts_in(alloc, new.alphabet)?;
     let same_symbols = same_symbols(alloc, &old_symbols, &new_symbols)?;
-    let numbers = numbers_of(alloc, &old_symbols, &new_symbols, old.definitions, new.definitions)?;
-    let itself = touched_themselves(alloc, old.definitions, new.definitions, &numbers, same_symbols)?;
+    let numbers = numbers_of(
+        alloc,
+        &old_symbols,
+        &new_symbols,
+        old.definitions,
+        new.definitions,
+    )?;
+    let itself = touched_themselves(
+        alloc,
+        old.definitions,
+        new.definitions,
+        &numbers,
+        same_symbols,
+    )?;
     touched_places(alloc, new.definitions, &itself, order)
 }
