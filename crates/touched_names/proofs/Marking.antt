@@ -1,12 +1,17 @@
 -- Marks along an order in which each place stands behind those that it refers to.
 use Rattle.std.proofs.Common.{◌≡◌, ◌≢◌, ◌↔◌, ℕ, zero, suc, ◌+◌, ◌<◌, ◌≤◌, Bool, true, false, List, [], ◌∷◌, ◌++◌, length, take, set, get_or, slice_get, AllPairs, Contains, Option, Some, ◌⊎◌, inl, inr, refl, sym, ap, subst, ◌∙◌, arith}
-use Rattle.std.proofs.lemmas.Option.{slice_get-get_or, slice_get_within}
+use Rattle.std.proofs.lemmas.Option.{slice_get-get_or, slice_get-map, slice_get_within}
 use Rattle.std.proofs.lemmas.List.Elements.{Contains-append_left, Contains-push, Contains-push_cases, Contains-get_or}
 use Rattle.word_relations.proofs.Members.{Contains-nil_cases}
 use Rattle.std.proofs.lemmas.Bool.{cases_lt}
 use Rattle.std.proofs.lemmas.List.Quantifiers.{all_pairs_push}
 use Rattle.word_relations.proofs.Places.{Contains-from_slice_get, slice_get_from_Contains, slice_get-set_same, slice_get-set_other, same_at}
+use Rattle.std.proofs.lemmas.List.{length-map}
+use Rattle.std.specs.Option.{option_map}
 use Rattle.name_order.specs.Graph.{Refers}
+use Rattle.project_model.specs.Plain.{body_of}
+use Rattle.project_model.specs.Referring.{body_places, references_of}
+use Rattle.project_model.specs.declared.definition.Definition.{Definition}
 use Rattle.name_order.specs.Orders.{IsOrder}
 use Rattle.touched_names.proofs.Numbers.{front_place}
 use Rattle.touched_names.specs.Places.{AreMarked, ArePlaces, HasMarked, IsMarked, TouchedPlace, by_itself, by_reference}
@@ -35,6 +40,20 @@ decided itself marks place own mark refers others at same told = (
     | inr has ↦ told.1 (inr (subst (HasMarked marks) same has))
   ],
 )
+
+-- the places of an order are those of definitions
+pub place_within : (definitions : List Definition) (order : List ℕ) → IsOrder (references_of definitions) order → (i : ℕ) → i < length order → get_or order i 0 < length definitions
+place_within definitions order ordered i less =
+    let within = (ordered.places (get_or order i 0)).0 (Contains-get_or order i 0 less) in
+    let size = length-map definitions (λ (d : Definition). body_places (length definitions) (body_of d.body)) in
+    omega (arith, within, size)
+
+-- what a definition refers to
+pub refers_at : (definitions : List Definition) (place : ℕ) (d : Definition) → slice_get definitions place ≡ Some d
+    → slice_get (references_of definitions) place ≡ Some (body_places (length definitions) (body_of d.body))
+refers_at definitions place d at =
+    slice_get-map (λ (d : Definition). body_places (length definitions) (body_of d.body)) definitions place
+    ∙ ap (option_map (λ (d : Definition). body_places (length definitions) (body_of d.body))) at
 
 module _ (graph : List (List ℕ)) (itself : List Bool) (order : List ℕ) (ordered : IsOrder graph order) where
   pub place_inside : (i place : ℕ) → slice_get order i ≡ Some place → place < length graph
