@@ -1,6 +1,6 @@
 -- The numbers of texts in distinct lists.
-use Rattle.std.proofs.Common.{◌≡◌, ◌≢◌, ◌<◌, ◌+◌, ◌==◌, ◌++◌, ℕ, zero, suc, Bool, true, false, cond, List, [], ◌∷◌, length, take, map, get_or, slice_get, Contains, Some, inl, inr, refl, sym, ap, subst, ◌∙◌, arith}
-use Rattle.std.proofs.lemmas.List.Elements.{Contains-get_or}
+use Rattle.std.proofs.Common.{◌≡◌, ◌≢◌, ◌<◌, ◌↔◌, ◌+◌, ◌==◌, ◌++◌, ℕ, zero, suc, Bool, true, false, cond, List, [], ◌∷◌, length, take, map, get_or, slice_get, All, Contains, Some, inl, inr, refl, sym, ap, subst, ◌∙◌, arith}
+use Rattle.std.proofs.lemmas.List.Elements.{All-contains, All-contains_itself, All-map, All-weaker, Contains-get_or}
 use Rattle.std.proofs.lemmas.List.Sums.{passes_at_first}
 use Rattle.std.proofs.lemmas.Option.{slice_get-map, get_or_from_slice_get, slice_get_read, same_Some}
 use Rattle.std.proofs.lemmas.Bool.Decides.{nat_tests}
@@ -12,10 +12,12 @@ use Rattle.fsm_base.specs.Alphabet.{IsAlphabet, symbols_of, text_of, texts_of}
 use Rattle.fsm_base.specs.Symbols.{number_of, with_text}
 use Rattle.fsm_base.specs.declared.letters.Sym.{Sym}
 use Rattle.word_relations.specs.Words.{IsDistinct}
+use Rattle.word_relations.proofs.Members.{Contains-map}
 use Rattle.word_relations.proofs.Places.{Contains-from_slice_get, slice_get_from_Contains, take_more-slice_get}
 use Rattle.name_resolution.proofs.Texts.{has_from_any, with_text-new}
 use Rattle.expr_equality.specs.Renumbered.{number_at}
-use Rattle.project_model.proofs.Alphabets.{at_number, cases_bool}
+use Rattle.project_model.proofs.Alphabets.{at_number, cases_bool, number_within}
+use Rattle.project_meaning.specs.Touched.{AreSameSymbols}
 use Rattle.touched_names.specs.Itself.{places_among}
 
 -- a text whose number is below the length is there
@@ -85,3 +87,15 @@ text_at (entry ∷ alphabet) distinct (suc k) s at =
         let whole : s ≡ entry.0 = ap (λ (n : ℕ). record { 0 = n }) same in
         let clash : suc k ≡ 0 = distinct (suc k) 0 s at (ap (λ (t : Sym). Some t) (sym whole)) in
         absurd (omega (arith, clash))
+
+-- each of these texts is among the others exactly where its place is below their number
+pub all_held : (others texts : List (List ℕ)) → All (λ (place : ℕ). place < length others) (places_among others texts) ↔ ((text : List ℕ) → Contains texts text → Contains others text)
+all_held others texts =
+    ( λ all text among. held_below text others (All-contains (λ (place : ℕ). place < length others) (places_among others texts) (number_of text others) all (Contains-map (λ (t : List ℕ). number_of t others) texts text among))
+    , λ held. All-map (λ (place : ℕ). place < length others) (λ (t : List ℕ). number_of t others) texts
+        (All-weaker (Contains texts) (λ (t : List ℕ). number_of t others < length others) (λ t among. number_within others t (held t among)) texts (All-contains_itself texts)))
+
+pub same_texts : (old new : List (List ℕ)) → (All (λ (place : ℕ). place < length old) (places_among old new) × All (λ (place : ℕ). place < length new) (places_among new old)) ↔ AreSameSymbols old new
+same_texts old new =
+    ( λ h symbol. ((all_held new old).0 h.1 symbol, (all_held old new).0 h.0 symbol)
+    , λ same. ((all_held old new).1 (λ text among. (same text).1 among), (all_held new old).1 (λ text among. (same text).0 among)))
