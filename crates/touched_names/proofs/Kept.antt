@@ -43,22 +43,21 @@ use Rattle.touched_names.proofs.Numbers.{held_below, number_at_place, number_the
 -- a symbol among others has the number of one of them
 any_below : (n s : ℕ) (symbols : List Symbol) → All (λ (t : Symbol). t.0 < n) symbols → IsTrue (list_any (λ (t : Symbol). t.0 == s) symbols) → s < n
 any_below n s [] all any = let never : false ≡ true = any in absurd (cc)
-any_below n s (t ∷ symbols) all any = by (t.0 == s) refl
+any_below n s (t ∷ symbols) all any =
+    by (t.0 == s) refl (any_below n s symbols (All-tail (λ (x : Symbol). x.0 < n) t symbols all))
   where
     equal : (n m : ℕ) → (n == m) ≡ true → n ≡ m
     equal n m e = grind (arith, nat_tests)
 
-    by : (b : Bool) → (t.0 == s) ≡ b → s < n
-    by true e =
+    by : (b : Bool) → (t.0 == s) ≡ b → (IsTrue (list_any (λ (x : Symbol). x.0 == s) symbols) → s < n) → s < n
+    by true e rest =
         let less = All-head (λ (x : Symbol). x.0 < n) t symbols all in
         let is = equal t.0 s e in
         omega (arith, less, is)
-    by false e =
-        any_below n s symbols (All-tail (λ (x : Symbol). x.0 < n) t symbols all)
-        (subst (λ (b : Bool). IsTrue (b || list_any (λ (x : Symbol). x.0 == s) symbols)) e any)
+    by false e rest = rest (subst (λ (b : Bool). IsTrue (b || list_any (λ (x : Symbol). x.0 == s) symbols)) e any)
 
 some_within : {X : Type 0} (xs : List X) (k : ℕ) → IsTrue (is_some (slice_get xs k)) → k < length xs
-some_within xs k there = by (slice_get xs k) refl there
+some_within {X = X} xs k there = by (slice_get xs k) refl there
   where
     by : (o : Option X) → slice_get xs k ≡ o → IsTrue (is_some o) → k < length xs
     by None at h = let never : false ≡ true = h in absurd (cc)

@@ -159,8 +159,11 @@ module _ (marks : List Bool) (i : ℕ) (places : List ℕ) (before : AreBelow ma
             subst (λ (p : ℕ). Contains (places ++ i ∷ []) p) same (Contains-push places i)
       ]
 
-pub below_all : (marks : List Bool) (places : List ℕ) → AreBelow marks (length marks) places → ArePlaces (IsMarked marks) places
-below_all marks places below = record { all = λ place. (λ h. ((below.within place).0 h).1, λ h. (below.within place).1 (slice_get_within marks place true h, h)); ascending = below.ascending }
+pub below_to_end : (marks : List Bool) (i : ℕ) (places : List ℕ) → length marks ≤ i → AreBelow marks i places → ArePlaces (IsMarked marks) places
+below_to_end marks i places ended below = record {
+  all = λ place. (λ h. ((below.within place).0 h).1, λ h. (below.within place).1 (let less = slice_get_within marks place true h in omega (arith, less, ended), h));
+  ascending = below.ascending;
+}
 
 -- the same of what the marks say
 pub same_places : (P Q : ℕ → Type 0) (places : List ℕ) → ((place : ℕ) → P place ↔ Q place) → ArePlaces P places → ArePlaces Q places

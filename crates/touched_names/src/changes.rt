@@ -110,7 +110,7 @@ pub fn touched(
     order: &[usize],
 ) -> Result<Vec<usize>, AllocError>
     requires { IsOrder (references_of new.definitions.now) order.now }
-    ensures { (before after : Said) → StandFor before old.definitions.now old.alphabet.now → StandFor after new.definitions.now new.alphabet.now → IfOk result (λ places. AreTouched (project_in before) (project_in after) new.definitions.now places.items) }
+    ensures { (before after : Said) → StandFor before old.entry.definitions.now old.entry.alphabet.now → StandFor after new.entry.definitions.now new.entry.alphabet.now → IfOk result (λ places. AreTouched (project_in before) (project_in after) new.entry.definitions.now places.items) }
 {
     let old_symbols = texts_in(alloc, old.alphabet)?;
     let new_symbols = texts_in(alloc, new.alphabet)?;

@@ -1,4 +1,4 @@
-use Rattle.std.proofs.Common.{◌≡◌, ◌<◌, length, get_or, refl, sym, ap, ◌∙◌, arith, rules}
+use Rattle.std.proofs.Common.{◌≡◌, ◌<◌, false, length, get_or, refl, sym, ap, ◌∙◌, arith, rules}
 use Rattle.std.proofs.lemmas.List.{length-map, length-set}
 use Rattle.std.proofs.lemmas.Option.{slice_get-get_or, slice_get_read}
 use Rattle.project_model.specs.Plain.{body_of}
@@ -35,12 +35,12 @@ order-preserved c =
     let d = c.index-definitions-place.result in
     let at = slice_get_read definitions (length definitions) place d refl below c.index-definitions-place.is in
     let own_below : place < length c.args.itself.now = omega (arith, below, c.requires.marks) in
-    let own_at = slice_get_read c.args.itself.now (length c.args.itself.now) place c.index-itself-place.result refl own_below c.index-itself-place.is in
+    let own_at = slice_get-get_or c.args.itself.now place false own_below in
     let marks = c.order.marks.items in
     let mark = c.in_ok-touched.touched in
     let told = rw c.deref.ensures.value at c.in_ok-touched.ensures in
     let same = ap (λ n. body_places n (body_of d.body)) (sym c.order.invariant.many) in
-    let decides = decided c.args.itself.now marks place c.index-itself-place.result mark (body_places (length definitions) (body_of d.body)) (body_places (length marks) (body_of d.body)) own_at same told in
+    let decides = decided c.args.itself.now marks place (get_or c.args.itself.now place false) mark (body_places (length definitions) (body_of d.body)) (body_places (length marks) (body_of d.body)) own_at same told in
     record {
       many = length-set marks place mark ∙ c.order.invariant.many;
       right = right_more (references_of definitions) c.args.itself.now order c.requires.order i place (slice_get-get_or order i 0 c.order-test.true) (body_places (length definitions) (body_of d.body))
