@@ -1,6 +1,6 @@
 -- Bodies whose leaves are replaced: by two replacements one after the other, by two that agree on their leaves, and by one that leaves
 -- each as it is. Grammars aren't compiled, so none is among them.
-use Rattle.std.proofs.Common.{◌≡◌, ◌||◌, Bool, List, [], ◌∷◌, map, All, IsTrue, refl, sym, ap, subst, ◌∙◌}
+use Rattle.std.proofs.Common.{◌≡◌, ◌↔◌, ◌||◌, Bool, List, [], ◌∷◌, map, All, IfOk, IsTrue, Result, Ok, Err, refl, sym, ap, subst, ◌∙◌}
 use Rattle.std.specs.List.{list_any}
 use Rattle.std.proofs.lemmas.List.Elements.{All-nil, All-cons, All-head, All-tail}
 use Rattle.expr_leaves.specs.Alphabet.{uses_alphabet}
@@ -8,6 +8,12 @@ use Rattle.expr_leaves.specs.Mapped.{mapped}
 use Rattle.expr_equality.proofs.Alike.{alike, same}
 use Rattle.expr_equality.proofs.Uses.{uses_mapped}
 use Rattle.regex_ast.specs.Terms.{Term}
+use Rattle.regex_ast.specs.declared.expr.Atom.{Atom}
+use Rattle.regex_ast.specs.declared.lexc.Lexicon.{Lexicon as LexiconOf}
+use Rattle.expr_equality.specs.Renumbered.{renumbered}
+use Rattle.expr_equality.specs.declared.renumbering.Renumbering.{Renumbering}
+use Rattle.lexicon_equality.specs.Renumbered.{renumbered_lexicon}
+use Rattle.lexicon_resolution.specs.Plain.{lexicon_of}
 use Rattle.name_resolution.proofs.Mapped.{mapped_twice}
 use Rattle.project_meaning.specs.Leaves.{expressions_of}
 use Rattle.project_meaning.specs.Lexicons.{piece_by}
@@ -151,3 +157,23 @@ pub uses_by_leaves : {A B : Type 0} (f : A → B) (b : Body A) → uses_symbols 
 uses_by_leaves {A} {B} f b =
     ap (list_any (λ (e : Term B). uses_alphabet e)) (expressions_mapped f b)
     ∙ any_mapped (mapped f) (λ e. uses_alphabet e) (λ e. uses_alphabet e) (uses_mapped f) (expressions_of b)
+
+-- lexicons that are compared
+pub lexc_same : (numbers : Renumbering) (other body : Body Atom) (os ls : List (LexiconOf Atom)) → other ≡ lexc (map lexicon_of os) → body ≡ lexc (map lexicon_of ls)
+    → (r : Bool) → (IsTrue r ↔ (map lexicon_of os ≡ map (renumbered_lexicon numbers) ls)) → IsTrue r ↔ (other ≡ mapped_body (renumbered numbers) body)
+lexc_same numbers other body os ls other_is body_is r told =
+    ( λ yes. other_is ∙ ap lexc (told.0 yes) ∙ sym moved
+    , λ is.
+        let both : lexc (map lexicon_of os) ≡ lexc (map (renumbered_lexicon numbers) ls) = sym other_is ∙ is ∙ moved in
+        let lexicons : map lexicon_of os ≡ map (renumbered_lexicon numbers) ls = cc in
+        told.1 lexicons)
+  where
+    moved : mapped_body (renumbered numbers) body ≡ lexc (map (renumbered_lexicon numbers) ls)
+    moved =
+        ap (mapped_body (renumbered numbers)) body_is
+        ∙ ap lexc (each_twice (mapped_lexicon (renumbered numbers) (renumbered numbers)) lexicon_of (renumbered_lexicon numbers) (λ l. refl) ls)
+
+-- what is said of a result is said of another one, where it follows
+pub ok_follows : {X E : Type 0} (result : Result X E) (P Q : X → Type 0) → ((x : X) → P x → Q x) → IfOk result P → IfOk result Q
+ok_follows (Ok x) P Q follows h = follows x h
+ok_follows (Err e) P Q follows h = h

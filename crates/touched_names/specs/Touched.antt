@@ -31,6 +31,6 @@ abbrev pub IsNamedAt : List Definition → List ℕ → List ℕ → Type 0
 IsNamedAt definitions places name = (place : ℕ) × (d : Definition) × Contains places place × (slice_get definitions place ≡ Some d) × (d.name ≡ name)
 
 -- just the places of definitions with touched names, ascending; each touched name has its place there
-pub record AreTouched (old new : Project) (definitions : List Definition) (places : List ℕ) : Type 0 where
-  pub places : ArePlaces (IsTouchedAt old new definitions) places
-  pub names : (name : List ℕ) → Touched old new name → IsNamedAt definitions places name
+pub record AreTouched (old new : Project) (definitions : List Definition) (found : List ℕ) : Type 0 where
+  pub places : ArePlaces (IsTouchedAt old new definitions) found
+  pub names : (name : List ℕ) → Touched old new name → IsNamedAt definitions found name
