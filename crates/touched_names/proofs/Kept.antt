@@ -1,6 +1,6 @@
 -- A definition of the new project is one of the old project's exactly where the old definition at the place of its name has the same body
 -- by numbers.
-use Rattle.std.proofs.Common.{◌≡◌, ◌<◌, ◌↔◌, ◌==◌, ◌||◌, ℕ, Bool, true, false, List, [], ◌∷◌, length, map, slice_get, Contains, All, IsTrue, Option, None, Some, is_some, refl, sym, ap, subst, ◌∙◌, arith}
+use Rattle.std.proofs.Common.{◌≡◌, ◌<◌, ◌≤◌, ◌↔◌, ◌==◌, ◌||◌, ℕ, Bool, true, false, List, [], ◌∷◌, length, map, slice_get, Contains, All, IsTrue, Option, None, Some, is_some, refl, sym, ap, subst, ◌∙◌, arith}
 use Rattle.std.specs.List.{list_any, slice_index_or}
 use Rattle.std.specs.Option.{option_map}
 use Rattle.std.proofs.lemmas.Bool.Decides.{nat_tests}
@@ -274,3 +274,15 @@ module _ (before after : Said) (olds news : List Definition) (old_symbols new_sy
 
     pub uses_is : uses_symbols (body_of d.body) ≡ body_uses_alphabet new_one.body
     uses_is = ap (λ (b : Body Atom). uses_symbols b) (sym (ap (λ (e : Entry). e.body) d_is)) ∙ uses_by_leaves Nn (resolved new_names w.body)
+
+-- what a comparison of two definitions tells
+pub kept_here : (olds : List Definition) (numbers : Renumbering) (place : ℕ) (a d : Definition) → slice_get olds place ≡ Some a
+    → (r : Bool) → (IsTrue r ↔ (body_of a.body ≡ mapped_body (renumbered numbers) (body_of d.body))) → IsTrue r ↔ IsKept olds numbers place d
+kept_here olds numbers place a d at r told =
+    ( λ yes. (a, at, told.0 yes)
+    , λ kept. told.1 (subst (λ (x : Definition). body_of x.body ≡ mapped_body (renumbered numbers) (body_of d.body)) (same_at olds place kept.0 a kept.1 at) kept.2))
+
+pub kept_nowhere : (olds : List Definition) (numbers : Renumbering) (place : ℕ) (d : Definition) → length olds ≤ place → IsTrue false ↔ IsKept olds numbers place d
+kept_nowhere olds numbers place d ended =
+    ( λ yes. let never : false ≡ true = yes in absurd (cc)
+    , λ kept. let less = slice_get_within olds place kept.0 kept.1 in absurd (omega (arith, less, ended)))
