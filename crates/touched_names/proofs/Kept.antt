@@ -1,6 +1,6 @@
 -- A definition of the new project is one of the old project's exactly where the old definition at the place of its name has the same body
 -- by numbers.
-use Rattle.std.proofs.Common.{◌≡◌, ◌<◌, ◌≤◌, ◌↔◌, ◌==◌, ◌||◌, ℕ, Bool, true, false, List, [], ◌∷◌, length, map, slice_get, Contains, All, IsTrue, Option, None, Some, is_some, refl, sym, ap, subst, ◌∙◌, arith}
+use Rattle.std.proofs.Common.{◌≡◌, ◌<◌, ◌≤◌, ◌⊎◌, ◌↔◌, ◌==◌, ◌||◌, ℕ, Bool, true, false, List, [], ◌∷◌, length, map, slice_get, Contains, All, IsTrue, Option, None, Some, is_some, inl, inr, refl, sym, ap, subst, ◌∙◌, arith}
 use Rattle.std.specs.List.{list_any, slice_index_or}
 use Rattle.std.specs.Option.{option_map}
 use Rattle.std.proofs.lemmas.Bool.Decides.{nat_tests}
@@ -286,3 +286,9 @@ pub kept_nowhere : (olds : List Definition) (numbers : Renumbering) (place : ℕ
 kept_nowhere olds numbers place d ended =
     ( λ yes. let never : false ≡ true = yes in absurd (cc)
     , λ kept. let less = slice_get_within olds place kept.0 kept.1 in absurd (omega (arith, less, ended)))
+
+-- a definition that is kept is touched by itself where it uses an alphabet that has other symbols
+pub itself_by_alphabet : {Kept : Type 0} (uses same r : Bool) → Kept → same ≡ false → r ≡ uses → IsTrue r ↔ ((Kept → ⊥) ⊎ (IsTrue uses × (IsTrue same → ⊥)))
+itself_by_alphabet uses same r kept differ is =
+    ( λ yes. inr (sym is ∙ yes, λ alike. let clash : same ≡ true = alike in absurd (cc))
+    , λ told. elim told as (λ _. r ≡ true) [ inl lost ↦ absurd (lost kept) | inr by_use ↦ is ∙ by_use.0 ])
