@@ -15,6 +15,6 @@ returns c = λ old_distinct new_distinct.
           ( λ yes. (same_texts olds news).0 (first.0 w.if-are_below.true, second.0 (sym w.result-is ∙ yes))
           , λ same. w.result-is ∙ second.1 ((same_texts olds news).1 same).1)
       | else-are_below w ↦
-          ( λ yes. absurd (true≢false (sym yes ∙ w.result-is))
+          ( λ yes. absurd (true≢false (sym yes ∙ w.result-is ∙ w.if-are_below.false))
           , λ same. absurd (true≢false (sym (first.1 ((same_texts olds news).1 same).0) ∙ w.if-are_below.false)))
     ]
