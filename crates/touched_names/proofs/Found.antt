@@ -20,11 +20,12 @@ module _ {X : Type 0} (all : List X → List ℕ) (one : X → List ℕ) (first 
   found (p, among, marked) = so_far.0 (subst (HasMarked marks) (sym parted) (p, Contains-append_left (one x) (all (drop (i + 1) xs)) p among, marked))
 
   pub none_here : (HasMarked marks (one x) → ⊥) → HasMarked marks (all (drop (i + 1) xs)) ↔ HasMarked marks (all xs)
-  none_here none =
-      ( λ h. so_far.0 (subst (HasMarked marks) (sym parted) (h.0, Contains-append_right (one x) (all (drop (i + 1) xs)) h.0 h.1, h.2))
-      , λ h.
-          let there = subst (HasMarked marks) parted (so_far.1 h) in
-          elim (Contains-append_cases (one x) (all (drop (i + 1) xs)) there.0 there.1) as (λ _. HasMarked marks (all (drop (i + 1) xs))) [
-            | inl here ↦ absurd (none (there.0, here, there.2))
-            | inr behind ↦ (there.0, behind, there.2)
-          ])
+  none_here none = (
+    λ h. so_far.0 (subst (HasMarked marks) (sym parted) (h.0, Contains-append_right (one x) (all (drop (i + 1) xs)) h.0 h.1, h.2)),
+    λ h.
+        let there = subst (HasMarked marks) parted (so_far.1 h) in
+        elim (Contains-append_cases (one x) (all (drop (i + 1) xs)) there.0 there.1) as (λ _. HasMarked marks (all (drop (i + 1) xs))) [
+          | inl here ↦ absurd (none (there.0, here, there.2))
+          | inr behind ↦ (there.0, behind, there.2)
+        ],
+  )

@@ -278,17 +278,20 @@ module _ (before after : Said) (olds news : List Definition) (old_symbols new_sy
 -- what a comparison of two definitions tells
 pub kept_here : (olds : List Definition) (numbers : Renumbering) (place : ℕ) (a d : Definition) → slice_get olds place ≡ Some a
     → (r : Bool) → (IsTrue r ↔ (body_of a.body ≡ mapped_body (renumbered numbers) (body_of d.body))) → IsTrue r ↔ IsKept olds numbers place d
-kept_here olds numbers place a d at r told =
-    ( λ yes. (a, at, told.0 yes)
-    , λ kept. told.1 (subst (λ (x : Definition). body_of x.body ≡ mapped_body (renumbered numbers) (body_of d.body)) (same_at olds place kept.0 a kept.1 at) kept.2))
+kept_here olds numbers place a d at r told = (
+  λ yes. (a, at, told.0 yes),
+  λ kept. told.1 (subst (λ (x : Definition). body_of x.body ≡ mapped_body (renumbered numbers) (body_of d.body)) (same_at olds place kept.0 a kept.1 at) kept.2),
+)
 
 pub kept_nowhere : (olds : List Definition) (numbers : Renumbering) (place : ℕ) (d : Definition) → length olds ≤ place → IsTrue false ↔ IsKept olds numbers place d
-kept_nowhere olds numbers place d ended =
-    ( λ yes. let never : false ≡ true = yes in absurd (cc)
-    , λ kept. let less = slice_get_within olds place kept.0 kept.1 in absurd (omega (arith, less, ended)))
+kept_nowhere olds numbers place d ended = (
+  λ yes. let never : false ≡ true = yes in absurd (cc),
+  λ kept. let less = slice_get_within olds place kept.0 kept.1 in absurd (omega (arith, less, ended)),
+)
 
 -- a definition that is kept is touched by itself where it uses an alphabet that has other symbols
 pub itself_by_alphabet : {Kept : Type 0} (uses same r : Bool) → Kept → same ≡ false → r ≡ uses → IsTrue r ↔ ((Kept → ⊥) ⊎ (IsTrue uses × (IsTrue same → ⊥)))
-itself_by_alphabet uses same r kept differ is =
-    ( λ yes. inr (sym is ∙ yes, λ alike. let clash : same ≡ true = alike in absurd (cc))
-    , λ told. elim told as (λ _. r ≡ true) [ inl lost ↦ absurd (lost kept) | inr by_use ↦ is ∙ by_use.0 ])
+itself_by_alphabet uses same r kept differ is = (
+  λ yes. inr (sym is ∙ yes, λ alike. let clash : same ≡ true = alike in absurd (cc)),
+  λ told. elim told as (λ _. r ≡ true) [ inl lost ↦ absurd (lost kept) | inr by_use ↦ is ∙ by_use.0 ],
+)

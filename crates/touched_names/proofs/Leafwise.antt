@@ -161,12 +161,13 @@ uses_by_leaves {A} {B} f b =
 -- lexicons that are compared
 pub lexc_same : (numbers : Renumbering) (other body : Body Atom) (os ls : List (LexiconOf Atom)) → other ≡ lexc (map lexicon_of os) → body ≡ lexc (map lexicon_of ls)
     → (r : Bool) → (IsTrue r ↔ (map lexicon_of os ≡ map (renumbered_lexicon numbers) ls)) → IsTrue r ↔ (other ≡ mapped_body (renumbered numbers) body)
-lexc_same numbers other body os ls other_is body_is r told =
-    ( λ yes. other_is ∙ ap lexc (told.0 yes) ∙ sym moved
-    , λ is.
-        let both : lexc (map lexicon_of os) ≡ lexc (map (renumbered_lexicon numbers) ls) = sym other_is ∙ is ∙ moved in
-        let lexicons : map lexicon_of os ≡ map (renumbered_lexicon numbers) ls = cc in
-        told.1 lexicons)
+lexc_same numbers other body os ls other_is body_is r told = (
+  λ yes. other_is ∙ ap lexc (told.0 yes) ∙ sym moved,
+  λ is.
+      let both : lexc (map lexicon_of os) ≡ lexc (map (renumbered_lexicon numbers) ls) = sym other_is ∙ is ∙ moved in
+      let lexicons : map lexicon_of os ≡ map (renumbered_lexicon numbers) ls = cc in
+      told.1 lexicons,
+)
   where
     moved : mapped_body (renumbered numbers) body ≡ lexc (map (renumbered_lexicon numbers) ls)
     moved =

@@ -90,12 +90,14 @@ text_at (entry ∷ alphabet) distinct (suc k) s at =
 
 -- each of these texts is among the others exactly where its place is below their number
 pub all_held : (others texts : List (List ℕ)) → All (λ (place : ℕ). place < length others) (places_among others texts) ↔ ((text : List ℕ) → Contains texts text → Contains others text)
-all_held others texts =
-    ( λ all text among. held_below text others (All-contains (λ (place : ℕ). place < length others) (places_among others texts) (number_of text others) all (Contains-map (λ (t : List ℕ). number_of t others) texts text among))
-    , λ held. All-map (λ (place : ℕ). place < length others) (λ (t : List ℕ). number_of t others) texts
-        (All-weaker (Contains texts) (λ (t : List ℕ). number_of t others < length others) (λ t among. number_within others t (held t among)) texts (All-contains_itself texts)))
+all_held others texts = (
+  λ all text among. held_below text others (All-contains (λ (place : ℕ). place < length others) (places_among others texts) (number_of text others) all (Contains-map (λ (t : List ℕ). number_of t others) texts text among)),
+  λ held. All-map (λ (place : ℕ). place < length others) (λ (t : List ℕ). number_of t others) texts
+      (All-weaker (Contains texts) (λ (t : List ℕ). number_of t others < length others) (λ t among. number_within others t (held t among)) texts (All-contains_itself texts)),
+)
 
 pub same_texts : (old new : List (List ℕ)) → (All (λ (place : ℕ). place < length old) (places_among old new) × All (λ (place : ℕ). place < length new) (places_among new old)) ↔ AreSameSymbols old new
-same_texts old new =
-    ( λ h symbol. ((all_held new old).0 h.1 symbol, (all_held old new).0 h.0 symbol)
-    , λ same. ((all_held old new).1 (λ text among. (same text).1 among), (all_held new old).1 (λ text among. (same text).0 among)))
+same_texts old new = (
+  λ h symbol. ((all_held new old).0 h.1 symbol, (all_held old new).0 h.0 symbol),
+  λ same. ((all_held old new).1 (λ text among. (same text).1 among), (all_held new old).1 (λ text among. (same text).0 among)),
+)

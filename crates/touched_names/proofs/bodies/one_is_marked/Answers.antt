@@ -9,9 +9,11 @@ use Rattle.touched_names.proofs.bodies.one_is_marked.Goals as goal
 
 pub returns-then-is_marked : goal.returns-then-is_marked
 returns-then-is_marked c =
-    let n = length c.args.marks.now in
-    (λ yes. found (λ ls. flat_map (place_in n) (seen ls)) (λ (l : Bor Atom). place_in n l.now) (λ l ls. refl) c.args.marks.now c.args.leaves.now c.leaves.leaf-index _ (left_at c.args.leaves.now c.leaves.leaf-index _ c.leaves-test.true) c.leaves.invariant
-      (c.is_marked.ensures.0 c.if-is_marked.true), λ h. refl)
+    let n = length c.args.marks.now in (
+      λ yes. found (λ ls. flat_map (place_in n) (seen ls)) (λ (l : Bor Atom). place_in n l.now) (λ l ls. refl) c.args.marks.now c.args.leaves.now c.leaves.leaf-index _ (left_at c.args.leaves.now c.leaves.leaf-index _ c.leaves-test.true) c.leaves.invariant
+          (c.is_marked.ensures.0 c.if-is_marked.true),
+      λ h. refl,
+    )
 
 pub leaves-preserved : goal.leaves-preserved
 leaves-preserved c =

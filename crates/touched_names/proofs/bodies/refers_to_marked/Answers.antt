@@ -13,5 +13,5 @@ pub returns-in_ok-expressions-in-Lexc : goal.returns-in_ok-expressions-in-Lexc
 returns-in_ok-expressions-in-Lexc c =
     let n = length c.args.marks.now in
     let same = ap (λ z. terms_behind z) c.deref-in-Lexc.ensures.value ∙ c.in_ok-expressions-in-Lexc.ensures
-        ∙ ap (λ ls. expressions_of (lexc (map lexicon_of ls))) c.deref.ensures.value ∙ ap (λ b. expressions_of (body_of b)) (sym c.in-Lexc.is) in
+    ∙ ap (λ ls. expressions_of (lexc (map lexicon_of ls))) c.deref.ensures.value ∙ ap (λ b. expressions_of (body_of b)) (sym c.in-Lexc.is) in
     subst (λ z. IfOk c.one_refers.result (λ refers. IsTrue refers ↔ HasMarked c.args.marks.now (flat_map (places_in n) z))) same c.one_refers.ensures
