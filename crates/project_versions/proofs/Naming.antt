@@ -79,7 +79,7 @@ module _ (old new : Project) (definitions : List Definition) (distinct : IsDisti
   back : (name : List ℕ) → Contains found name → Touched old new name
   back name among =
       let (place, there, is) = Contains-map_cases (name_at definitions) places name among in
-      let (d, at, touched) = (are.at.all place).0 there in
+      let (d, at, touched) = (are.places.all place).0 there in
       subst (Touched old new) (sym (held place d at) ∙ is) touched
 
   place_of : (i : ℕ) (name : List ℕ) → slice_get found i ≡ Some name → (p : ℕ) × (slice_get places i ≡ Some p) × (slice_get all_names p ≡ Some name)
@@ -88,7 +88,7 @@ module _ (old new : Project) (definitions : List Definition) (distinct : IsDisti
       let below = slice_get_within found i name at in
       let p = get_or places i 0 in
       let p_at : slice_get places i ≡ Some p = slice_get-get_or places i 0 (omega (arith, below, size)) in
-      let (d, d_at, touched) = (are.at.all p).0 (Contains-from_slice_get places i p p_at) in
+      let (d, d_at, touched) = (are.places.all p).0 (Contains-from_slice_get places i p p_at) in
       let is : name_at definitions p ≡ name = same_Some (name_at definitions p) name (sym (slice_get-map (name_at definitions) places i ∙ ap (option_map (name_at definitions)) p_at) ∙ at) in
       (p, p_at, named_at p d d_at ∙ ap (λ (n : List ℕ). Some n) (sym (held p d d_at) ∙ is))
 
@@ -96,12 +96,12 @@ module _ (old new : Project) (definitions : List Definition) (distinct : IsDisti
   names_apart i j name at also =
       let (p, p_at, p_named) = place_of i name at in
       let (q, q_at, q_named) = place_of j name also in
-      places_differ places are.at.ascending i j p p_at (subst (λ (k : ℕ). slice_get places j ≡ Some k) (sym (distinct p q name p_named q_named)) q_at)
+      places_differ places are.places.ascending i j p p_at (subst (λ (k : ℕ). slice_get places j ≡ Some k) (sym (distinct p q name p_named q_named)) q_at)
 
   -- each place is that of a definition
   pub all_within : All (λ p. p < length definitions) places
   all_within =
-      All-weaker (Contains places) (λ p. p < length definitions) (λ p there. (let (d, at, touched) = (are.at.all p).0 there in slice_get_within definitions p d at)) places (All-contains_itself places)
+      All-weaker (Contains places) (λ p. p < length definitions) (λ p there. (let (d, at, touched) = (are.places.all p).0 there in slice_get_within definitions p d at)) places (All-contains_itself places)
 
   -- and their names, sorted, are those that are touched
   pub names_touched : (sorted : List (List ℕ)) → IsPermutation found sorted → IsSorted (slice_cmp nat_cmp) sorted → AreNames (Touched old new) sorted
