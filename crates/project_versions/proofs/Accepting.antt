@@ -1,5 +1,5 @@
 -- What an edit makes of a version, and why it makes none.
-use Rattle.std.proofs.Common.{◌≡◌, ◌≤◌, ◌+◌, ℕ, List, [], ◌∷◌, Result, Ok, Err, IfErr, refl, sym, ap, subst, inl, inr}
+use Rattle.std.proofs.Common.{◌≡◌, ◌≤◌, ◌+◌, ℕ, [], ◌∷◌, Result, Ok, Err, IfErr, sym, subst, inl, inr}
 use Rattle.std.specs.Result.{IsErrAnd}
 use Rattle.editor_meaning.specs.Editing.{most_edits}
 use Rattle.fsm_io.specs.Folders.{Files}

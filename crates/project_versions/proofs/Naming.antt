@@ -1,8 +1,8 @@
 -- The names of a project, and those of places that are touched, sorted.
-use Rattle.std.proofs.Common.{◌≡◌, ◌⊎◌, ◌<◌, ◌≤◌, ◌+◌, ◌++◌, ◌↔◌, zero, suc, ℕ, List, [], ◌∷◌, length, map, take, get_or, All, Contains, Option, Some, Result, Ok, Err, IfOk, Vec, Global, slice_get, refl, sym, ap, subst, ◌∙◌, inl, inr, arith}
-use Rattle.std.proofs.lemmas.Bool.{cases_eq, cases_order}
-use Rattle.std.proofs.lemmas.List.{get_or-map, length-map, map-append, take_all, take_more}
-use Rattle.std.proofs.lemmas.List.Elements.{All-contains, All-contains_itself, All-weaker, Contains-get_or}
+use Rattle.std.proofs.Common.{◌≡◌, ◌⊎◌, ◌<◌, ℕ, List, [], length, map, get_or, All, AllPairs, Contains, Some, Result, Ok, Err, IfOk, Vec, Global, slice_get, sym, ap, subst, ◌∙◌, inl, inr, arith}
+use Rattle.std.proofs.lemmas.Bool.{cases_order}
+use Rattle.std.proofs.lemmas.List.{length-map}
+use Rattle.std.proofs.lemmas.List.Elements.{All-contains_itself, All-weaker}
 use Rattle.std.proofs.lemmas.List.Sorted.{Contains-permutation, IsPermutation-sym}
 use Rattle.std.proofs.lemmas.Option.{get_or_from_slice_get, same_Some, slice_get-get_or, slice_get-map, slice_get_within}
 use Rattle.std.specs.declared.alloc.AllocError.{AllocError}
@@ -10,6 +10,7 @@ use Rattle.std.specs.Cmp.Lexicographic.{slice_cmp}
 use Rattle.std.specs.List.Sorted.{IsPermutation, IsSorted}
 use Rattle.std.specs.Option.{option_map}
 use Rattle.std.specs.Ordering.{nat_cmp}
+use Rattle.fsm_base.specs.declared.letters.Sym.{Sym}
 use Rattle.word_relations.specs.Words.{IsDistinct}
 use Rattle.word_relations.proofs.Members.{Contains-map, Contains-map_cases}
 use Rattle.word_relations.proofs.Places.{Contains-from_slice_get}
@@ -28,40 +29,23 @@ pub names_mean : (p meant : Project) → meant ≡ p → (names : List (List ℕ
 names_mean p meant same names are = subst (λ (q : Project). AreNames (Defines q) names) (sym same) (record { all = are.all; in_order = are.in_order })
 
 -- ascending places are different
-module _ (places : List ℕ) (up : (k : ℕ) → k + 1 < length places → get_or places k 0 < get_or places (k + 1) 0) where
-  rising : (i j : ℕ) → i < j → j < length places → get_or places i 0 < get_or places j 0
-  rising i zero lower within = absurd (omega arith)
-  rising i (suc j) lower within = by (λ below. rising i j below (omega (arith, within))) (cases_eq i j)
-    where
-      next : j + 1 ≡ suc j
-      next = omega arith
+places_differ : (places : List ℕ) → AllPairs (λ one next. one < next) places → IsDistinct places
+places_differ places up i j p at also = by (cases_order i j)
+  where
+    is : get_or places i 0 ≡ p
+    is = get_or_from_slice_get places i p 0 at
 
-      step : get_or places j 0 < get_or places (suc j) 0
-      step = subst (λ (k : ℕ). get_or places j 0 < get_or places k 0) next (up j (omega (arith, within)))
+    is_also : get_or places j 0 ≡ p
+    is_also = get_or_from_slice_get places j p 0 also
 
-      by : (i < j → get_or places i 0 < get_or places j 0) → (i ≡ j) ⊎ (i ≡ j → ⊥) → get_or places i 0 < get_or places (suc j) 0
-      by earlier (inl same) = subst (λ (k : ℕ). get_or places k 0 < get_or places (suc j) 0) (sym same) step
-      by earlier (inr apart) =
-          let before : get_or places i 0 < get_or places j 0 = earlier (omega (arith, lower, apart)) in
-          omega (arith, before, step)
-
-  places_differ : IsDistinct places
-  places_differ i j p at also = by (cases_order i j)
-    where
-      is : get_or places i 0 ≡ p
-      is = get_or_from_slice_get places i p 0 at
-
-      is_also : get_or places j 0 ≡ p
-      is_also = get_or_from_slice_get places j p 0 also
-
-      by : (i ≡ j) ⊎ ((i < j) ⊎ (j < i)) → i ≡ j
-      by (inl same) = same
-      by (inr (inl lower)) =
-          let r : get_or places i 0 < get_or places j 0 = rising i j lower (slice_get_within places j p also) in
-          absurd (omega (arith, r, is, is_also))
-      by (inr (inr lower)) =
-          let r : get_or places j 0 < get_or places i 0 = rising j i lower (slice_get_within places i p at) in
-          absurd (omega (arith, r, is, is_also))
+    by : (i ≡ j) ⊎ ((i < j) ⊎ (j < i)) → i ≡ j
+    by (inl same) = same
+    by (inr (inl lower)) =
+        let r : get_or places i 0 < get_or places j 0 = up i j 0 lower (slice_get_within places j p also) in
+        absurd (omega (arith, r, is, is_also))
+    by (inr (inr lower)) =
+        let r : get_or places j 0 < get_or places i 0 = up j i 0 lower (slice_get_within places i p at) in
+        absurd (omega (arith, r, is, is_also))
 
 -- definitions that are loaded stand for what was said
 pub stand_for : (said : Said) (loaded : LoadedView) → IsLoadedFrom said loaded → StandFor said loaded.definitions loaded.alphabet
@@ -129,11 +113,31 @@ module _ (old new : Project) (definitions : List Definition) (distinct : IsDisti
     in_order = in_order_from_sorted found sorted names_apart moved up;
   }
 
+-- the same where the lists are the same
+pub stand_as : (said : Said) (loaded : LoadedView) → IsLoadedFrom said loaded → (ds : List Definition) (symbols : List (Sym × List ℕ)) → ds ≡ loaded.definitions → symbols ≡ loaded.alphabet → StandFor said ds symbols
+stand_as said loaded from ds symbols same same_symbols =
+    subst (λ (d : List Definition). StandFor said d symbols) (sym same)
+    (subst (λ (a : List (Sym × List ℕ)). StandFor said loaded.definitions a) (sym same_symbols) (stand_for said loaded from))
+
 -- the names at the places that are touched
-pub touched_sorted : (was is : Said) (new : LoadedView) → IsLoadedFrom is new → (places : List ℕ) → AreTouched (project_in was) (project_in is) new.definitions places → (r : Result (Vec (List ℕ) Global) AllocError)
-    → (All (λ p. p < length new.definitions) places → IfOk r (λ names. IsPermutation (map (name_at new.definitions) places) names.items)) → IfOk r (λ names. IsSorted (slice_cmp nat_cmp) names.items)
-    → IfOk r (λ names. AreNames (Touched (project_in was) (project_in is)) names.items)
-touched_sorted was is new from places are (Ok names) moved up =
-    names_touched (project_in was) (project_in is) new.definitions from.plan.names places are names.items
-    (moved (all_within (project_in was) (project_in is) new.definitions from.plan.names places are)) up
-touched_sorted was is new from places are (Err error) moved up = tt
+module _ (was is : Said) (new : LoadedView) (from : IsLoadedFrom is new) (places : List ℕ) (r : Result (Vec (List ℕ) Global) AllocError) where
+  abbrev AreMoved : List Definition → List ℕ → Type 0
+  AreMoved ds seen = All (λ p. p < length ds) seen → IfOk r (λ names. IsPermutation (map (name_at ds) seen) names.items)
+
+  abbrev AreTheNames : Vec (List ℕ) Global → Type 0
+  AreTheNames names = AreNames (Touched (project_in was) (project_in is)) names.items
+
+  sorted_names : AreTouched (project_in was) (project_in is) new.definitions places → AreMoved new.definitions places → IfOk r (λ names. IsSorted (slice_cmp nat_cmp) names.items) → IfOk r AreTheNames
+  sorted_names are moved up = both r (λ names. IsPermutation (map (name_at new.definitions) places) names.items) (λ names. IsSorted (slice_cmp nat_cmp) names.items) AreTheNames
+      (λ names permuted sorted. names_touched (project_in was) (project_in is) new.definitions from.plan.names places are names.items permuted sorted)
+      (moved (all_within (project_in was) (project_in is) new.definitions from.plan.names places are)) up
+    where
+      both : (q : Result (Vec (List ℕ) Global) AllocError) (P Q R : Vec (List ℕ) Global → Type 0) → ((names : Vec (List ℕ) Global) → P names → Q names → R names) → IfOk q P → IfOk q Q → IfOk q R
+      both (Ok names) P Q R so h k = so names h k
+      both (Err error) P Q R so h k = tt
+
+  pub touched_sorted : (ds all : List Definition) (seen : List ℕ) → ds ≡ new.definitions → all ≡ new.definitions → seen ≡ places → AreTouched (project_in was) (project_in is) ds places → AreMoved all seen
+      → IfOk r (λ names. IsSorted (slice_cmp nat_cmp) names.items) → IfOk r AreTheNames
+  touched_sorted ds all seen same all_same seen_same are moved up =
+      sorted_names (subst (λ (d : List Definition). AreTouched (project_in was) (project_in is) d places) same are)
+      (subst (λ (d : List Definition). AreMoved d places) all_same (subst (AreMoved all) seen_same moved)) up

@@ -1,17 +1,31 @@
 -- The reply to a word is that of the version that is meant.
-use Rattle.std.proofs.Common.{◌≡◌, ◌++◌, ℕ, List, Contains, None, Option, Some, Result, IfOk, Vec, Global, codes, slice_get, sym, ap, subst, ◌∙◌}
+use Rattle.std.proofs.Common.{◌≡◌, ◌<◌, ◌++◌, ℕ, List, Contains, Some, arith, get_or, length, map, refl, Result, IfOk, Vec, Global, codes, slice_get, sym, ap, subst, ◌∙◌}
+use Rattle.std.proofs.lemmas.List.{length-map}
+use Rattle.std.proofs.lemmas.Option.{slice_get-map, slice_get_read}
+use Rattle.std.specs.Arc.{arc_value}
+use Rattle.std.specs.Option.{option_map}
+use Rattle.std.specs.declared.sync.Arc.{Arc}
 use Rattle.std.specs.declared.alloc.AllocError.{AllocError}
 use Rattle.fsa.specs.Automaton.{Automaton}
 use Rattle.fsm_base.specs.declared.letters.Pair.{Pair}
 use Rattle.lookup_answers.specs.declared.direction.Direction.{Direction}
+use Rattle.network_build.specs.Networks.{CompiledView}
 use Rattle.project_meaning.specs.Projects.{Defines, Project}
 use Rattle.project_model.specs.declared.definition.Definition.{Definition}
 use Rattle.project_sources.specs.Edits.{Version}
 use Rattle.project_store.specs.Networks.{Shows, ShowsName}
 use Rattle.project_store.proofs.Shown.{name_here, same_name, shows_none}
 use Rattle.reply_meaning.specs.Replies.{RepliesToWord, headed, no_net}
-use Rattle.project_versions.specs.Networks.{AreNetworks}
+use Rattle.project_versions.specs.Networks.{AreNetworks, net_of}
 use Rattle.project_versions.specs.Versions.{Stands, VersionView}
+
+-- the automaton at a place, as it is reached through the shared networks
+pub net_there : (items : List (Arc CompiledView Global)) (place count : ℕ) (shared : Arc CompiledView Global) (compiled : CompiledView) (net : Automaton Pair) → place < count → length (map net_of items) ≡ count
+    → shared ≡ get_or items place shared → compiled ≡ arc_value shared → net ≡ compiled.net → slice_get (map net_of items) place ≡ Some net
+net_there items place count shared compiled net within size is is_value is_net =
+    let same = length-map items net_of in
+    let here : slice_get items place ≡ Some shared = slice_get_read items (length items) place shared refl (omega (arith, within, size, same)) is in
+    slice_get-map net_of items place ∙ ap (option_map net_of) here ∙ ap (λ (n : Automaton Pair). Some n) (sym (is_net ∙ ap (λ (z : CompiledView). z.net) is_value))
 
 module _ (view : VersionView) (meant : Version) (stands : Stands view meant) (direction : Direction) (name word : List ℕ) where
   -- the network at the place of the name shows it

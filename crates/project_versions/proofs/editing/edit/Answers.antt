@@ -1,7 +1,8 @@
-use Rattle.std.proofs.Common.{◌≡◌, ◌≤◌, ◌+◌, ◌∷◌, [], ℕ, Ok, arith, ap, sym, subst}
+use Rattle.std.proofs.Common.{◌≤◌, ◌+◌, ◌∷◌, [], ℕ, Ok, Err, arith, ap, sym, subst}
 use Rattle.editor_meaning.specs.Editing.{AreNames, most_edits}
 use Rattle.fsm_io.specs.Folders.{Files}
 use Rattle.project_edits.specs.Applied.{edit_of}
+use Rattle.project_files.specs.Refusals.{IsRefusedBy}
 use Rattle.project_meaning.specs.Projects.{Project}
 use Rattle.project_meaning.specs.Touched.{Touched}
 use Rattle.project_sources.specs.Edits.{Apply, held_in}
@@ -30,8 +31,8 @@ pub returns-in_err-sources-clause-error : goal.returns-in_err-sources-clause-err
 returns-in_err-sources-clause-error c meant stands =
     let old = c.args.old.now in
     let few : old.number ≤ most_edits = (let is = c.number-number.ensures.number in omega (arith, is)) in
-    fails_by _ (IsWhyNotEdited meant c.args.edit.now) _ c.from_residual-in_err-sources.ensures.1
-    (refused_edit old meant stands few c.args.edit.now c.in_err-sources.field-0.0 ?)
+    let why = subst (λ (files : Files). IsRefusedBy (λ found. Apply (edit_of c.args.edit.now ∷ []) (held_in files) (Err found)) c.in_err-sources.field-0.0) c.sources.ensures c.in_err-sources.ensures in
+    fails_by _ (IsWhyNotEdited meant c.args.edit.now) _ c.from_residual.ensures.1 (refused_edit old meant stands few c.args.edit.now c.in_err-sources.field-0.0 why)
 
 pub returns-in_err-next-clause-error : goal.returns-in_err-next-clause-error
 returns-in_err-next-clause-error c meant stands =
@@ -40,3 +41,6 @@ returns-in_err-next-clause-error c meant stands =
     let few : old.number ≤ most_edits = (let is = c.number-number.ensures.number in omega (arith, is)) in
     let applied : Apply (edit_of c.args.edit.now ∷ []) (held_in old.files) (Ok (held_in new)) = subst (λ (files : Files). Apply (edit_of c.args.edit.now ∷ []) (held_in files) (Ok (held_in new))) c.sources.ensures c.in_ok-sources.ensures in
     fails_by _ (IsWhyNotEdited meant c.args.edit.now) _ c.from_residual-in_err-next.ensures.1 (refused_files old meant stands few c.args.edit.now new applied c.in_err-next.field-0.0 c.in_err-next.ensures.error)
+
+pub returns-in_err-rebuilt-clause-error : goal.returns-in_err-rebuilt-clause-error
+returns-in_err-rebuilt-clause-error c meant stands = fails_by _ (IsWhyNotEdited meant c.args.edit.now) _ c.from_residual-in_err-rebuilt.ensures.1 tt

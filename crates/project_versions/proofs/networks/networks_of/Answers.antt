@@ -1,7 +1,5 @@
-use Rattle.std.proofs.Common.{◌≡◌, ◌+◌, ◌++◌, ◌∷◌, [], List, Option, arith, length, map, subst, sym, ap, ◌∙◌}
+use Rattle.std.proofs.Common.{◌+◌, ◌∷◌, [], List, Option, arith, length, map, subst, sym, ap, ◌∙◌}
 use Rattle.std.proofs.lemmas.List.{map-append}
-use Rattle.fsa.specs.Automaton.{Automaton}
-use Rattle.fsm_base.specs.declared.letters.Pair.{Pair}
 use Rattle.network_algebra.specs.declared.network.Network.{Network}
 use Rattle.project_store.specs.Building.{IsThere}
 use Rattle.project_versions.specs.Networks.{IsReadyAt, StayBut, net_of}

@@ -1,5 +1,4 @@
-use Rattle.std.proofs.Common.{List, ℕ, sym, subst}
-use Rattle.fsm_base.specs.declared.letters.Sym.{Sym}
+use Rattle.std.proofs.Common.{sym, subst}
 use Rattle.fst_relation.specs.Relation.{IsRelated}
 use Rattle.lookup.specs.Answering.{IsOverAlphabet}
 use Rattle.network_algebra.specs.Networks.{PairsOf}

@@ -1,6 +1,5 @@
-use Rattle.std.proofs.Common.{List, ℕ, Vec, Global, ap, sym, subst}
+use Rattle.std.proofs.Common.{List, ℕ, Vec, Global, sym, subst}
 use Rattle.project_sources.specs.Sources.{project_in}
-use Rattle.project_store.specs.Loaded.{IsLoadedFrom}
 use Rattle.project_store.proofs.Lawful.{if_ok}
 use Rattle.project_versions.proofs.Naming.{names_mean}
 use Rattle.project_versions.specs.Versions.{Stands, VersionView}

@@ -6,7 +6,7 @@ use Rattle.project_versions.proofs.version.Version.of.Goals as goal
 pub invariant_of-result : goal.invariant_of-result
 invariant_of-result c = record {
   few = c.requires.number;
-  of_files = subst (IsOfSources c.args.sources) (sym c.into_parts.ensures.project) c.requires.files;
+  of_files = subst (IsOfSources c.args.sources) (sym c.into_parts-project.ensures.project) c.requires.files;
   networks = c.in_ok-networks.ensures;
 }
 
@@ -15,7 +15,7 @@ returns c said from says = record {
   number = refl;
   files = refl;
   said = said;
-  loaded = subst (IsLoadedFrom said) (sym c.into_parts.ensures.project) from;
+  loaded = subst (IsLoadedFrom said) (sym c.into_parts-project.ensures.project) from;
   project = refl;
   says = says;
 }
