@@ -1,4 +1,4 @@
-use Rattle.std.proofs.Common.{ap, refl, inr}
+use Rattle.std.proofs.Common.{ap, refl}
 use Rattle.fsm_program.specs.Ends.{for_serve, no_memory}
 use Rattle.fsm_program.proofs.Endings.{ends_served, ends_unloaded, most_read_is, start_most}
 use Rattle.fsm_program.proofs.program.serve.Goals as goal
