@@ -1,8 +1,6 @@
 -- How what was heard of an input grows, event by event.
-use Rattle.std.proofs.Common.{◌≡◌, ℕ, zero, suc, MatchResult, Global, ◌+◌, ◌-◌, ◌<◌, ◌≤◌, Bool, true, false, List, [], ◌∷◌, ◌++◌, length, take, map, Option, None, Some, Result, Ok, Err, ◌⊎◌, inl, inr, refl, sym, ap, subst, ◌∙◌, append_assoc, append-nil, arith, length-append, length-take, if◌then◌else◌}
-use Rattle.std.specs.List.{flat_map}
+use Rattle.std.proofs.Common.{◌≡◌, ℕ, zero, suc, Global, ◌+◌, ◌-◌, ◌<◌, ◌≤◌, Bool, true, false, List, [], ◌∷◌, ◌++◌, length, take, map, Option, None, Some, Result, Ok, Err, inl, inr, refl, sym, ap, subst, ◌∙◌, append_assoc, append-nil, arith, length-append, length-take, if◌then◌else◌}
 use Rattle.std.specs.declared.vec.Vec.{Vec}
-use Rattle.std.specs.Io.KnownBytes.{IsAtEnd}
 use Rattle.std.proofs.lemmas.List.Concat.{flat_map-append}
 use Rattle.fsm_io.specs.Buffers.{most_ahead}
 use Rattle.fsm_io.specs.Lines.{raw_lines, told, most_line}
@@ -11,12 +9,12 @@ use Rattle.fsm_io.specs.Taking.{TakesLine, filled, taken_as, taken_of}
 use Rattle.fsm_io.specs.declared.lines.LineEvent.{LineEvent}
 use Rattle.fsm_io.specs.declared.lines.LineEvent.TheVariants.{Line, Long, End, Failed, Over}
 use Rattle.fsm_io.proofs.Known.{consumes_more}
-use Rattle.fsm_io.proofs.Cuts.{within-nil, raw_lines-newline, raw_lines-end, raw_lines-within, told-cases, told-nil}
+use Rattle.fsm_io.proofs.Cuts.{within-nil, raw_lines-newline, raw_lines-end, told-cases, told-nil}
 use Rattle.fsm_io.proofs.Streams.{read_more, read_start}
 use Rattle.reply_meaning.specs.Replies.{line_of}
 use Rattle.editor_meaning.specs.Editing.{content_of}
 use Rattle.reply_meaning.specs.declared.ending.Ending.TheVariants.{ReadFailed, Spent}
-use Rattle.editor_session.specs.Reading.{HasFailed, HasHeard, HasStopped, HasTaken, HasTakenOne, IsSettled}
+use Rattle.editor_session.specs.Reading.{HasHeard, HasStopped, HasTaken, HasTakenOne, IsSettled}
 use Rattle.editor_session.specs.declared.payload.Payload.{Payload}
 use Rattle.editor_session.specs.declared.payload.Payload.TheVariants as payloads
 

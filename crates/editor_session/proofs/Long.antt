@@ -1,13 +1,13 @@
 -- An edit with too long a content is refused alike, whatever stands behind its first bytes.
-use Rattle.std.proofs.Common.{◌≡◌, ◌≢◌, ℕ, ◌+◌, ◌-◌, ◌<◌, ◌≤◌, ◌==◌, min, Bool, true, false, cond, List, [], ◌∷◌, ◌++◌, length, take, drop, Option, None, Some, Ok, Err, ◌⊎◌, inl, inr, refl, sym, ap, subst, ◌∙◌, arith, length-append, length-take}
+use Rattle.std.proofs.Common.{◌≡◌, ℕ, ◌+◌, ◌-◌, ◌<◌, ◌≤◌, ◌==◌, Bool, true, false, cond, List, [], ◌∷◌, ◌++◌, length, take, drop, Option, None, Some, inl, inr, refl, ap, subst, arith, length-append, length-take}
 use Rattle.std.specs.List.{flat_map}
 use Rattle.std.proofs.lemmas.Bool.{cases_lt}
 use Rattle.std.proofs.lemmas.List.{take_all}
 use Rattle.std.proofs.lemmas.List.Concat.{flat_map-append}
 use Rattle.regex_ast.specs.declared.fault.Fault.{Fault}
-use Rattle.project_manifest.specs.Manifests.{lines_from, lines_of, some_of}
+use Rattle.project_manifest.specs.Manifests.{lines_from, lines_of}
 use Rattle.project_manifest.specs.Rows.{First}
-use Rattle.project_sources.specs.Edits.{Edit, EditFault, EditRow, Holding, HoldsMost, IsBadSplice, IsPossible, IsRefused, Version, absent, bad_splice, too_many, too_large, edit_rows, held_in, put, splice, spliced}
+use Rattle.project_sources.specs.Edits.{Edit, EditFault, EditRow, Holding, IsPossible, IsRefused, Version, absent, bad_splice, too_many, too_large, edit_rows, held_in, put, splice, spliced}
 use Rattle.project_sources.specs.Faults.{Row}
 use Rattle.project_sources.specs.Limits.{most_bytes}
 use Rattle.project_sources.specs.Sources.{Readers}

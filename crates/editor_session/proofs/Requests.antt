@@ -1,5 +1,5 @@
 -- What commands with their lines ask for, and which orders the lines are.
-use Rattle.std.proofs.Common.{◌≡◌, ◌≢◌, ℕ, ◌+◌, ◌<◌, ◌≤◌, Bool, true, false, List, [], ◌∷◌, ◌++◌, length, take, drop, Option, None, Some, ◌⊎◌, inl, inr, refl, sym, ap, subst, ◌∙◌, append_assoc, append-nil, arith, length-append}
+use Rattle.std.proofs.Common.{◌≡◌, ◌≢◌, ℕ, ◌<◌, ◌≤◌, Bool, true, false, List, [], ◌∷◌, ◌++◌, length, take, drop, Option, None, Some, inl, inr, refl, sym, ap, subst, ◌∙◌, append_assoc, append-nil, arith, length-append}
 use Rattle.std.proofs.Math.Seq.{take-append_seam, drop-append_seam}
 use Rattle.fsm_io.specs.Buffers.{most_ahead}
 use Rattle.fsm_io.specs.Reading.{HasRead, LinesView, NextEvent, told_by}
@@ -23,8 +23,7 @@ use Rattle.reply_meaning.specs.declared.ending.Ending.{Ending}
 use Rattle.reply_meaning.specs.declared.ending.Ending.TheVariants.{Finished, WriteFailed, ReadFailed, Spent}
 use Rattle.editor_meaning.specs.Orders.{AreOrders, Order, bad, cut, cut_by, cut_off, no_command, none, ordered, stopped, whole}
 use Rattle.editor_meaning.specs.Editing.{RepliesToEdit, content_of, no_memory}
-use Rattle.editor_session.specs.Reading.{AreLast, Follows, HasAsked, HasEnded, HasFailed, HasFollowed, HasHeard, HasNext, HasStopped, IsAsked, IsFor, IsSettled, Obeys, Say, all, cuts, ends, fails, most_kept, of_command, of_none, requests, spends}
-use Rattle.editor_session.specs.Sessions.{EndsByCommand}
+use Rattle.editor_session.specs.Reading.{Follows, HasFollowed, HasHeard, HasNext, HasStopped, IsAsked, IsFor, IsSettled, Obeys, Say, all, cuts, ends, fails, most_kept, of_command, of_none, requests, spends}
 use Rattle.editor_session.specs.declared.payload.Payload.TheVariants as payloads
 use Rattle.editor_session.specs.declared.request.Next.{Next}
 use Rattle.editor_session.specs.declared.request.Next.TheVariants.{Asks, Ends}

@@ -1,6 +1,6 @@
 -- How what was read and written so far grows from command to command, and what it is at the end.
-use Rattle.std.proofs.Common.{◌≡◌, ◌≢◌, ℕ, ◌+◌, ◌≤◌, Bool, true, false, List, [], ◌∷◌, ◌++◌, length, Option, None, Some, Result, Ok, Err, MatchOption, is_ok, if◌then◌else◌, ◌⊎◌, inl, inr, refl, sym, ap, subst, ◌∙◌, append_assoc, append-nil, arith}
-use Rattle.std.specs.Io.KnownBytes.{Appends, IsAtEnd}
+use Rattle.std.proofs.Common.{◌≡◌, ℕ, Bool, true, false, List, [], ◌∷◌, ◌++◌, Option, None, Some, Result, Ok, Err, MatchOption, is_ok, if◌then◌else◌, ◌⊎◌, inl, inr, refl, sym, ap, subst, ◌∙◌, append_assoc, append-nil, arith}
+use Rattle.std.specs.Io.KnownBytes.{Appends}
 use Rattle.std.specs.Option.{option_to_list, unwrap_or}
 use Rattle.fsm_io.specs.Lines.{raw_lines}
 use Rattle.fsm_io.specs.Reading.{HasRead, LinesView, at_start}
@@ -15,11 +15,11 @@ use Rattle.reply_text.specs.Projects.{accepted_line}
 use Rattle.reply_meaning.specs.declared.ending.Ending.{Ending}
 use Rattle.reply_meaning.specs.declared.ending.Ending.TheVariants.{Finished, WriteFailed, ReadFailed, Spent}
 use Rattle.editor_meaning.specs.Orders.{AreOrders, Order}
-use Rattle.editor_meaning.specs.Editing.{AreNames, AreReplies, RepliesToOrder}
-use Rattle.editor_session.specs.Reading.{AreLast, HasAsked, HasEnded, HasFailed, HasHeard, IsSettled, Say}
+use Rattle.editor_meaning.specs.Editing.{AreNames, AreReplies}
+use Rattle.editor_session.specs.Reading.{HasAsked, HasEnded, HasFailed, HasHeard, IsSettled, Say}
 use Rattle.editor_session.specs.Replying.{RepliesToRequest}
 use Rattle.editor_session.specs.Running.{AreRepliesSofar, Sofar}
-use Rattle.editor_session.specs.Sessions.{Edits, EndsByCommand, HasEdited, HearsAll, IsCutShort, IsHeard, to_command, to_end}
+use Rattle.editor_session.specs.Sessions.{Edits, EndsByCommand, HasEdited, HearsAll, IsHeard, to_command, to_end}
 use Rattle.editor_session.specs.declared.request.Request.{Request}
 use Rattle.editor_session.proofs.Hearing.{heard_start, none_begun}
 

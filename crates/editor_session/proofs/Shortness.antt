@@ -1,8 +1,8 @@
 -- The word of a command is no longer than its line.
-use Rattle.std.proofs.Common.{◌≡◌, ℕ, ◌<◌, ◌≤◌, ◌==◌, Bool, true, false, List, [], ◌∷◌, ◌++◌, length, ◌⊎◌, inl, inr, refl, sym, ap, arith, length-append, if◌then◌else◌}
+use Rattle.std.proofs.Common.{◌≡◌, ℕ, ◌<◌, ◌≤◌, ◌==◌, Bool, true, false, List, [], ◌∷◌, length, ◌⊎◌, inl, inr, ap, arith, length-append, if◌then◌else◌}
 use Rattle.fsm_io.specs.Lines.{most_line}
 use Rattle.reply_meaning.specs.Replies.{without_last, without_return}
-use Rattle.edit_script.specs.Commands.{IsCommand, IsNetAndWord, IsText, Orders, SpellsCommand, ends, orders, spaced}
+use Rattle.edit_script.specs.Commands.{IsCommand, IsNetAndWord, Orders, SpellsCommand, ends, orders, spaced}
 use Rattle.edit_script.specs.declared.commands.EditCommand.{EditCommand}
 use Rattle.edit_script.specs.declared.commands.EditCommand.TheVariants as commands
 use Rattle.editor_session.specs.Reading.{IsShortCommand}

@@ -2,7 +2,7 @@
 use Rattle.std.specs.Prelude.{◌≡◌, ◌≢◌, ◌<◌, ◌≤◌, ◌+◌, ◌⊎◌, ◌++◌, ℕ, Bool, true, false, List, [], ◌∷◌, length, take, Option, None, Some, ⊤}
 use Rattle.fsm_io.specs.Buffers.{most_ahead}
 use Rattle.fsm_io.specs.Lines.{most_line}
-use Rattle.fsm_io.specs.Reading.{HasRead, LinesView, size_of}
+use Rattle.fsm_io.specs.Reading.{HasRead, LinesView}
 use Rattle.fsm_io.specs.Taking.{filled}
 use Rattle.project_sources.specs.Edits.{Version}
 use Rattle.project_sources.specs.Faults.{rows_so_far}

@@ -1,5 +1,5 @@
 -- What was read and written so far while the commands of an input are answered.
-use Rattle.std.specs.Prelude.{◌≡◌, ◌++◌, ℕ, List, Option}
+use Rattle.std.specs.Prelude.{◌++◌, ℕ, List, Option}
 use Rattle.std.specs.Io.KnownBytes.{Appends}
 use Rattle.fsm_io.specs.Reading.{LinesView}
 use Rattle.project_meaning.specs.Projects.{Defines}
