@@ -121,8 +121,8 @@ def meaning_of(files):
         elif words[0] == 'lexc':
             lexicons[words[1]] = [line.split() for line in lines_of(files[words[2]])]
         elif words[0] == 'xfst':
-            for line in lines_of(files[words[1]]):
-                name, body = re.fullmatch(r'define (\w+) (.*) ;', line).groups()
+            text = ' '.join(lines_of(files[words[1]]))
+            for name, body in re.findall(r'define +(\w+) +([^;]*) ;', text):
                 found[name] = re.findall(r'\{\w+\}|->|\.o\.|[A-Za-z]\w*|0|\S', body)
     names = set(found) | set(lexicons)
     definitions = {}

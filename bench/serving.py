@@ -81,7 +81,7 @@ def many_edits(program):
         for number in range(EDITS):
             reply, _ = served.ask('put r.xfst 1\ndefine N {a%s} ;\n' % ('b' if number % 2 else ''))
             if number + 1 in (EDITS // 10, EDITS):
-                peaks.append(measure.peak_of(served.process) / 2 ** 20)
+                peaks.append(measure.peak_of(served.process.pid) / 2 ** 20)
         seconds = time.monotonic() - start
         print('%d edits of a small project: %.2f s; peak memory %.1f MiB after a tenth of them, %.1f MiB after all; the last reply is %s'
               % (EDITS, seconds, *peaks, reply.decode().strip()))
