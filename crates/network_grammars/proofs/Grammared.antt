@@ -1,17 +1,14 @@
 -- The network of a grammar, from its scope and from its rules.
-use Rattle.std.proofs.Common.{◌≡◌, ◌↔◌, ◌⊎◌, ℕ, List, [], ◌∷◌, ◌++◌, Option, None, Some, All, map, reverse, refl, sym, ap, subst, ◌∙◌, inl, inr}
+use Rattle.std.proofs.Common.{◌≡◌, ◌↔◌, ℕ, List, [], ◌∷◌, ◌++◌, Option, None, Some, All, map, reverse, refl, sym, ap, subst, ◌∙◌, inl, inr}
 use Rattle.std.proofs.lemmas.List.{reverse-append}
 use Rattle.std.proofs.lemmas.List.Elements.{All-nil, All-cons, All-head, All-tail, All-append, All-contains}
-use Rattle.std.proofs.lemmas.Option.{same_Some}
 use Rattle.std.specs.List.{Contains, flat_map}
 use Rattle.std.specs.Option.{option_map, option_to_list}
-use Rattle.fsm_base.specs.Alphabet.{IsAlphabet, spelled as spelled_word, symbols_of, text_of}
 use Rattle.fsm_base.specs.declared.letters.Bound.{Bound}
 use Rattle.fsm_base.specs.declared.letters.Bound.TheVariants.{Edge, Inner}
 use Rattle.fsm_base.specs.declared.letters.Pair.{Pair as Letter}
 use Rattle.fsm_base.specs.declared.letters.Sym.{Sym}
 use Rattle.word_relations.specs.Words.{IsOver}
-use Rattle.word_relations.specs.Relations.{AreSame}
 use Rattle.word_relations.proofs.Members.{Contains-nil_cases, Contains-cons_cases, Contains-head, Contains-tail, Contains-map, Contains-map_cases}
 use Rattle.regex_ast.specs.declared.expr.Atom.{Atom}
 use Rattle.regex_ast.specs.declared.expr.Context.{Context}
@@ -19,35 +16,30 @@ use Rattle.regex_ast.specs.declared.expr.Expr.{Expr}
 use Rattle.regex_ast.specs.declared.twolc.Grammar.{Grammar as GrammarOf}
 use Rattle.regex_ast.specs.declared.twolc.PairPart.{PairPart}
 use Rattle.regex_ast.specs.declared.twolc.TwoLevelRule.{TwoLevelRule}
-use Rattle.fsa.specs.Automaton.{Automaton}
 use Rattle.fsa.specs.Complete.{Complete, Accepts}
-use Rattle.fst_relation.specs.Relation.{uppers, lowers, symbols_on}
+use Rattle.fst_relation.specs.Relation.{symbols_on}
 use Rattle.expr_leaves.specs.Mapped.{mapped, mapped_contexts}
 use Rattle.expr_meaning.specs.Meaning.{In, InContext}
 use Rattle.expr_meaning.specs.Operators.{inner, HoldsLeft, HoldsRight}
-use Rattle.expr_spelling.specs.Laws.{IsSpelled}
 use Rattle.expr_spelling.proofs.Words.{Carries, Tells, spelled_reverse}
 use Rattle.expr_spelling.proofs.Edges.{bound, inner_spelled, left_context, right_context}
-use Rattle.network_algebra.specs.Networks.{all_letters, PairsOf}
-use Rattle.network_algebra.specs.declared.network.Network.{Network}
-use Rattle.project_meaning.specs.Trees.{Pair, PairDefinition, Rule, Grammar}
+use Rattle.project_meaning.specs.Trees.{PairDefinition, Rule, Grammar}
 use Rattle.project_meaning.specs.Leaves.{Leaf}
-use Rattle.project_meaning.specs.Grammars.{Letter as TextLetter, feasible as feasible_in_texts, PartRelates, GrammarRelates as RelatesTexts}
+use Rattle.project_meaning.specs.Grammars.{Letter as TextLetter, feasible as feasible_in_texts, PartRelates}
 use Rattle.project_meaning.proofs.Places.{in_front, in_back, in_flat}
 use Rattle.grammar_pairs.specs.Feasible.{feasible, of_atom, of_definition, of_rule, of_context}
 use Rattle.grammar_pairs.specs.Mapped.{mapped_definition, mapped_part, mapped_rule}
 use Rattle.grammar_pairs.specs.Plain.{ContextsArePairForms, IsFormed, IsFormedRule, IsPairForm, contexts_in, definition_of, grammar_of, rule_of, pair_of, set_of, term_of}
 use Rattle.grammar_pairs.specs.Tables.{HasSymbol, IsMember}
 use Rattle.grammar_pairs.specs.Texts.{HasOwnTexts, IsPairOver, in_text, in_texts, letter_in}
-use Rattle.grammar_pairs.proofs.Spelled.{feasible_same, own_texts, written_same}
+use Rattle.grammar_pairs.proofs.Spelled.{feasible_same, written_same}
 use Rattle.pair_languages.specs.Built.{IsBuilt}
-use Rattle.pair_languages.specs.Meaning.{IsScope, pair_at, stands}
+use Rattle.pair_languages.specs.Meaning.{IsScope, pair_at}
 use Rattle.pair_languages.specs.declared.scope.Scope.{Scope}
-use Rattle.network_grammars.specs.Meaning.{IsNetworkOf, IsOverSymbols}
 use Rattle.network_grammars.specs.Rules.{IsContextOf, IsLanguageOf, IsRuleOf, Pairwise}
 use Rattle.pair_languages.proofs.Standing.{Agree, IsOn, agree, expression_back, expression_there, letters_apart}
-use Rattle.two_level.specs.Rules.{GrammarRelates, Holds, IsContextOver, IsRuleOver}
-use Rattle.two_level.specs.Spelled.{GrammarIsSpelled, IsRuleFor, StandsFor, StandsIn}
+use Rattle.two_level.specs.Rules.{Holds, IsContextOver, IsRuleOver}
+use Rattle.two_level.specs.Spelled.{IsRuleFor, StandsFor, StandsIn}
 use Rattle.two_level.specs.declared.rule.LangRule.{LangRule}
 use Rattle.two_level.specs.declared.rule.PairContext.{PairContext}
 

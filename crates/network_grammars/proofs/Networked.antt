@@ -1,8 +1,8 @@
 -- What the network of a grammar relates, by texts.
-use Rattle.std.proofs.Common.{◌≡◌, ◌↔◌, ℕ, List, [], ◌∷◌, Option, Some, All, map, reverse, refl, sym, ap, subst, ◌∙◌}
+use Rattle.std.proofs.Common.{◌≡◌, List, [], ◌∷◌, Option, Some, All, map, reverse, subst}
 use Rattle.std.proofs.lemmas.List.Elements.{All-contains, All-nil, All-cons, All-head, All-tail}
 use Rattle.std.specs.List.{Contains}
-use Rattle.fsm_base.specs.Alphabet.{IsAlphabet, spelled as spelled_word, symbols_of, text_of}
+use Rattle.fsm_base.specs.Alphabet.{symbols_of, text_of}
 use Rattle.fsm_base.specs.declared.letters.Pair.{Pair as Letter}
 use Rattle.fsm_base.specs.declared.letters.Sym.{Sym}
 use Rattle.word_relations.specs.Words.{IsOver}
@@ -10,7 +10,7 @@ use Rattle.word_relations.specs.Relations.{AreSame}
 use Rattle.regex_ast.specs.declared.expr.Atom.{Atom}
 use Rattle.regex_ast.specs.declared.twolc.Grammar.{Grammar as GrammarOf}
 use Rattle.fsa.specs.Automaton.{Automaton}
-use Rattle.fst_relation.specs.Relation.{IsRelated, uppers, lowers, symbols_on}
+use Rattle.fst_relation.specs.Relation.{IsRelated, symbols_on}
 use Rattle.expr_kinds.specs.declared.form.Kind.TheVariants.{Relation}
 use Rattle.network_algebra.specs.Networks.{IsFor, IsNetwork, PairsOf, UsesOnly, UsesSymbols, WordsOf, kind_of_network}
 use Rattle.network_algebra.specs.declared.network.Network.{Network}

@@ -41,5 +41,5 @@ returns-clause-meaning c =
     let m = c.in_ok-pairs.pairs in
     let ruled = subst (λ (z : List (TwoLevelRule Atom)). Pairwise (IsRuleOf scope) z rules) c.deref.ensures.value c.in_ok-rules.ensures in
     let related = subst (λ (z : List LangRule). AreSame (IsRelated m) (GrammarRelates scope.pairs z)) c.deref-2.ensures.value
-        (subst (λ (z : List Pair). AreSame (IsRelated m) (GrammarRelates z c.deref-2.result.now)) c.as_slice.ensures.pairs c.in_ok-pairs.ensures.relation) in
+    (subst (λ (z : List Pair). AreSame (IsRelated m) (GrammarRelates z c.deref-2.result.now)) c.as_slice.ensures.pairs c.in_ok-pairs.ensures.relation) in
     IfOk-weaker _ _ _ (λ n. network_meant c.args.grammar.now c.requires scope c.in_ok-scope.ensures.scope c.in_ok-scope.ensures.built rules ruled c.grammar_is_spelled.ensures m n related) c.reduced.ensures.meaning
