@@ -29,21 +29,23 @@ module _ (numbers : Renumbering) where
 
     -- the upper sides are the same
     pub upper_same : map piece_of ou ≡ map (renumbered_piece numbers) u → (r : Bool) → (IsTrue r ↔ (map piece_of ol ≡ map (renumbered_piece numbers) l)) → IsTrue r ↔ (form_of other ≡ renumbered_form numbers form)
-    upper_same upper r told =
-        ( λ yes. let lower = told.0 yes in other_is ∙ (λ i. sides (upper i) (lower i)) ∙ sym moved
-        , λ same.
-            let both : sides (map piece_of ou) (map piece_of ol) ≡ sides (map (renumbered_piece numbers) u) (map (renumbered_piece numbers) l) = sym other_is ∙ same ∙ moved in
-            let lower : map piece_of ol ≡ map (renumbered_piece numbers) l = cc in
-            told.1 lower)
+    upper_same upper r told = (
+      λ yes. let lower = told.0 yes in other_is ∙ (λ i. sides (upper i) (lower i)) ∙ sym moved,
+      λ same.
+          let both : sides (map piece_of ou) (map piece_of ol) ≡ sides (map (renumbered_piece numbers) u) (map (renumbered_piece numbers) l) = sym other_is ∙ same ∙ moved in
+          let lower : map piece_of ol ≡ map (renumbered_piece numbers) l = cc in
+          told.1 lower,
+    )
 
     -- they differ
     pub upper_differs : (r : Bool) → r ≡ false → (IsTrue r ↔ (map piece_of ou ≡ map (renumbered_piece numbers) u)) → IsTrue r ↔ (form_of other ≡ renumbered_form numbers form)
-    upper_differs r fails told =
-        ( λ yes. let clash : r ≡ true = yes in cc
-        , λ same.
-            let both : sides (map piece_of ou) (map piece_of ol) ≡ sides (map (renumbered_piece numbers) u) (map (renumbered_piece numbers) l) = sym other_is ∙ same ∙ moved in
-            let upper : map piece_of ou ≡ map (renumbered_piece numbers) u = cc in
-            told.1 upper)
+    upper_differs r fails told = (
+      λ yes. let clash : r ≡ true = yes in cc,
+      λ same.
+          let both : sides (map piece_of ou) (map piece_of ol) ≡ sides (map (renumbered_piece numbers) u) (map (renumbered_piece numbers) l) = sym other_is ∙ same ∙ moved in
+          let upper : map piece_of ou ≡ map (renumbered_piece numbers) u = cc in
+          told.1 upper,
+    )
 
   module _ (other lexicon : LexiconOf Atom) where
     entries_moved : map (mapped_entry by by) (map entry_of lexicon.entries.items) ≡ map (renumbered_entry numbers) lexicon.entries.items
@@ -51,12 +53,14 @@ module _ (numbers : Renumbering) where
 
     -- the entries are the same
     pub entries_same : map entry_of other.entries.items ≡ map (renumbered_entry numbers) lexicon.entries.items → (r : Bool) → (IsTrue r ↔ (other.name ≡ lexicon.name)) → IsTrue r ↔ (lexicon_of other ≡ renumbered_lexicon numbers lexicon)
-    entries_same entries r told =
-        ( λ yes. let name = told.0 yes in let all = entries ∙ sym entries_moved in λ i. record { name = name i; entries = all i }
-        , λ same. told.1 (ap (λ (l : Lexicon Atom). l.name) same))
+    entries_same entries r told = (
+      λ yes. let name = told.0 yes in let all = entries ∙ sym entries_moved in λ i. record { name = name i; entries = all i },
+      λ same. told.1 (ap (λ (l : Lexicon Atom). l.name) same),
+    )
 
     -- they differ
     pub entries_differ : (r : Bool) → r ≡ false → (IsTrue r ↔ (map entry_of other.entries.items ≡ map (renumbered_entry numbers) lexicon.entries.items)) → IsTrue r ↔ (lexicon_of other ≡ renumbered_lexicon numbers lexicon)
-    entries_differ r fails told =
-        ( λ yes. let clash : r ≡ true = yes in cc
-        , λ same. told.1 (ap (λ (l : Lexicon Atom). l.entries) same ∙ entries_moved))
+    entries_differ r fails told = (
+      λ yes. let clash : r ≡ true = yes in cc,
+      λ same. told.1 (ap (λ (l : Lexicon Atom). l.entries) same ∙ entries_moved),
+    )

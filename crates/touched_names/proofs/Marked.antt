@@ -36,14 +36,13 @@ module _ (definitions : List Definition) (Has : ℕ → Definition → Type 0) (
     right_more place d within at_place =
         elim (below_or_at place count within) as (λ _. IsMarked new place ↔ Has (there place) d) [
           | inl less ↦ (
-              λ marked. (right place d less at_place).0 (sym (before place less) ∙ marked),
-              λ has. before place less ∙ (right place d less at_place).1 has,
-            )
+            λ marked. (right place d less at_place).0 (sym (before place less) ∙ marked),
+            λ has. before place less ∙ (right place d less at_place).1 has,
+          )
           | inr same ↦
               let at_count : slice_get definitions count ≡ Some d = subst (λ (n : ℕ). slice_get definitions n ≡ Some d) same at_place in
               let one : given ≡ d = same_Some given d (sym at ∙ at_count) in
-              let number_is : number ≡ there place = is ∙ ap there (sym same) in
-              (
+              let number_is : number ≡ there place = is ∙ ap there (sym same) in (
                 λ marked. subst (λ (x : Definition). Has (there place) x) one (subst (λ (n : ℕ). Has n given) number_is (right_mark.0 (true_mark (subst (λ (n : ℕ). slice_get new n ≡ Some true) same marked)))),
                 λ has. subst (λ (n : ℕ). slice_get new n ≡ Some true) (sym same) (here ∙ ap (λ (b : Bool). Some b) (right_mark.1 (subst (λ (n : ℕ). Has n given) (sym number_is) (subst (λ (x : Definition). Has (there place) x) (sym one) has)))),
               )

@@ -13,7 +13,7 @@ symbols-preserved c =
     let k = c.symbols.symbol-index in
     let s : Sym = get_or symbols k (record { 0 = 0 }) in
     let at : slice_get (symbols_of alphabet) k ≡ Some s =
-        ap (λ (xs : List Sym). slice_get xs k) (sym c.symbols-symbol-items.ensures.symbols) ∙ slice_get-get_or symbols k (record { 0 = 0 }) (omega (arith, c.symbols-test.true)) in
+    ap (λ (xs : List Sym). slice_get xs k) (sym c.symbols-symbol-items.ensures.symbols) ∙ slice_get-get_or symbols k (record { 0 = 0 }) (omega (arith, c.symbols-test.true)) in
     let text = text_at alphabet c.symbols-symbol-items.ensures.formed.distinct k s at in
     let is : c.in_ok-text.field-0 ≡ text_of alphabet s = c.in_ok-text.ensures ∙ append-nil (text_of alphabet s) in
     c.in_ok-push.ensures.items
