@@ -1,0 +1,10 @@
+use Rattle.std.proofs.Common.{◌≡◌, ◌++◌, drop, map}
+use Rattle.std.specs.List.{flat_map}
+use Rattle.expr_leaves.specs.Leaves.{seen}
+use Rattle.grammar_resolution.proofs.leaves.add_definitions.Given as goal
+use Rattle.grammar_resolution.specs.Leaves.{leaves_in_definition}
+use Rattle.grammar_resolution.specs.Plain.{definition_of}
+
+-- what was found, and what is in the other items
+abbrev pub invariant-definitions : goal.invariant-definitions
+invariant-definitions g l = seen l.found.items ++ flat_map leaves_in_definition (map definition_of (drop l.definition-index l.definitions)) ≡ seen l.fn.found.items ++ flat_map leaves_in_definition (map definition_of l.definitions)

@@ -1,0 +1,16 @@
+//! Two-level grammars in a project.
+//!
+//! - [`resolve_grammar`]: a grammar whose symbols are their numbers in a table.
+//! - [`grammar_leaves`]: the leaves that stand in a grammar.
+//! - [`is_resolved_by_number`], [`symbols_are_of_leaves`]: laws, which the contracts of the crates above cite.
+//!
+//! Read `specs/Plain.antt`, `specs/Mapped.antt` and `specs/Leaves.antt`.
+#![tactic(auto)]
+
+mod laws;
+mod leaves;
+mod resolve;
+
+pub use laws::{is_resolved_by_number, symbols_are_of_leaves};
+pub use leaves::grammar_leaves;
+pub use resolve::resolve_grammar;
