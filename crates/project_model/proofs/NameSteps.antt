@@ -15,6 +15,7 @@ use Rattle.project_model.specs.Answers.{IsRefusal, IsRefusedBy, written_of}
 use Rattle.project_files.specs.declared.plan_error.PlanError.{PlanError}
 use Rattle.project_model.specs.declared.written.WrittenDefine.{WrittenDefine}
 use Rattle.name_resolution.proofs.Texts.{has_from_any, not_had}
+use Rattle.project_definitions.proofs.Steps.{refused_by}
 
 pub not_false : (b : Bool) → false ≡ not b → b ≡ true
 not_false true e = refl

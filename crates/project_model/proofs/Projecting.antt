@@ -48,7 +48,7 @@ use Rattle.project_model.proofs.Requiring.{unknown_fault}
 use Rattle.project_definitions.proofs.Expressions.{names_said}
 use Rattle.project_model.proofs.Sound.{definitions_over, sound_definitions}
 use Rattle.name_resolution.proofs.Texts.{one_longer}
-use Rattle.project_definitions.proofs.Steps.{made_more}
+use Rattle.project_definitions.proofs.Steps.{all_pass, made_more}
 
 -- a list that is made of another by two functions
 pub made_both : {X Y Z W : Type 0} (f : Y → W) (g : Z → W) (h : X → Z) (xs : List X) (i : ℕ) (x : X) (found new : List Y) (y : Y) → i < length xs
