@@ -76,7 +76,7 @@ module _ (names : Names) where
         subst LinksArePairForms y.2 (term_formed s x.0 x.1, links_formed links y.0 y.1)
 
   expression_formed : (tokens : List Token) (t : Term (Part Raw)) → IsExpression names tokens t → IsPairForm t
-  expression_formed tokens t (xs, as, s, reading, over) = term_formed s t over
+  expression_formed tokens t (xs, operands, s, reading, over) = term_formed s t over
 
   part_formed : (tokens : List Token) (t : Term (Part Raw)) → IsPart names tokens t → IsPairForm t
   part_formed [] t is = subst IsPairForm (sym is) tt
