@@ -180,8 +180,8 @@ said_formed : (s : State) (answer : Result (Grammar Raw) FaultAt) → Says s ans
 said_formed s answer (ended stage g ending) formed = end_formed stage g ending formed
 said_formed s answer (head stage g p rest ending section a leads says) formed = said_formed _ a says formed
 said_formed s answer (strange stage g p rest ending leads begins) formed = tt
-said_formed s answer (no_token section g p more line leads begins open) formed = tt
-said_formed s answer (unended section g p more reason other leads begins open verdict) formed = tt
+said_formed s answer (no_token section g p more line leads begins unclosed) formed = tt
+said_formed s answer (unended section g p more reason other leads begins unclosed verdict) formed = tt
 said_formed s answer (read section g p more rest ending t a leads begins one ends verdict says) formed =
     said_formed _ a says (with_formed g t formed (verdict_formed (names_of g) section (tokens_of (p ∷ more)) t (Ok t) verdict refl))
 said_formed s answer (refused section g p more rest ending reason leads begins one ends verdict) formed = tt
