@@ -1,6 +1,6 @@
 use Rattle.std.proofs.Common.{sym, ap, ◌∙◌, arith}
 use Rattle.regex_ast.specs.Terms.{term, links_of, contexts_of, mappings_of, steps_by, ignore, concat, chain, only, rules, steps}
-use Rattle.regex_ast.specs.declared.expr.Expr.TheViews.{out-RuleSet}
+use Rattle.regex_ast.specs.declared.expr.Expr.TheViews.{out-RuleSet, size_is-Group}
 use Rattle.regex_ast.proofs.Rows.{term-Ignore, term-Concat, term-Chain, term-Only, term-Steps}
 use Rattle.expr_leaves.specs.Mapped.{mapped}
 use Rattle.expr_mapping.proofs.Rowed.{each_more, each_ended, links_more, links_ended, steps_more, steps_ended, contexts_more, contexts_ended, mappings_more, mappings_ended, groups_more, groups_ended}
@@ -92,4 +92,4 @@ map_group-returns g t c =
     group_made (g.M.LeafMap.image c.args.images.now) c.args.group.now c.with_parts.result (ap mappings_of c.with_parts.ensures.maps ∙ maps) (c.with_parts.ensures.side ∙ sym (side_of_is c.args.group.now)) (ap contexts_of c.with_parts.ensures.contexts ∙ contexts)
 
 pub map_group-map_contexts-requires : goal.map_group-map_contexts-requires
-map_group-map_contexts-requires g t c = ?
+map_group-map_contexts-requires g t c = λ κs h. (rw c.deref-2.ensures.value (omega (arith, size_is-Group)), h)
