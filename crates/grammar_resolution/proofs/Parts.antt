@@ -1,19 +1,17 @@
 -- Pairs, and expressions over them, with their leaves replaced.
-use Rattle.std.proofs.Common.{◌≡◌, map, refl, sym, ap, ◌∙◌}
+use Rattle.std.proofs.Common.{◌≡◌, refl, sym, ap, ◌∙◌}
 use Rattle.expr_leaves.specs.Mapped.{mapped, mapped_contexts}
-use Rattle.grammar_resolution.specs.Mapped.{mapped_definition, mapped_grammar, mapped_pair, mapped_part, mapped_rule, mapped_set, mapped_side, part_by, side_by}
-use Rattle.grammar_resolution.specs.Plain.{definition_of, grammar_of, pair_of, part_of, rule_of, set_of, side_of}
+use Rattle.grammar_resolution.specs.Mapped.{mapped_definition, mapped_pair, mapped_part, mapped_rule, mapped_side, part_by, side_by}
+use Rattle.grammar_resolution.specs.Plain.{definition_of, pair_of, part_of, rule_of, side_of}
 use Rattle.name_resolution.proofs.Mapped.{contexts_twice, mapped_twice}
 use Rattle.project_meaning.specs.Trees.{pair}
 use Rattle.regex_ast.specs.Terms.{Contexts, Term, contexts_of, term}
-use Rattle.regex_ast.specs.declared.twolc.Grammar.{Grammar as GrammarOf}
 use Rattle.regex_ast.specs.declared.twolc.PairAtom.{PairAtom}
 use Rattle.regex_ast.specs.declared.twolc.PairDefine.{PairDefine}
 use Rattle.regex_ast.specs.declared.twolc.PairPart.{PairPart}
 use Rattle.regex_ast.specs.declared.twolc.PairPart.TheVariants.{Atom, Named}
 use Rattle.regex_ast.specs.declared.twolc.PairSide.{PairSide}
 use Rattle.regex_ast.specs.declared.twolc.PairSide.TheVariants.{Zero, Any, One, Member}
-use Rattle.regex_ast.specs.declared.twolc.SetOf.{SetOf}
 use Rattle.regex_ast.specs.declared.twolc.TwoLevelRule.{TwoLevelRule}
 
 module _ {A B : Type 0} (f : A → B) where
@@ -39,10 +37,7 @@ module _ {A B : Type 0} (f : A → B) where
   pub contexts_made : (cs : Contexts (PairPart A)) → mapped_contexts part_of (mapped_contexts (part_by f) cs) ≡ mapped_contexts (mapped_part f) (mapped_contexts part_of cs)
   contexts_made cs = contexts_twice part_of (part_by f) cs ∙ (λ i. mapped_contexts (λ p. part_made p i) cs) ∙ sym (contexts_twice (mapped_part f) part_of cs)
 
-  -- a set, a definition and a rule whose parts are those of another one, with other leaves
-  pub set_made : (x : SetOf A) (y : SetOf B) → y.name ≡ x.name → y.symbols.items ≡ map f x.symbols.items → set_of y ≡ mapped_set f (set_of x)
-  set_made x y name symbols = λ i. record { name = name i; symbols = symbols i }
-
+  -- a definition and a rule whose parts are those of another one, with other leaves
   pub definition_made : (x : PairDefine A) (y : PairDefine B) → y.name ≡ x.name → term y.expr ≡ mapped (part_by f) (term x.expr) → definition_of y ≡ mapped_definition f (definition_of x)
   definition_made x y name_is expr_is =
       let expr = ap (mapped part_of) expr_is ∙ term_made (term x.expr) in
@@ -54,11 +49,3 @@ module _ {A B : Type 0} (f : A → B) where
       let centre = pair_made x.pair y.pair up_is low_is in
       let contexts = ap (mapped_contexts part_of) contexts_are ∙ contexts_made (contexts_of x.contexts.items) in
       λ i. record { name = name_is i; centre = centre i; kind = kind_is i; contexts = contexts i }
-
-  pub grammar_made : (x : GrammarOf A) (y : GrammarOf B) → map pair_of y.pairs.items ≡ map (mapped_pair f) (map pair_of x.pairs.items) → map set_of y.sets.items ≡ map (mapped_set f) (map set_of x.sets.items)
-      → map definition_of y.definitions.items ≡ map (mapped_definition f) (map definition_of x.definitions.items) → map rule_of y.rules.items ≡ map (mapped_rule f) (map rule_of x.rules.items)
-      → grammar_of y ≡ mapped_grammar f (grammar_of x)
-  grammar_made x y pairs sets definitions rules = λ i. record { pairs = pairs i; sets = sets i; definitions = definitions i; rules = rules i }
-
-  pub atom_made : (p : PairAtom A) (q : PairAtom B) → q.up ≡ side_by f p.up → q.low ≡ side_by f p.low → Atom q ≡ part_by f (Atom p)
-  atom_made p q up low = λ i. Atom (record { up = up i; low = low i })

@@ -4,7 +4,7 @@ use Rattle.std.proofs.lemmas.Grind.{flat_map-append}
 use Rattle.std.proofs.lemmas.List.Folds.{flat_map-map}
 use Rattle.std.specs.List.{flat_map}
 use Rattle.expr_leaves.specs.Leaves.{leaf_alone, listed, listed_contexts}
-use Rattle.expr_leaves.specs.Mapped.{mapped, mapped_contexts}
+use Rattle.expr_leaves.specs.Mapped.{mapped_contexts}
 use Rattle.grammar_resolution.specs.Leaves.{SymbolsAreOfLeaves, leaves_in_pair, leaves_in_side, pairs_in_definition, pairs_in_part, pairs_in_rule}
 use Rattle.name_resolution.proofs.Listed.{contexts_is, listed_is}
 use Rattle.name_resolution.proofs.Mapped.{contexts_listed, mapped_listed}

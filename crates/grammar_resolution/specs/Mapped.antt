@@ -2,7 +2,6 @@
 use Rattle.std.specs.Prelude.{map}
 use Rattle.expr_leaves.specs.Mapped.{mapped, mapped_contexts}
 use Rattle.project_meaning.specs.Trees.{Side, nothing, anything, one, member, Pair, Part, pair, called, Set, PairDefinition, Rule, Grammar}
-use Rattle.regex_ast.specs.declared.twolc.PairAtom.{PairAtom}
 use Rattle.regex_ast.specs.declared.twolc.PairPart.{PairPart}
 use Rattle.regex_ast.specs.declared.twolc.PairPart.TheVariants.{Atom, Named}
 use Rattle.regex_ast.specs.declared.twolc.PairSide.{PairSide}

@@ -42,6 +42,7 @@ fn resolve_pair(
 }
 
 /// What the parts of expressions over pairs are where a table has the symbols.
+#[derive(Drop)]
 struct PartResolver<'a> {
     /// The names, which mean nothing there.
     names: &'a Names,

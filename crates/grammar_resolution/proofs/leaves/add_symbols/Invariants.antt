@@ -1,5 +1,4 @@
-use Rattle.std.proofs.Common.{◌≡◌, ◌++◌, drop, map}
-use Rattle.std.specs.List.{flat_map}
+use Rattle.std.proofs.Common.{◌≡◌, ◌++◌, drop}
 use Rattle.expr_leaves.specs.Leaves.{seen}
 use Rattle.grammar_resolution.proofs.leaves.add_symbols.Given as goal
 
