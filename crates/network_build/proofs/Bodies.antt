@@ -17,7 +17,7 @@ use Rattle.project_meaning.specs.Leaves.{expressions_in, expressions_of, forms_i
 use Rattle.project_meaning.specs.Lexicons.{letters_of}
 use Rattle.project_meaning.proofs.Places.{in_front, in_back, in_flat}
 use Rattle.project_sources.specs.Built.{PieceIsBuiltBy, FormIsBuiltBy, LexiconIsBuiltBy, BodyIsBuiltBy}
-use Rattle.project_model.specs.Bodies.{BodyFitsBy, IsFormed}
+use Rattle.project_definitions.specs.Bodies.{BodyFitsBy, IsFormed}
 use Rattle.network_expr.specs.Built.{IsBuiltOver}
 use Rattle.network_expr.specs.Parts.{is_leaf_of, kinds}
 use Rattle.network_expr.specs.declared.parts.Part.{Part}

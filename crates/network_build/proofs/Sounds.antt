@@ -32,7 +32,7 @@ use Rattle.project_meaning.specs.Trees.{Lexicon, Body, xfst, lexc, twolc}
 use Rattle.project_meaning.specs.Leaves.{expressions_of}
 use Rattle.project_meaning.specs.Lexicons.{LexiconsRelate}
 use Rattle.project_sources.specs.Built.{BodyIsBuiltBy}
-use Rattle.project_model.specs.Bodies.{BodyFitsBy, IsFormed}
+use Rattle.project_definitions.specs.Bodies.{BodyFitsBy, IsFormed}
 use Rattle.network_algebra.specs.Networks.{IsNetwork, PairsOf, UsesSymbols, all_letters, kind_of_network}
 use Rattle.network_algebra.specs.declared.network.Network.{Network}
 use Rattle.network_algebra.specs.declared.network.Network.TheVariants.{Words, Pairs}

@@ -15,7 +15,7 @@ use Rattle.network_expr.specs.Built.{IsBuiltOver}
 use Rattle.network_expr.specs.Parts.{kinds}
 use Rattle.network_expr.specs.declared.parts.Part.{Part}
 use Rattle.network_lexicons.specs.Built.{AreBuilt}
-use Rattle.project_model.specs.Bodies.{AreRooted, kind_of_body}
+use Rattle.project_definitions.specs.Bodies.{AreRooted, kind_of_body}
 use Rattle.network_build.specs.Networks.{BodyRelates}
 
 -- one of these expressions has a centre with the empty word

@@ -22,9 +22,9 @@ use Rattle.network_centres.specs.Centres.{HasEmptyCentre}
 use Rattle.network_expr.specs.Parts.{kinds, stands}
 use Rattle.network_expr.specs.declared.parts.Part.{Part}
 use Rattle.network_lexicons.specs.Plain.{symbol_in}
-use Rattle.project_model.specs.Bodies.{kind_of_body}
-use Rattle.project_model.specs.Plain.{body_of}
-use Rattle.project_model.specs.declared.definition.Definition.{Definition}
+use Rattle.project_definitions.specs.Bodies.{kind_of_body}
+use Rattle.project_definitions.specs.Plain.{body_of}
+use Rattle.project_definitions.specs.declared.definition.Definition.{Definition}
 use Rattle.network_build.specs.declared.compiled.BuildError.{BuildError}
 use Rattle.network_build.specs.declared.compiled.BuildError.TheVariants.{Memory, EmptyCentre}
 

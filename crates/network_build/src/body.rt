@@ -1,8 +1,8 @@
 ghost use Rattle.std.specs.Prelude.{◌≡◌, IfOk, false, true};
 ghost use Rattle.expr_kinds.specs.Atoms.{is_symbol_of};
 ghost use Rattle.network_expr.specs.Parts.{IsGround, is_leaf_of, kinds};
-ghost use Rattle.project_model.specs.Bodies.{BodyFitsBy, IsFormed};
-ghost use Rattle.project_model.specs.Plain.{body_of};
+ghost use Rattle.project_definitions.specs.Bodies.{BodyFitsBy, IsFormed};
+ghost use Rattle.project_definitions.specs.Plain.{body_of};
 ghost use Rattle.project_sources.specs.Built.{BodyIsBuiltBy};
 ghost use Rattle.network_build.specs.Made.{IsMade, IsReady};
 ghost use Rattle.network_build.specs.Networks.{BodyHasEmptyCentre, IsNetworkOf, body_uses_alphabet};

@@ -5,7 +5,7 @@ ghost use Rattle.lexicon_resolution.specs.Places.{behind};
 ghost use Rattle.lexicon_resolution.specs.Plain.{lexicon_of};
 ghost use Rattle.project_meaning.specs.Leaves.{expressions_of, forms_in};
 ghost use Rattle.network_centres.specs.Centres.{terms_seen};
-ghost use Rattle.project_model.specs.Plain.{body_of};
+ghost use Rattle.project_definitions.specs.Plain.{body_of};
 ghost use Rattle.network_build.specs.Networks.{body_leaves, form_leaves};
 ghost use Rattle.network_build.specs.Made.{leaf_at};
 

@@ -17,7 +17,7 @@ use Rattle.project_meaning.specs.Trees.{Lexicon, lexc}
 use Rattle.project_manifest.specs.Manifests.{project_name}
 use Rattle.project_sources.specs.Laws.{readers_so_far}
 use Rattle.project_sources.specs.Sources.{FileDefines, FilesDefine, TextSays, stated}
-use Rattle.project_model.specs.Bodies.{AreRooted, IsFormed}
+use Rattle.project_definitions.specs.Bodies.{AreRooted, IsFormed}
 
 pub rooted : (text : List ℕ) (lexicons : List (Lexicon Raw)) → SaysLexicons text (Ok lexicons) → AreRooted lexicons
 rooted text lexicons (read, reads, is) =

@@ -19,24 +19,25 @@ use Rattle.project_meaning.specs.Leaves.{Leaf, symbol, named, form_symbols, leaf
 use Rattle.project_meaning.specs.Lexicons.{piece_by}
 use Rattle.lexicon_spelling.specs.Mapped.{mapped_entry, mapped_form, mapped_lexicon}
 use Rattle.project_sources.specs.Built.{BodyIsBuiltBy, FormIsBuiltBy, LexiconIsBuiltBy, PieceIsBuiltBy}
-use Rattle.project_model.specs.Bodies.{BodyFitsBy, IsFormed, mapped_body}
-use Rattle.project_model.specs.Plain.{body_of}
-use Rattle.project_model.proofs.Bodies.{all_held, all_on, formed_resolved, listed_forms}
+use Rattle.project_definitions.specs.Bodies.{BodyFitsBy, IsFormed, mapped_body}
+use Rattle.project_definitions.specs.Plain.{body_of}
+use Rattle.project_definitions.proofs.Bodies.{all_held, all_on, formed_resolved, listed_forms}
 use Rattle.project_meaning.specs.Projects.{Definition as Meant, Written, definition_in}
-use Rattle.project_model.specs.Answers.{DoesMeet}
+use Rattle.project_definitions.specs.Demands.{DoesMeet}
 use Rattle.name_resolution.specs.Numbered.{numbered}
 use Rattle.project_model.specs.Numbered.{numbers_in, is_leaf_over, is_symbol_over, IsBodyOver}
 use Rattle.project_model.specs.Plans.{IsSoundOver}
 use Rattle.name_resolution.specs.Resolved.{atom_of}
 use Rattle.project_model.specs.Sound.{IsSound}
-use Rattle.project_model.specs.Stands.{Entry as Said, entry_of, entry_in}
-use Rattle.project_model.specs.declared.definition.Definition.{Definition}
-use Rattle.project_model.specs.declared.demands.Demand.TheVariants as demand
-use Rattle.project_model.proofs.Alphabets.{number_any, number_within}
-use Rattle.project_model.proofs.Built.{All-front, All-back, built_here, built_there}
+use Rattle.project_definitions.specs.Entries.{Entry as Said, entry_of, entry_in}
+use Rattle.project_definitions.specs.declared.definition.Definition.{Definition}
+use Rattle.project_definitions.specs.declared.demands.Demand.TheVariants as demand
+use Rattle.project_model.proofs.Alphabets.{number_any}
+use Rattle.project_definitions.proofs.Numbers.{number_within}
+use Rattle.project_definitions.proofs.Built.{All-front, All-back, built_here, built_there}
 use Rattle.name_resolution.proofs.Leaves.{leaf_cases}
 use Rattle.name_resolution.proofs.Mapped.{mapped_twice}
-use Rattle.project_model.proofs.Mapped.{mapped_built}
+use Rattle.project_definitions.proofs.Mapped.{mapped_built}
 use Rattle.name_resolution.proofs.Texts.{any_from_has}
 
 never : IsTrue false → ⊥

@@ -4,10 +4,12 @@ use Rattle.fsm_base.specs.declared.letters.Sym.{Sym}
 use Rattle.word_relations.specs.Words.{IsDistinct}
 use Rattle.expr_kinds.specs.Atoms.{kind_at, leaves_at}
 use Rattle.expr_kinds.specs.declared.form.Form.{Form}
-use Rattle.project_model.specs.Bodies.{kind_of_body}
-use Rattle.project_model.specs.Plain.{body_of}
+use Rattle.project_definitions.specs.Bodies.{kind_of_body}
+use Rattle.project_definitions.specs.Plain.{body_of}
 use Rattle.project_model.specs.Sound.{IsSound}
-use Rattle.project_model.specs.declared.definition.Definition.{Definition}
+use Rattle.project_definitions.specs.declared.definition.Definition.{Definition}
+use Rattle.name_order.specs.Orders.{IsOrder}
+use Rattle.project_definitions.specs.Referring.{references_of}
 
 pub record PlanView : Type 0 where
   pub definitions : List Definition
@@ -30,3 +32,8 @@ pub record IsPlan (plan : PlanView) : Type 0 where
   pub names : IsDistinct (map (λ d. d.name) plan.definitions)
   pub forms : HaveKinds plan.definitions plan.forms
   pub sound : All (IsSoundOver plan.forms plan.symbols) plan.definitions
+
+-- a plan, with the places of its definitions in an order in which each stands behind those that it refers to
+pub record IsOrderedPlan (plan : PlanView) (order : List ℕ) : Type 0 where
+  pub formed : IsPlan plan
+  pub ordered : IsOrder (references_of plan.definitions) order

@@ -6,7 +6,7 @@ use Rattle.expr_kinds.specs.Atoms.{is_leaf_at, is_symbol_of, leaves_at}
 use Rattle.expr_kinds.specs.declared.form.Form.{Form}
 use Rattle.project_meaning.specs.Trees.{Body}
 use Rattle.project_sources.specs.Built.{BodyIsBuiltBy}
-use Rattle.project_model.specs.Bodies.{BodyFitsBy, IsFormed}
+use Rattle.project_definitions.specs.Bodies.{BodyFitsBy, IsFormed}
 
 -- each operand that must be a language is one, where names have the kinds of these forms; each insertion stands alone in its rules,
 -- and each leaf is a symbol of the alphabet or, in an expression, a name with a form; and lexicons have names of their own, of which one is `Root`

@@ -7,22 +7,16 @@
 #![tactic(auto)]
 
 mod content;
-mod definition;
-mod demands;
-mod entries;
 mod files;
-mod forms;
 mod names;
 mod plan;
 mod read;
-mod references;
 mod symbols;
 mod unknown;
 mod written;
 
-pub use definition::{Body, Definition};
-pub use demands::Demand;
 pub use plan::Plan;
+pub use project_definitions::{Body, Definition, Demand};
 pub use project_files::{PlanError, Sources};
 pub use project_manifest::{Manifest, read_manifest};
 pub use read::{manifest_of, read_project};

@@ -9,23 +9,20 @@ ghost use Rattle.project_meaning.specs.Projects.{names_of, with_texts};
 ghost use Rattle.project_sources.specs.Faults.{definitions_so_far, fault, said_so_far};
 ghost use Rattle.project_sources.specs.Limits.{most_before, most_symbols};
 ghost use Rattle.project_sources.specs.Sources.{project_in};
-ghost use Rattle.project_model.specs.Answers.{DemandFault, DoesMeet, IsPlanBy, IsRefusal, IsRefusedBy, demands, said_of, written_of};
+ghost use Rattle.project_definitions.specs.Demands.{DemandFault, DoesMeet, demands};
+ghost use Rattle.project_model.specs.Answers.{IsPlanBy, IsRefusal, IsRefusedBy, said_of, written_of};
 ghost use Rattle.project_meaning.specs.Leaves.{resolved};
 ghost use Rattle.name_resolution.specs.Numbered.{numbered};
-ghost use Rattle.project_model.specs.Bodies.{IsFormed, mapped_body};
-ghost use Rattle.project_model.specs.Plain.{body_of};
+ghost use Rattle.project_definitions.specs.Bodies.{IsFormed, mapped_body};
+ghost use Rattle.project_definitions.specs.Plain.{body_of};
 ghost use Rattle.project_model.specs.Gathered.{gathered, symbols_of_all};
 ghost use Rattle.project_model.specs.Numbered.{numbers_in};
 ghost use Rattle.project_model.specs.Plans.{IsPlan};
-ghost use Rattle.project_model.specs.Referring.{references_of};
-ghost use Rattle.project_model.specs.Stands.{entry_in, entry_of};
-ghost use Rattle.project_model.specs.declared.demands.Demand.TheVariants as demand;
+ghost use Rattle.project_definitions.specs.Referring.{references_of};
+ghost use Rattle.project_definitions.specs.Entries.{entry_in, entry_of};
+ghost use Rattle.project_definitions.specs.declared.demands.Demand.TheVariants as demand;
 
-use crate::definition::{Body, Definition};
-use crate::demands::{Demand, first_failing};
-use crate::forms::forms_of;
 use crate::names::names_of;
-use crate::references::order_in;
 use crate::symbols::symbols_of;
 use crate::unknown::first_unknown;
 use crate::written::WrittenDefine;
@@ -33,6 +30,7 @@ use expr_kinds::Form;
 use fsm_base::{Sym, SymbolTable, Text};
 use lexicon_resolution::{are_resolved_by_number, resolve_lexicons};
 use name_resolution::{Names, resolve};
+use project_definitions::{Body, Definition, Demand, first_failing, forms_of, order_in};
 use project_files::{PlanError, refused};
 use project_manifest::ManifestLine;
 use project_sources::MOST_SYMBOLS;
@@ -63,7 +61,7 @@ impl Model for Plan {
 
     ghost coded = { Prim.hlevel (codes, (expr.the_row atom.the_row).coded) };
 
-    ghost use Rattle.project_model.specs.Referring.{IsOrderedPlan};
+    ghost use Rattle.project_model.specs.Plans.{IsOrderedPlan};
 
     ghost view = { λ p. record { definitions = p.definitions.items; symbols = p.symbols.items; forms = p.forms.items } };
 

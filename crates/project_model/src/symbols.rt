@@ -8,14 +8,14 @@ ghost use Rattle.project_meaning.specs.Leaves.{leaf_of, resolved, symbol, symbol
 ghost use Rattle.project_sources.specs.Limits.{most_symbols};
 ghost use Rattle.project_model.specs.Answers.{written_of};
 ghost use Rattle.project_model.specs.Gathered.{gathered, symbol_beside, symbols_of_all};
-ghost use Rattle.project_model.specs.Plain.{body_of};
+ghost use Rattle.project_definitions.specs.Plain.{body_of};
 
-use crate::definition::Body;
 use crate::written::WrittenDefine;
 use expr_leaves::leaves;
 use fsm_base::SymbolTable;
 use lexicon_resolution::{Place, places, symbols_are_of_places};
 use name_resolution::{Names, symbol_text};
+use project_definitions::Body;
 use project_sources::MOST_SYMBOLS;
 use regex_ast::{Expr, Raw};
 use std::alloc::{AllocError, Global};

@@ -20,8 +20,8 @@ use Rattle.project_meaning.specs.Trees.{Piece, letter, flag, Form, sides, pairs,
 use Rattle.project_meaning.specs.Leaves.{expressions_in, expressions_of, forms_in}
 use Rattle.project_meaning.specs.Lexicons.{piece_by}
 use Rattle.project_meaning.proofs.Places.{in_flat}
-use Rattle.project_model.specs.Referring.{place_in, places_in}
-use Rattle.project_model.proofs.Gathering.{listed_is}
+use Rattle.project_definitions.specs.Referring.{place_in, places_in}
+use Rattle.name_resolution.proofs.Listed.{listed_is}
 use Rattle.project_sources.specs.Built.{PieceIsBuiltBy, FormIsBuiltBy, LexiconIsBuiltBy, BodyIsBuiltBy}
 
 -- what one of many gives is of one of them

@@ -16,8 +16,9 @@ use Rattle.project_sources.specs.Laws.{IsSoundProject}
 use Rattle.project_sources.specs.Sources.{Said, project_in}
 use Rattle.project_model.specs.Numbered.{numbers_in}
 use Rattle.project_model.specs.Plans.{IsPlan, PlanView}
-use Rattle.project_model.specs.Stands.{Stands, entry_in, entry_of}
-use Rattle.project_model.specs.declared.definition.Definition.{Definition}
+use Rattle.project_model.specs.Stands.{Stands}
+use Rattle.project_definitions.specs.Entries.{entry_in, entry_of}
+use Rattle.project_definitions.specs.declared.definition.Definition.{Definition}
 use Rattle.project_store.specs.Loaded.{AreNames, IsLoadedFrom, LoadedView}
 use Rattle.project_store.proofs.Ordered.{in_order_from_sorted}
 use Rattle.project_store.proofs.Shown.{names_differ}

@@ -49,17 +49,17 @@ use Rattle.project_sources.specs.Sources.{Said, project_in}
 use Rattle.name_resolution.specs.Numbered.{numbered}
 use Rattle.project_model.specs.Numbered.{IsBodyOver, is_leaf_over, is_symbol_over}
 use Rattle.name_resolution.specs.Resolved.{atom_of}
-use Rattle.project_model.specs.Bodies.{mapped_body, no_grammar}
-use Rattle.project_model.specs.Plain.{body_of}
-use Rattle.project_model.specs.Stands.{Entry, entry_in, entry_of}
-use Rattle.project_model.proofs.Alphabets.{at_number}
-use Rattle.project_model.proofs.Bodies.{expressions_mapped, expressions_resolved}
-use Rattle.project_model.proofs.Expressions.{names_said, not_grammar}
+use Rattle.project_definitions.specs.Bodies.{mapped_body, no_grammar}
+use Rattle.project_definitions.specs.Plain.{body_of}
+use Rattle.project_definitions.specs.Entries.{Entry, entry_in, entry_of}
+use Rattle.project_definitions.proofs.Numbers.{at_number}
+use Rattle.project_definitions.proofs.Bodies.{expressions_mapped, expressions_resolved}
+use Rattle.project_definitions.proofs.Expressions.{names_said, not_grammar}
 use Rattle.name_resolution.proofs.Leaves.{leaf_cases}
 use Rattle.name_resolution.proofs.Mapped.{mapped_twice}
-use Rattle.project_model.proofs.Mapped.{mapped_built}
-use Rattle.project_model.proofs.Referring.{at_map}
-use Rattle.project_model.specs.declared.definition.Definition.{Definition}
+use Rattle.project_definitions.proofs.Mapped.{mapped_built}
+use Rattle.project_definitions.proofs.Referring.{at_map}
+use Rattle.project_definitions.specs.declared.definition.Definition.{Definition}
 use Rattle.project_store.specs.Building.{IsBuiltAt}
 use Rattle.project_store.specs.Centres.{body_centres}
 use Rattle.project_store.specs.Loaded.{IsLoadedFrom, LoadedView}

@@ -30,13 +30,14 @@ use Rattle.project_manifest.specs.Rows.{First, Where}
 use Rattle.project_sources.specs.Sources.{FilesSay, Said, project_in, resolved_in}
 use Rattle.project_sources.proofs.Once.{files_say_one, exact_so_far}
 use Rattle.project_sources.proofs.Sound.{centres_come_last}
-use Rattle.project_model.specs.Forms.{AreDefined}
-use Rattle.project_model.specs.Plain.{body_of}
-use Rattle.project_model.specs.Referring.{body_places, references_of}
-use Rattle.project_model.specs.Stands.{Entry, entry_in, entry_of}
-use Rattle.project_model.specs.declared.definition.Definition.{Definition}
-use Rattle.project_model.proofs.Alphabets.{at_number, put}
-use Rattle.project_model.proofs.Referring.{at_map, count, first_here, from_graph, name_at, place_at, references_whole, referred_among, to_graph}
+use Rattle.project_definitions.specs.Forms.{AreDefined}
+use Rattle.project_definitions.specs.Plain.{body_of}
+use Rattle.project_definitions.specs.Referring.{body_places, references_of}
+use Rattle.project_definitions.specs.Entries.{Entry, entry_in, entry_of}
+use Rattle.project_definitions.specs.declared.definition.Definition.{Definition}
+use Rattle.project_definitions.proofs.Numbers.{at_number}
+use Rattle.project_model.proofs.Alphabets.{put}
+use Rattle.project_definitions.proofs.Referring.{at_map, count, first_here, from_graph, name_at, place_at, references_whole, referred_among, to_graph}
 use Rattle.project_store.specs.Building.{AreBuilt, HasParts, IsBuiltAt, IsThere, expression_leaves}
 use Rattle.project_store.specs.Centres.{AreClear, AreFree, AreTried, CentresAreBuilt, HasNoCentre, HasNoEmptyCentre, HasNoNetwork, HasNoOwn, HasNone, IsBarred, IsCentreError, IsFirstEmpty, IsFirstMark, IsFree, IsOutcome, OfPlace, body_centres, with_empty, with_network}
 use Rattle.project_store.specs.Loaded.{IsLoadedFrom, LoadedView}

@@ -9,8 +9,8 @@ use Rattle.project_sources.specs.Laws.{IsSoundProject}
 use Rattle.project_sources.specs.Sources.{Said, project_in}
 use Rattle.project_model.specs.Numbered.{IsBodyOver, numbers_in}
 use Rattle.project_model.specs.Plans.{IsPlan, PlanView}
-use Rattle.project_model.specs.Stands.{entry_in, entry_of}
-use Rattle.project_model.specs.declared.definition.Definition.{Definition}
+use Rattle.project_definitions.specs.Entries.{entry_in, entry_of}
+use Rattle.project_definitions.specs.declared.definition.Definition.{Definition}
 
 pub record LoadedView : Type 0 where
   pub definitions : List Definition

@@ -1,8 +1,8 @@
 ghost use Rattle.std.specs.Prelude.{◌≡◌, ◌≤◌, ◌<◌, ℕ, [], All, Contains, IfOk, MatchOption, None, Some, false, length, replicate, slice_get};
 ghost use Rattle.std.specs.Bool.{OnFalse, OnTrue};
 ghost use Rattle.project_meaning.specs.Centres.{centres_in};
-ghost use Rattle.project_model.specs.Plain.{body_of};
-ghost use Rattle.project_model.specs.declared.definition.Definition.{Definition as Defined};
+ghost use Rattle.project_definitions.specs.Plain.{body_of};
+ghost use Rattle.project_definitions.specs.declared.definition.Definition.{Definition as Defined};
 ghost use Rattle.regex_ast.specs.declared.expr.Atom.{Atom as Leaf};
 ghost use Rattle.regex_ast.specs.Terms.{term};
 ghost use Rattle.project_store.specs.Building.{expression_leaves};

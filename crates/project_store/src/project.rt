@@ -1,6 +1,6 @@
 ghost use Rattle.std.specs.Prelude.{◌≡◌, ◌<◌, [], All, Contains, IfOk, MatchOption, Some, length, slice_get};
 ghost use Rattle.project_model.specs.Plans.{IsPlan};
-ghost use Rattle.project_model.specs.declared.definition.Definition.{Definition};
+ghost use Rattle.project_definitions.specs.declared.definition.Definition.{Definition};
 ghost use Rattle.project_model.specs.Stands.{Stands};
 ghost use Rattle.project_sources.specs.Laws.{IsSoundProject};
 ghost use Rattle.project_sources.specs.Sources.{Said, project_in};

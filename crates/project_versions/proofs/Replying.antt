@@ -11,7 +11,7 @@ use Rattle.fsm_base.specs.declared.letters.Pair.{Pair}
 use Rattle.lookup_answers.specs.declared.direction.Direction.{Direction}
 use Rattle.network_build.specs.Networks.{CompiledView}
 use Rattle.project_meaning.specs.Projects.{Defines, Project}
-use Rattle.project_model.specs.declared.definition.Definition.{Definition}
+use Rattle.project_definitions.specs.declared.definition.Definition.{Definition}
 use Rattle.project_sources.specs.Edits.{Version}
 use Rattle.project_store.specs.Networks.{Shows, ShowsName}
 use Rattle.project_store.proofs.Shown.{name_here, same_name, shows_none}

@@ -25,15 +25,16 @@ use Rattle.project_meaning.specs.Trees.{Body}
 use Rattle.project_sources.specs.Built.{BodyIsBuiltBy}
 use Rattle.project_sources.specs.Sources.{Said, project_in}
 use Rattle.name_resolution.specs.Numbered.{numbered}
-use Rattle.project_model.specs.Bodies.{mapped_body}
+use Rattle.project_definitions.specs.Bodies.{mapped_body}
 use Rattle.project_model.specs.Numbered.{numbers_in}
-use Rattle.project_model.specs.Plain.{body_of}
+use Rattle.project_definitions.specs.Plain.{body_of}
 use Rattle.project_model.specs.Plans.{IsSoundOver}
-use Rattle.project_model.specs.Stands.{Entry, entry_in, entry_of}
-use Rattle.project_model.specs.declared.definition.Definition.{Definition}
-use Rattle.project_model.proofs.Alphabets.{at_number, number_within, numbers_held, symbols_of-listed}
-use Rattle.project_model.proofs.Expressions.{names_said}
-use Rattle.project_model.proofs.Referring.{at_map}
+use Rattle.project_definitions.specs.Entries.{Entry, entry_in, entry_of}
+use Rattle.project_definitions.specs.declared.definition.Definition.{Definition}
+use Rattle.project_definitions.proofs.Numbers.{at_number, number_within}
+use Rattle.project_model.proofs.Alphabets.{numbers_held, symbols_of-listed}
+use Rattle.project_definitions.proofs.Expressions.{names_said}
+use Rattle.project_definitions.proofs.Referring.{at_map}
 use Rattle.touched_names.specs.Bodies.{uses_symbols}
 use Rattle.touched_names.specs.Itself.{AreNumbers, IsKept, names_in, number_there, places_among}
 use Rattle.touched_names.specs.Touched.{StandFor}

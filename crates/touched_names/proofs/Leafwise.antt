@@ -20,9 +20,9 @@ use Rattle.project_meaning.specs.Lexicons.{piece_by}
 use Rattle.project_meaning.specs.Trees.{Piece, letter, flag, Form, sides, pairs, Entry, Lexicon, Body, xfst, lexc, twolc}
 use Rattle.project_sources.specs.Built.{PieceIsBuiltBy, FormIsBuiltBy, LexiconIsBuiltBy, BodyIsBuiltBy}
 use Rattle.lexicon_spelling.specs.Mapped.{mapped_form, mapped_entry, mapped_lexicon}
-use Rattle.project_model.specs.Bodies.{mapped_body}
-use Rattle.project_model.proofs.Bodies.{expressions_mapped}
-use Rattle.project_model.proofs.Mapped.{mapped_built}
+use Rattle.project_definitions.specs.Bodies.{mapped_body}
+use Rattle.project_definitions.proofs.Bodies.{expressions_mapped}
+use Rattle.project_definitions.proofs.Mapped.{mapped_built}
 use Rattle.touched_names.specs.Bodies.{uses_symbols}
 
 -- item by item

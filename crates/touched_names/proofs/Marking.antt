@@ -9,9 +9,9 @@ use Rattle.word_relations.proofs.Places.{Contains-from_slice_get, slice_get_from
 use Rattle.std.proofs.lemmas.List.{length-map}
 use Rattle.std.specs.Option.{option_map}
 use Rattle.name_order.specs.Graph.{Refers}
-use Rattle.project_model.specs.Plain.{body_of}
-use Rattle.project_model.specs.Referring.{body_places, references_of}
-use Rattle.project_model.specs.declared.definition.Definition.{Definition}
+use Rattle.project_definitions.specs.Plain.{body_of}
+use Rattle.project_definitions.specs.Referring.{body_places, references_of}
+use Rattle.project_definitions.specs.declared.definition.Definition.{Definition}
 use Rattle.name_order.specs.Orders.{IsOrder}
 use Rattle.touched_names.proofs.Numbers.{front_place}
 use Rattle.touched_names.specs.Places.{AreMarked, ArePlaces, HasMarked, IsMarked, TouchedPlace, by_itself, by_reference}

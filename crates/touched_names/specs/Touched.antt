@@ -8,8 +8,8 @@ use Rattle.project_meaning.specs.Touched.{Touched}
 use Rattle.project_sources.specs.Sources.{Said, project_in}
 use Rattle.project_model.specs.Numbered.{numbers_in}
 use Rattle.project_model.specs.Plans.{IsPlan}
-use Rattle.project_model.specs.Stands.{entry_in, entry_of}
-use Rattle.project_model.specs.declared.definition.Definition.{Definition}
+use Rattle.project_definitions.specs.Entries.{entry_in, entry_of}
+use Rattle.project_definitions.specs.declared.definition.Definition.{Definition}
 use Rattle.touched_names.specs.Places.{ArePlaces}
 
 -- Definitions over the numbers of an alphabet stand for what sources say: they are the same, the number of a symbol is its place in the

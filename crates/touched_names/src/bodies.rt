@@ -5,9 +5,9 @@ ghost use Rattle.expr_leaves.specs.Alphabet.{uses_alphabet};
 ghost use Rattle.expr_leaves.specs.Leaves.{seen};
 ghost use Rattle.expr_equality.specs.Renumbered.{renumbered};
 ghost use Rattle.lexicon_resolution.specs.Places.{terms_behind};
-ghost use Rattle.project_model.specs.Bodies.{mapped_body};
-ghost use Rattle.project_model.specs.Plain.{body_of};
-ghost use Rattle.project_model.specs.Referring.{body_places, place_in, places_in};
+ghost use Rattle.project_definitions.specs.Bodies.{mapped_body};
+ghost use Rattle.project_definitions.specs.Plain.{body_of};
+ghost use Rattle.project_definitions.specs.Referring.{body_places, place_in, places_in};
 ghost use Rattle.touched_names.specs.Bodies.{uses_symbols};
 ghost use Rattle.touched_names.specs.Places.{HasMarked, IsMarked};
 
@@ -15,7 +15,7 @@ use expr_equality::{Renumbering, same_expr};
 use expr_leaves::{leaves, uses_alphabet};
 use lexicon_equality::same_lexicons;
 use lexicon_resolution::expressions;
-use project_model::Body;
+use project_definitions::Body;
 use regex_ast::{Atom, Expr};
 use std::alloc::{AllocError, Global};
 

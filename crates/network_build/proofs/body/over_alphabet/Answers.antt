@@ -1,5 +1,5 @@
 use Rattle.std.proofs.Common.{inr}
-use Rattle.project_model.specs.Plain.{body_of}
+use Rattle.project_definitions.specs.Plain.{body_of}
 use Rattle.network_build.proofs.Sounds.{network_made, ready_over_alphabet}
 use Rattle.network_build.proofs.body.over_alphabet.Goals as goal
 

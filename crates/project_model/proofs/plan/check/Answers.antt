@@ -2,10 +2,10 @@ use Rattle.std.proofs.Common.{inl, inr}
 use Rattle.regex_ast.specs.declared.fault.Why.TheVariants as why
 use Rattle.project_manifest.specs.Rows.{First}
 use Rattle.project_sources.specs.Faults.{fault}
-use Rattle.project_model.specs.Answers.{DemandFault, demands}
-use Rattle.project_model.specs.declared.demands.Demand.TheVariants as demand
-use Rattle.project_model.proofs.NameSteps.{refused_by}
-use Rattle.project_model.proofs.Projecting.{all_pass}
+use Rattle.project_definitions.specs.Demands.{DemandFault, demands}
+use Rattle.project_definitions.specs.declared.demands.Demand.TheVariants as demand
+use Rattle.project_definitions.proofs.Steps.{refused_by}
+use Rattle.project_definitions.proofs.Steps.{all_pass}
 use Rattle.project_model.proofs.plan.check.Goals as goal
 
 pub returns-in-Some-clause-error : goal.returns-in-Some-clause-error

@@ -2,8 +2,8 @@ use Rattle.std.proofs.Common.{List, ℕ, map, subst}
 use Rattle.project_meaning.specs.Projects.{names_of}
 use Rattle.project_sources.specs.Sources.{Said, project_in}
 use Rattle.project_model.specs.Answers.{written_of}
-use Rattle.project_model.specs.Forms.{AreDefined, AreForms}
-use Rattle.project_model.specs.declared.definition.Definition.{Definition}
+use Rattle.project_definitions.specs.Forms.{AreDefined, AreForms}
+use Rattle.project_definitions.specs.declared.definition.Definition.{Definition}
 use Rattle.project_model.proofs.Projecting.{is_plan, is_planned, why_no_order, why_no_plan}
 use Rattle.project_model.proofs.plan.plan_over.Goals as goal
 

@@ -5,9 +5,9 @@ use Rattle.project_meaning.specs.Leaves.{leaf_of, resolved}
 use Rattle.project_meaning.specs.Trees.{xfst}
 use Rattle.name_resolution.specs.Numbered.{numbered}
 use Rattle.name_resolution.proofs.Mapped.{mapped_twice}
-use Rattle.project_model.specs.Bodies.{mapped_body}
-use Rattle.project_model.specs.Plain.{body_of}
-use Rattle.project_model.specs.declared.definition.Body.{Body}
+use Rattle.project_definitions.specs.Bodies.{mapped_body}
+use Rattle.project_definitions.specs.Plain.{body_of}
+use Rattle.project_definitions.specs.declared.definition.Body.{Body}
 use Rattle.project_model.proofs.plan.resolve_body.Goals as goal
 
 pub returns-in_ok-resolve-in-Xfst : goal.returns-in_ok-resolve-in-Xfst

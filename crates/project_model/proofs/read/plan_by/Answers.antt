@@ -1,6 +1,6 @@
 use Rattle.std.proofs.Common.{All, map, sym, subst}
 use Rattle.project_meaning.specs.Projects.{Written}
-use Rattle.project_model.specs.Bodies.{IsFormed}
+use Rattle.project_definitions.specs.Bodies.{IsFormed}
 use Rattle.project_model.specs.Answers.{written_of}
 use Rattle.project_model.proofs.Formed.{formed_files}
 use Rattle.project_model.proofs.Reading.{planned_files}

@@ -2,8 +2,8 @@ use Rattle.std.proofs.Common.{◌≡◌, ◌↔◌, IsTrue, map, ap}
 use Rattle.expr_equality.specs.Renumbered.{renumbered}
 use Rattle.lexicon_equality.specs.Renumbered.{renumbered_lexicon}
 use Rattle.lexicon_resolution.specs.Plain.{lexicon_of}
-use Rattle.project_model.specs.Bodies.{mapped_body}
-use Rattle.project_model.specs.Plain.{body_of}
+use Rattle.project_definitions.specs.Bodies.{mapped_body}
+use Rattle.project_definitions.specs.Plain.{body_of}
 use Rattle.touched_names.proofs.Leafwise.{lexc_same, ok_follows}
 use Rattle.touched_names.proofs.bodies.same_body.Goals as goal
 

@@ -1,0 +1,6 @@
+pub mod Bodies
+pub mod Demands
+pub mod Entries
+pub mod Forms
+pub mod Plain
+pub mod Referring
