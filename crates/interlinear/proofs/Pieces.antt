@@ -1,9 +1,11 @@
--- A text has no more lines than bytes, and one more.
-use Rattle.std.proofs.Common.{◌≡◌, ℕ, ◌+◌, ◌≤◌, Bool, true, false, List, [], ◌∷◌, ◌++◌, length, ap, arith, IsUtf8}
+-- A text has no more lines than bytes, and one more; and no word with more bytes.
+use Rattle.std.proofs.Common.{◌≡◌, ℕ, ◌+◌, ◌≤◌, Bool, true, false, List, [], ◌∷◌, ◌++◌, length, All, ap, subst, arith, IsUtf8}
 use Rattle.std.specs.Prelude.{chars, codes, encode_utf8, if◌then◌else◌}
 use Rattle.std.proofs.Math.Utf8.{encodes}
+use Rattle.std.proofs.lemmas.List.{length-append}
+use Rattle.std.proofs.lemmas.List.Elements.{All-cons, All-filter, All-nil, All-weaker}
 use Rattle.std.proofs.lemmas.Str.{length-le-encodes, encodes-chars}
-use Rattle.interlinear.specs.Words.{is_among, pieces_from}
+use Rattle.interlinear.specs.Words.{between_words, is_among, is_some, pieces_from, pieces_of, words_of}
 use Rattle.interlinear.specs.Glosses.{lines_of}
 
 few_pieces : (ends piece cs : List ℕ) → length (pieces_from ends piece cs) ≤ length cs + 1
@@ -21,3 +23,32 @@ few_lines text utf8 =
     let characters = length-le-encodes (chars text) in
     let same : length (encodes (chars text)) ≡ length text = ap length (encodes-chars text utf8) in
     omega arith
+
+-- it has so many bytes at most
+abbrev pub IsWithin : ℕ → List ℕ → Type 0
+IsWithin most piece = length piece ≤ most
+
+-- what the characters behind a piece add to it
+abbrev grown : List ℕ → List ℕ → ℕ
+grown piece cs = length piece + length (encodes cs)
+
+pieces_within : (ends piece cs : List ℕ) → All (IsWithin (grown piece cs)) (pieces_from ends piece cs)
+pieces_within ends piece [] = All-cons (IsWithin (grown piece [])) piece [] (omega arith) (All-nil (IsWithin (grown piece [])))
+pieces_within ends piece (c ∷ cs) = by (is_among ends c) (pieces_within ends [] cs) (pieces_within ends (piece ++ encode_utf8 c) cs)
+  where
+    longer : length (encodes (c ∷ cs)) ≡ length (encode_utf8 c) + length (encodes cs)
+    longer = length-append (encode_utf8 c) (encodes cs)
+
+    by : (test : Bool) → All (IsWithin (grown [] cs)) (pieces_from ends [] cs) → All (IsWithin (grown (piece ++ encode_utf8 c) cs)) (pieces_from ends (piece ++ encode_utf8 c) cs)
+        → All (IsWithin (grown piece (c ∷ cs))) (if test then piece ∷ pieces_from ends [] cs else pieces_from ends (piece ++ encode_utf8 c) cs)
+    by true apart on =
+        All-cons (IsWithin (grown piece (c ∷ cs))) piece (pieces_from ends [] cs) (omega arith)
+        (All-weaker (IsWithin (grown [] cs)) (IsWithin (grown piece (c ∷ cs))) (λ p within. omega (arith, within, longer)) (pieces_from ends [] cs) apart)
+    by false apart on =
+        All-weaker (IsWithin (grown (piece ++ encode_utf8 c) cs)) (IsWithin (grown piece (c ∷ cs))) (λ p within. omega (arith, within, longer, length-append piece (encode_utf8 c)))
+        (pieces_from ends (piece ++ encode_utf8 c) cs) on
+
+pub words_within : (text : List ℕ) → IsUtf8 text → All (IsWithin (length text)) (words_of text)
+words_within text utf8 =
+    All-filter is_some (IsWithin (length text)) (pieces_of between_words text)
+    (subst (λ (bytes : List ℕ). All (IsWithin (length bytes)) (pieces_of between_words text)) (encodes-chars text utf8) (pieces_within between_words [] (chars text)))
