@@ -20,3 +20,4 @@ mod Projecting
 pub mod Reading
 mod Plain
 mod FileSteps
+mod Glossing
