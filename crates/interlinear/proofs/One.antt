@@ -12,8 +12,7 @@ use Rattle.reply_meaning.specs.OneReply.{IsMemory}
 use Rattle.reply_meaning.specs.Replies.{Related, word_of}
 use Rattle.interlinear.specs.Blocks.{block_of}
 use Rattle.interlinear.specs.Glosses.{Entry}
-use Rattle.interlinear.specs.Replies.{AreCells, GlossesLine, GlossesText, IsCell, analysis_of, gloss_in, glossed_line, in_block, long, looked_up, no_memory, no_net, no_symbol, no_text}
-use Rattle.interlinear.specs.Words.{words_of}
+use Rattle.interlinear.specs.Replies.{GlossesLine, GlossesText, IsCell, analysis_of, gloss_in, glossed_line, in_block, long, looked_up, no_memory, no_net, no_symbol, no_text}
 use Rattle.interlinear.specs.declared.columns.Cell.{Cell}
 
 same_ok : {A B : Type 0} (r : Result A B) (x y : A) → r ≡ Ok x → r ≡ Ok y → x ≡ y

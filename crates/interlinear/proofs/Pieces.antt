@@ -1,5 +1,5 @@
 -- A text has no more lines than bytes, and one more; and no word with more bytes.
-use Rattle.std.proofs.Common.{◌≡◌, ℕ, ◌+◌, ◌≤◌, Bool, true, false, List, [], ◌∷◌, ◌++◌, length, All, ap, subst, arith, IsUtf8}
+use Rattle.std.proofs.Common.{◌≡◌, ℕ, ◌+◌, ◌≤◌, Bool, true, false, List, [], ◌∷◌, ◌++◌, length, All, ap, arith, IsUtf8}
 use Rattle.std.specs.Prelude.{chars, codes, encode_utf8, if◌then◌else◌}
 use Rattle.std.proofs.Math.Utf8.{encodes}
 use Rattle.std.proofs.lemmas.List.{length-append}
@@ -50,5 +50,6 @@ pieces_within ends piece (c ∷ cs) = by (is_among ends c) (pieces_within ends [
 
 pub words_within : (text : List ℕ) → IsUtf8 text → All (IsWithin (length text)) (words_of text)
 words_within text utf8 =
+    let same : length (encodes (chars text)) ≡ length text = ap length (encodes-chars text utf8) in
     All-filter is_some (IsWithin (length text)) (pieces_of between_words text)
-    (subst (λ (bytes : List ℕ). All (IsWithin (length bytes)) (pieces_of between_words text)) (encodes-chars text utf8) (pieces_within between_words [] (chars text)))
+    (All-weaker (IsWithin (grown [] (chars text))) (IsWithin (length text)) (λ p within. omega (arith, within, same)) (pieces_of between_words text) (pieces_within between_words [] (chars text)))

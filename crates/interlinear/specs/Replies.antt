@@ -1,6 +1,6 @@
 -- The reply to a line of text that is glossed: the block of its words. The cell of a word says what is found of it when it is
 -- looked up upwards in a network. The line is in Normalization Form C.
-use Rattle.std.specs.Prelude.{◌≡◌, ◌++◌, ℕ, true, List, [], ◌∷◌, length, map, All, Option, None, Some, Ok, Err, codes, decimal}
+use Rattle.std.specs.Prelude.{◌≡◌, ◌++◌, ℕ, List, [], ◌∷◌, length, map, All, Option, None, Some, Ok, Err, codes, decimal}
 use Rattle.fsm_base.specs.Cut.{cut}
 use Rattle.word_relations.specs.Answers.{Found, strings, more, loop, Answers}
 use Rattle.lookup_answers.specs.declared.direction.Direction.TheVariants.{Up}

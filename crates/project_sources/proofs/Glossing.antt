@@ -1,13 +1,12 @@
 -- Sources have one table of glosses, and those that are a project have one.
 use Rattle.std.proofs.Common.{◌≡◌, ℕ, List, [], ◌∷◌, ◌++◌, Ok, Result, refl, sym, subst, ◌∙◌}
 use Rattle.fsm_io.specs.Folders.{Files}
-use Rattle.regex_reader.specs.Files.{FaultAt}
 use Rattle.interlinear.specs.Glosses.{Entry}
 use Rattle.project_manifest.specs.Lines.{Line, Placed, alphabet_line, file_in, gloss_files_in, gloss_line, glosses_said, lexc_line, manifest_of, require_line, twolc_line, xfst_line}
 use Rattle.project_manifest.specs.Manifests.{project_name}
 use Rattle.project_meaning.specs.Projects.{Project, Written}
 use Rattle.project_sources.specs.Faults.{Row, SourcesSay}
-use Rattle.project_sources.specs.Sources.{AreExact, FileDefines, FilesDefine, FilesGloss, GlossesOf, HaveText, Readers}
+use Rattle.project_sources.specs.Sources.{AreExact, FileDefines, FilesDefine, FilesGloss, GlossesOf, Readers}
 use Rattle.project_sources.proofs.Once.{text_one}
 
 same_table : {E : Type 0} (a b : List Entry) (p q : Result (List Entry) E) → p ≡ Ok a → q ≡ Ok b → p ≡ q → a ≡ b
