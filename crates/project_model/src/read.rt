@@ -5,7 +5,7 @@ ghost use Rattle.project_sources.specs.Limits.{most_before};
 ghost use Rattle.project_model.specs.Answers.{IsManifestFile, IsNoManifest, IsProjectRead, IsRefusedBy};
 
 use crate::content::text_of_file;
-use crate::files::contents_of;
+use crate::files::{Contents, contents_of};
 use crate::plan::{Plan, plan_of};
 use fsm_base::SymbolTable;
 use project_files::{PlanError, Sources, refused};
@@ -50,7 +50,8 @@ fn plan_by(
         Ok(contents) => contents,
         Err(error) => return Err(error),
     };
-    plan_of(alloc, lines, &contents.written, contents.glosses, table)
+    let Contents { written, glosses } = contents;
+    plan_of(alloc, lines, &written, glosses, table)
 }
 
 /// The plan of a project, whose symbols are put into the table; after an error the table may have further symbols.
