@@ -2,7 +2,7 @@
 use Rattle.std.proofs.Common.{◌≡◌, ◌↔◌, ℕ, ◌<◌, ◌≤◌, ◌+◌, List, [], ◌∷◌, ◌++◌, length, map, take, inl, inr, Some, None, Option, Ok, Err, IfErr, Result, refl, sym, ap, subst, ◌∙◌, arith}
 use Rattle.std.proofs.lemmas.Bool.{cases_lt}
 use Rattle.std.proofs.lemmas.List.{length-take, take_all}
-use Rattle.std.proofs.lemmas.List.Elements.{All-contains, Contains-append_left, Contains-append_right}
+use Rattle.std.proofs.lemmas.List.Elements.{All-contains, Contains-append_cases, Contains-append_left, Contains-append_right}
 use Rattle.std.specs.List.{Contains}
 use Rattle.std.specs.Result.{IsErrAnd}
 use Rattle.std.specs.Option.{option_map}
@@ -12,17 +12,18 @@ use Rattle.regex_ast.specs.declared.fault.Fault.{Fault}
 use Rattle.regex_ast.specs.declared.fault.Why.TheVariants as why
 use Rattle.regex_reader.specs.Files.{FaultAt}
 use Rattle.word_relations.proofs.Members.{Contains-cons_cases, Contains-head, Contains-nil_cases}
-use Rattle.project_manifest.specs.Lines.{ManifestFault, Placed, file_in, files_in, line_rows_so_far, manifest_of}
+use Rattle.interlinear.specs.Glosses.{Entry}
+use Rattle.project_manifest.specs.Lines.{Line, ManifestFault, Placed, alphabet_line, file_in, files_in, gloss_files_in, gloss_line, glosses_said, lexc_line, line_rows_so_far, manifest_of, require_line, twolc_line, xfst_line}
 use Rattle.project_manifest.specs.Manifests.{project_name}
 use Rattle.project_manifest.specs.Rows.{First}
 use Rattle.project_manifest.proofs.Firsts.{first_alike}
 use Rattle.project_meaning.specs.Projects.{Project, Written}
 use Rattle.project_sources.specs.Limits.{most_bytes}
-use Rattle.project_sources.specs.Sources.{FileDefines, FilesDefine, FilesSay, HasText, HaveText, Said, project_in}
+use Rattle.project_sources.specs.Sources.{FileDefines, FilesDefine, FilesSay, GlossesOf, HasText, HaveText, Said, project_in}
 use Rattle.project_sources.specs.Faults.{fault, TextFault, text_rows, ContentFault, FileRow, missing, no_text, unread, file_rows, FileFault, NamedFault, Row, no_project, manifest_text, manifest_lines, in_files, in_said, empty_centre, HasFault, FirstFault, rows_so_far, said_so_far}
 use Rattle.project_sources.specs.Laws.{readers_so_far}
 use Rattle.fsm_program.specs.Files.{IsLoaded, IsLoadError, load_error, most_read}
-use Rattle.project_store.specs.Projects.{Reads}
+use Rattle.project_store.specs.Projects.{HasTable, Reads}
 use Rattle.project_sources.specs.Edits.{Version}
 use Rattle.editor_meaning.specs.Editing.{IsLoaded as IsLoadedVersion}
 use Rattle.fsm_program.specs.Serving.{IsFirstVersion}
@@ -195,6 +196,33 @@ define_both sources files (l ∷ lines) written seen =
       λ (front, rest, one, others, is). (front, rest, (here front).1 one, (later rest).1 others, is),
     )
 
+glosses_there : (sources files : Files) (before : List Entry) (named : List (List ℕ)) (table : List Entry) → AreSeen sources files named → GlossesOf readers_so_far sources before named table → GlossesOf readers_so_far files before named table
+glosses_there sources files before [] table seen is = is
+glosses_there sources files before (file ∷ others) table seen (text, own, have, says, more) = (
+  text,
+  own,
+  (text_both sources files file (seen file (Contains-head file others)) text).0 have,
+  says,
+  glosses_there sources files own others table (λ name among. seen name (Contains-append_right (file ∷ []) others name among)) more,
+)
+
+-- files of glosses are files
+among_said : (said : Line) (file : List ℕ) → Contains (glosses_said said) file → Contains (file_in said) file
+among_said (gloss_line named) file among = among
+among_said (lexc_line name named) file among = absurd (Contains-nil_cases file among)
+among_said (twolc_line name named) file among = absurd (Contains-nil_cases file among)
+among_said (xfst_line named) file among = absurd (Contains-nil_cases file among)
+among_said (alphabet_line symbols) file among = absurd (Contains-nil_cases file among)
+among_said (require_line required) file among = absurd (Contains-nil_cases file among)
+
+among_files : (lines : List Placed) (file : List ℕ) → Contains (gloss_files_in lines) file → Contains (files_in lines) file
+among_files [] file among = among
+among_files (l ∷ lines) file among =
+    elim (Contains-append_cases (glosses_said l.said) (gloss_files_in lines) file among) as (λ _. Contains (files_in (l ∷ lines)) file) [
+      | inl here ↦ Contains-append_left (file_in l.said) (files_in lines) file (among_said l.said file here)
+      | inr later ↦ Contains-append_right (file_in l.said) (files_in lines) file (among_files lines file later)
+    ]
+
 -- What sources have that have the manifest of the files and the files that it names, the files have.
 module _ (sources files : Files) (gathered : IsGathered sources files) where
   abbrev seen : IsSeen sources files project_name
@@ -286,11 +314,23 @@ module _ (sources files : Files) (gathered : IsGathered sources files) where
   gathered_says (Err found) h = (faults_both found).0 h
   gathered_says (Ok project) (free, said, says, is) = ((λ found h. free found ((faults_both found).1 h)), said, (said_both (no_line_fault free) said).0 says, is)
 
+  gathered_glosses : (project : Project) → Reads sources (Ok project) → (table : List Entry) → HasTable sources table → HasTable files table
+  gathered_glosses project (free, said, says, is) table (text, have, glosses) = (
+    text,
+    (text_both sources files project_name seen text).0 have,
+    glosses_there sources files [] (gloss_files_in (manifest_of text)) table
+        (λ name among. all_seen (no_line_fault free) text have name (among_files (manifest_of text) name among)) glosses,
+  )
+
 -- what sources say, the folder's files say
 -- the project of gathered sources, and their fault
 pub loaded_from : (sources : Files) (files : Option Files) (loaded : LoadedView) → Told files (IsGathered sources) → IsOfSources sources loaded → IsLoaded loaded files
-loaded_from sources files loaded told (said, from, reads) =
-    (said, from, told_so (IsGathered sources) (λ fs. Reads fs (Ok (project_in said))) files (λ fs gathered. gathered_says sources fs gathered (Ok (project_in said)) reads) told)
+loaded_from sources files loaded told (said, from, reads, table) = (
+  said,
+  from,
+  told_so (IsGathered sources) (λ fs. Reads fs (Ok (project_in said))) files (λ fs gathered. gathered_says sources fs gathered (Ok (project_in said)) reads) told,
+  told_so (IsGathered sources) (λ fs. HasTable fs loaded.glosses) files (λ fs gathered. gathered_glosses sources fs gathered (project_in said) reads loaded.glosses table) told,
+)
 
 pub why_from : (sources : Files) (files : Option Files) (before now : ℕ) (error : StoreError) → Told files (IsGathered sources) → ¬ (Rose before now) → IsWhyNot sources error → IsLoadError (load_error error) files before now
 why_from sources files before now (store.Memory refused) told held why = tt

@@ -87,10 +87,9 @@ abbrev pub is_gloss : Line → Bool
 is_gloss (gloss_line file) = true
 is_gloss _ = false
 
--- a line that isn't read yet: it names a grammar or glosses
+-- a line that isn't read yet: it names a grammar
 abbrev pub is_unread : Line → Bool
 is_unread (twolc_line name file) = true
-is_unread (gloss_line file) = true
 is_unread _ = false
 
 -- a line of the manifest, by its number
@@ -115,6 +114,14 @@ files_in lines = flat_map (λ l. file_in l.said) lines
 
 abbrev pub symbols_of : List Placed → List (List ℕ)
 symbols_of lines = flat_map (λ l. symbols_said l.said) lines
+
+-- the files of glosses that lines name
+abbrev pub glosses_said : Line → List (List ℕ)
+glosses_said (gloss_line file) = file ∷ []
+glosses_said _ = []
+
+abbrev pub gloss_files_in : List Placed → List (List ℕ)
+gloss_files_in lines = flat_map (λ l. glosses_said l.said) lines
 
 -- Faults of a line, behind the lines before it.
 

@@ -88,13 +88,12 @@ impl Declaration {
         }
     }
 
-    /// Whether its file isn't read yet: it is a grammar or the table of glosses.
+    /// Whether its file isn't read yet: it is a grammar.
     pub fn is_unread(&self) -> bool
         ensures { result ≡ is_unread (line_of self.now) }
     {
         match self {
             Declaration::Grammar { .. } => true,
-            Declaration::Glosses { .. } => true,
             _ => false,
         }
     }

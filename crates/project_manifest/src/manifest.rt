@@ -188,7 +188,7 @@ fn add_line(
 /// - `Statement`, where it is none of `lexc NAME FILE`, `twolc NAME FILE`, `xfst FILE`, `alphabet SYM ..`, `require NAME ..` and
 ///   `gloss FILE`;
 /// - `Duplicate`, where it names a file again, or a second table of glosses;
-/// - `NotBuilt`, where it names a grammar or a table of glosses, which aren't read yet;
+/// - `NotBuilt`, where it names a grammar, which isn't read yet;
 /// - `LimitFiles`, where it names the 65th file.
 ///
 /// `Memory` where there was no memory.

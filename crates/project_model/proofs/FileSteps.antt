@@ -104,15 +104,15 @@ pub put_lexicons : (line : ℕ) (name named text : List ℕ) (lexicons : List (L
     → HasPut (placed_of (record { number = line; declares = Lexicon name named })) text old new
 put_lexicons line name named text lexicons old new says is = (declared name line (lexc lexicons), (lexicons, says, refl), is)
 
-pub unread_line : (line : ℕ) (d : Declaration) (file text : List ℕ) (error : PlanError) → file_in (line_of d) ≡ file ∷ [] → ((named : List ℕ) → d ≡ Definitions named → ⊥) → ((name named : List ℕ) → d ≡ Lexicon name named → ⊥)
+pub unread_line : (line : ℕ) (d : Declaration) (file text : List ℕ) (error : PlanError) → file_in (line_of d) ≡ file ∷ [] → ((named : List ℕ) → d ≡ Definitions named → ⊥) → ((name named : List ℕ) → d ≡ Lexicon name named → ⊥) → ((named : List ℕ) → d ≡ Glosses named → ⊥)
     → IsRefusal (fault file 0 why.NotBuilt) error → IsRefusedBy (IsUnread (placed_of (record { number = line; declares = d })) file text) error
-unread_line line d file text (Memory refused) names other more is = tt
-unread_line line (Lexicon name it) file text (Refused found) names other more is = absurd (more name it refl)
-unread_line line (Grammar name it) file text (Refused found) names other more is = (record { line = 0; why = why.NotBuilt }, refl, is)
-unread_line line (Glosses it) file text (Refused found) names other more is = (record { line = 0; why = why.NotBuilt }, refl, is)
-unread_line line (Definitions it) file text (Refused found) names other more is = absurd (other it refl)
-unread_line line (Symbols symbols) file text (Refused found) names other more is = let clash : [] ≡ file ∷ [] = names in cc
-unread_line line (Required required) file text (Refused found) names other more is = let clash : [] ≡ file ∷ [] = names in cc
+unread_line line d file text (Memory refused) names other more glosses is = tt
+unread_line line (Lexicon name it) file text (Refused found) names other more glosses is = absurd (more name it refl)
+unread_line line (Grammar name it) file text (Refused found) names other more glosses is = (record { line = 0; why = why.NotBuilt }, refl, is)
+unread_line line (Glosses it) file text (Refused found) names other more glosses is = absurd (glosses it refl)
+unread_line line (Definitions it) file text (Refused found) names other more glosses is = absurd (other it refl)
+unread_line line (Symbols symbols) file text (Refused found) names other more glosses is = let clash : [] ≡ file ∷ [] = names in cc
+unread_line line (Required required) file text (Refused found) names other more glosses is = let clash : [] ≡ file ∷ [] = names in cc
 
 -- with one line more
 files_more : (files : Files) (lines : List Placed) (written more : List Written) (l : Placed) → FilesDefine readers files lines written → FileDefines readers files l (file_in l.said) more
@@ -123,7 +123,7 @@ files_more files (k ∷ lines) written more l (front, rest, here, others, is) de
 
 -- A loop over lines, of which the file of the one at this place is read.
 module _ (files : Files) (xs : List ManifestLine) (i : ℕ) (x : ManifestLine) (below : i < length xs) (is : x ≡ get_or xs i x) where
-  front_more : map placed_of (take (i + 1) xs) ≡ map placed_of (take i xs) ++ placed_of x ∷ []
+  pub front_more : map placed_of (take (i + 1) xs) ≡ map placed_of (take i xs) ++ placed_of x ∷ []
   front_more = ap (map placed_of) (take_more xs i x below ∙ ap (λ (e : ManifestLine). take i xs ++ e ∷ []) (sym is)) ∙ map-append placed_of (take i xs) (x ∷ [])
 
   split : map placed_of xs ≡ map placed_of (take i xs) ++ placed_of x ∷ map placed_of (drop (i + 1) xs)

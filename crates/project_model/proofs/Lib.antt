@@ -10,3 +10,4 @@ mod Projecting
 pub mod Reading
 mod Plain
 mod FileSteps
+mod Glossing

@@ -30,6 +30,7 @@ use Rattle.project_definitions.specs.Bodies.{IsFormed, mapped_body}
 use Rattle.project_model.specs.Gathered.{gathered, symbols_beside, symbols_of_all}
 use Rattle.name_resolution.specs.Numbered.{numbered}
 use Rattle.project_model.specs.Numbered.{IsBodyOver, numbers_in}
+use Rattle.interlinear.specs.Glosses.{Entry as Glossed}
 use Rattle.project_model.specs.Plans.{IsPlan, IsSoundOver, PlanView}
 use Rattle.project_definitions.specs.Referring.{CycleFault, references_of}
 use Rattle.project_definitions.specs.Entries.{Entry, entry_in, entry_of}
@@ -147,7 +148,7 @@ module _ (written : List Written) (names alphabet old new : List (List ℕ)) (de
       why_no_plan manifest (Refused found) h = inr (no_cycle manifest, (alike manifest found).0 h)
       why_no_plan manifest (Memory refused) h = tt
 
-      module _ (formed : All (λ (w : Written). IsFormed w.body) written) (symbols : List Sym) (numbers_are : symbols ≡ numbers_in new alphabet) (distinct : IsDistinct alphabet) (fits : All (DoesMeet forms demand.Fits) definitions)
+      module _ (glosses : List Glossed) (formed : All (λ (w : Written). IsFormed w.body) written) (symbols : List Sym) (numbers_are : symbols ≡ numbers_in new alphabet) (distinct : IsDistinct alphabet) (fits : All (DoesMeet forms demand.Fits) definitions)
           (light : All (DoesMeet forms demand.Light) definitions) (built : All (DoesMeet forms demand.Built) definitions) where
         many : length forms ≡ length (names_of written)
         many = few ∙ count (said_of [] written) new definitions (defined [])
@@ -156,7 +157,7 @@ module _ (written : List Written) (names alphabet old new : List (List ℕ)) (de
         over = definitions_over (names_of written) alphabet new forms many definitions written said_are symbols_are built
 
         abbrev plan : PlanView
-        plan = record { definitions = definitions; symbols = symbols; forms = forms }
+        plan = record { definitions = definitions; symbols = symbols; forms = forms; glosses = glosses }
 
         pub is_plan : IsPlan plan
         is_plan = record {

@@ -1,5 +1,5 @@
 -- From the content of files to what they say together.
-use Rattle.std.proofs.Common.{◌≡◌, ◌↔◌, ◌==◌, ◌+◌, ◌*◌, ◌-◌, ◌^◌, ◌<◌, ◌≤◌, count_by, ℕ, Bool, true, false, cond, List, [], ◌∷◌, ◌++◌, length, map, All, Contains, Option, Some, None, Result, Ok, Err, refl, sym, ap, subst, ◌∙◌, inl, inr, arith}
+use Rattle.std.proofs.Common.{◌≡◌, ◌↔◌, ◌==◌, ◌+◌, ◌*◌, ◌-◌, ◌^◌, ◌<◌, ◌≤◌, count_by, ℕ, Bool, true, false, cond, List, [], ◌∷◌, ◌++◌, length, map, All, Contains, Option, Some, None, Result, Ok, Err, IfOk, refl, sym, ap, subst, ◌∙◌, inl, inr, arith}
 use Rattle.std.proofs.lemmas.List.Sums.{count_by-le-length}
 use Rattle.std.specs.Option.{option_map}
 use Rattle.fsm_io.specs.Folders.{Files, file_of}
@@ -8,13 +8,14 @@ use Rattle.fsm_base.specs.declared.letters.Sym.{Sym}
 use Rattle.fsm_base.specs.declared.normalize.TextError.TheVariants.{NotUtf8, Control}
 use Rattle.regex_ast.specs.declared.fault.Fault.{Fault}
 use Rattle.regex_ast.specs.declared.fault.Why.TheVariants as why
-use Rattle.project_manifest.specs.Lines.{ManifestFault, Placed, line_rows_so_far, manifest_of}
+use Rattle.interlinear.specs.Glosses.{Entry}
+use Rattle.project_manifest.specs.Lines.{ManifestFault, Placed, gloss_files_in, line_rows_so_far, manifest_of}
 use Rattle.project_manifest.specs.Manifests.{lines_from, lines_of, project_name}
 use Rattle.project_manifest.specs.Rows.{First}
 use Rattle.project_manifest.proofs.Firsts.{first_alike, none_more}
 use Rattle.project_meaning.specs.Projects.{Written}
 use Rattle.project_sources.specs.Limits.{most_bytes}
-use Rattle.project_sources.specs.Sources.{FilesDefine, FilesSay, HasText, HaveText, Said, project_in}
+use Rattle.project_sources.specs.Sources.{FilesDefine, FilesSay, GlossesOf, HasText, HaveText, Said, project_in}
 use Rattle.project_sources.specs.Faults.{fault, TextFault, too_long, NamedFault, Row, no_project, manifest_text, manifest_lines, in_files, in_said, HasFault, FirstFault, SaidFault, read_so_far, HasNoText, said_so_far}
 use Rattle.project_sources.specs.Laws.{readers_so_far as readers}
 use Rattle.project_sources.proofs.Once.{files_say_one, text_one, exact_so_far}
@@ -161,8 +162,9 @@ module _ (files : Files) (content : List ℕ) (held : file_of project_name files
           ((λ h. (said, says, h)), (λ (also, also_says, h). subst (λ s. SaidFault s row found) (files_say_one readers exact_so_far files also said also_says says) h)))
 
       -- the plan of what they say is the files'
-      pub planned_files : (old new : List (List ℕ)) (answer : Result PlanView PlanError) → IsPlanBy said_so_far said old new answer → IsProjectRead files old new answer
-      planned_files old new (Ok plan) (none, stands) = record {
+      pub planned_files : (table : List Entry) → GlossesOf readers files [] (gloss_files_in lines) table → (old new : List (List ℕ)) (answer : Result PlanView PlanError) → IsPlanBy said_so_far said old new answer
+          → IfOk answer (λ plan. plan.glosses ≡ table) → IsProjectRead files old new answer
+      planned_files table glosses old new (Ok plan) (none, stands) kept = record {
         faultless = none_more (HasFault readers files) no_project (manifest_text ∷ manifest_lines line_rows_so_far ∷ in_files ∷ map in_said said_so_far) there_is
             (none_more (HasFault readers files) manifest_text (manifest_lines line_rows_so_far ∷ in_files ∷ map in_said said_so_far) (has_a_text manifest.text manifest.has_text)
             (none_more (HasFault readers files) (manifest_lines line_rows_so_far) (in_files ∷ map in_said said_so_far) no_line_fault
@@ -170,7 +172,12 @@ module _ (files : Files) (content : List ℕ) (held : file_of project_name files
         said = said;
         says = says;
         stands = stands;
+        glosses = (
+          manifest.text,
+          have,
+          subst (GlossesOf readers files [] (gloss_files_in (manifest_of manifest.text))) (sym kept) (subst (λ (z : List Placed). GlossesOf readers files [] (gloss_files_in z) table) manifest.says glosses),
+        );
       }
-      planned_files old new (Err (Refused found)) h =
+      planned_files table glosses old new (Err (Refused found)) h kept =
           inr (there_is, inr (has_a_text manifest.text manifest.has_text, inr (no_line_fault, inr (no_file_fault, (rows_of_said found).0 h))))
-      planned_files old new (Err (Memory refused)) h = tt
+      planned_files table glosses old new (Err (Memory refused)) h kept = tt

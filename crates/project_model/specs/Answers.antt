@@ -9,7 +9,7 @@ use Rattle.project_manifest.specs.Manifests.{project_name}
 use Rattle.project_manifest.specs.Reading.{HasNoFault}
 use Rattle.project_manifest.specs.Rows.{First, HaveNone, Where}
 use Rattle.project_meaning.specs.Projects.{Written}
-use Rattle.project_sources.specs.Sources.{HasText, Said, FilesSay}
+use Rattle.project_sources.specs.Sources.{FilesGloss, HasText, Said, FilesSay}
 use Rattle.project_sources.specs.Faults.{fault, HasNoText, SaidRow, SaidFault, read_so_far, FirstFault}
 use Rattle.project_sources.specs.Laws.{readers_so_far}
 pub use Rattle.project_files.specs.Refusals.{IsRefusedBy, IsRefusal}
@@ -20,12 +20,13 @@ use Rattle.project_files.specs.declared.plan_error.PlanError.{PlanError}
 use Rattle.project_files.specs.declared.plan_error.PlanError.TheVariants.{Refused, Memory}
 use Rattle.project_model.specs.declared.written.WrittenDefine.{WrittenDefine}
 
--- the files have no fault by the rows that are told so far, and the plan stands for what they say
+-- the files have no fault by the rows that are told so far, and the plan stands for what they say, and has their glosses
 pub record IsPlanOf (files : Files) (old new : List (List ℕ)) (plan : PlanView) : Type 0 where
   pub faultless : (found : Fault) → FirstFault readers_so_far files read_so_far found → ⊥
   pub said : Said
   pub says : FilesSay readers_so_far files said
   pub stands : Stands said old new plan
+  pub glosses : FilesGloss readers_so_far files plan.glosses
 
 -- the plan of files, their first fault, or want of memory
 abbrev pub IsProjectRead : Files → List (List ℕ) → List (List ℕ) → Result PlanView PlanError → Type 0

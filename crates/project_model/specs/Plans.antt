@@ -1,7 +1,8 @@
--- A plan as contracts see it: its definitions with their forms, and the symbols of its alphabet.
+-- A plan as contracts see it: its definitions with their forms, the symbols of its alphabet, and the glosses of its files.
 use Rattle.std.specs.Prelude.{◌≡◌, ℕ, List, length, map, All, Some, slice_get}
 use Rattle.fsm_base.specs.declared.letters.Sym.{Sym}
 use Rattle.word_relations.specs.Words.{IsDistinct}
+use Rattle.interlinear.specs.Glosses.{Entry as Glossed}
 use Rattle.expr_kinds.specs.Atoms.{kind_at, leaves_at}
 use Rattle.expr_kinds.specs.declared.form.Form.{Form}
 use Rattle.project_definitions.specs.Bodies.{kind_of_body}
@@ -15,6 +16,7 @@ pub record PlanView : Type 0 where
   pub definitions : List Definition
   pub symbols : List Sym
   pub forms : List Form
+  pub glosses : List Glossed
 
 -- the definition can be built over these symbols, where names have these forms
 abbrev pub IsSoundOver : List Form → List Sym → Definition → Type 0

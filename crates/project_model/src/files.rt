@@ -1,16 +1,17 @@
 ghost use Rattle.lexc_grammar.specs.Files.{SaysLexicons};
 ghost use Rattle.std.specs.Prelude.{◌≡◌, ◌*◌, ◌≤◌, ◌++◌, ◌∷◌, [], Err, Ok, IfErr, IfOk, OnOk, length, map};
 ghost use Rattle.fsm_base.specs.Normal.{most_growth};
-ghost use Rattle.project_manifest.specs.Lines.{file_in};
+ghost use Rattle.interlinear.specs.Glosses.{SaysTable};
+ghost use Rattle.project_manifest.specs.Lines.{file_in, gloss_files_in, glosses_said};
 ghost use Rattle.project_manifest.specs.Rows.{First};
 ghost use Rattle.project_manifest.specs.Sayings.{line_of, placed_of};
 ghost use Rattle.project_sources.specs.Faults.{NamedFault, fault};
 ghost use Rattle.project_sources.specs.Laws.{readers_so_far};
 ghost use Rattle.project_sources.specs.Limits.{most_bytes};
-ghost use Rattle.project_sources.specs.Sources.{FilesDefine, declared, stated};
+ghost use Rattle.project_sources.specs.Sources.{FilesDefine, GlossesOf, declared, stated};
 ghost use Rattle.project_model.specs.Answers.{IsRefusedBy, written_of};
 ghost use Rattle.project_meaning.specs.Trees.{lexc};
-ghost use Rattle.project_model.specs.Files.{HasDefined, HasPut, IsUnread};
+ghost use Rattle.project_model.specs.Files.{HasDefined, HasGlossed, HasPut, IsUnread};
 ghost use Rattle.lexicon_resolution.specs.Plain.{lexicon_of};
 ghost use Rattle.regex_ast.specs.declared.fault.Fault.{Fault};
 ghost use Rattle.regex_reader.specs.Files.{FaultAt, ReadsAs, statement_of};
@@ -18,6 +19,7 @@ ghost use Rattle.regex_reader.specs.Files.{FaultAt, ReadsAs, statement_of};
 use crate::content::text_of_file;
 use crate::written::WrittenDefine;
 use fsm_base::Text;
+use interlinear::GlossTable;
 use lexc_reader::read_lexc;
 use project_definitions::Body;
 use project_files::{PlanError, Sources, refused};
@@ -25,6 +27,15 @@ use project_manifest::{Declaration, ManifestLine};
 use regex_ast::{Define, Lexicon, Raw, ReadError, Why};
 use regex_reader::read_xfst;
 use std::alloc::{AllocError, Global};
+
+/// What the files that a manifest names say.
+#[derive(Drop)]
+pub struct Contents {
+    /// Their definitions, in order.
+    pub written: Vec<WrittenDefine>,
+    /// Their table of glosses, which is empty where no line names one.
+    pub glosses: GlossTable,
+}
 
 /// The statements of a text of this file.
 fn statements_in(alloc: Global, file: &str, text: &str) -> Result<Vec<Define<Raw>>, PlanError>
@@ -47,6 +58,19 @@ fn lexicons_in(alloc: Global, file: &str, text: &str) -> Result<Vec<Lexicon<Raw>
 {
     match read_lexc(alloc, text) {
         Ok(lexicons) => Ok(lexicons),
+        Err(ReadError::Fault { line, why }) => Err(refused(alloc, file, line, why)),
+        Err(ReadError::Memory(error)) => Err(PlanError::Memory(error)),
+    }
+}
+
+/// The table of glosses of a text of this file.
+fn glosses_in(alloc: Global, file: &str, text: &str) -> Result<GlossTable, PlanError>
+    requires { length text.now ≤ most_growth * most_bytes }
+    ensures read { IfOk result (λ table. SaysTable text.now (Ok table)) }
+    ensures error { IfErr result (IsRefusedBy (λ found. (at : FaultAt) × SaysTable text.now (Err at) × (found ≡ fault file.now at.line at.why))) }
+{
+    match GlossTable::read(alloc, text) {
+        Ok(table) => Ok(table),
         Err(ReadError::Fault { line, why }) => Err(refused(alloc, file, line, why)),
         Err(ReadError::Memory(error)) => Err(PlanError::Memory(error)),
     }
@@ -90,17 +114,20 @@ fn add_lexicons(
     Ok(())
 }
 
-/// Puts the definitions of a text of the file that a line names behind others.
+/// Puts the definitions of a text of the file that a line names behind others, or its table of glosses in place of the one
+/// before.
 fn add_text(
     alloc: Global,
     line: &ManifestLine,
     file: &Text,
     text: &str,
     written: &mut Vec<WrittenDefine>,
+    glosses: &mut GlossTable,
 ) -> Result<(), PlanError>
     requires file { file_in (line_of line.now.declares) ≡ file.now ∷ [] }
     requires short { length text.now ≤ most_growth * most_bytes }
     ensures written { OnOk result (HasPut (placed_of line.now) text.now (map written_of written.old.items) (map written_of written.new.items)) }
+    ensures glosses { OnOk result (HasGlossed (line_of line.now.declares) text.now glosses.old glosses.new) }
     ensures error { IfErr result (IsRefusedBy (IsUnread (placed_of line.now) file.now text.now)) }
 {
     match &line.declares {
@@ -118,63 +145,78 @@ fn add_text(
             }
             Err(error) => Err(error),
         },
+        Declaration::Glosses { .. } => match glosses_in(alloc, file.as_str(), text) {
+            Ok(table) => {
+                *glosses = table;
+                Ok(())
+            }
+            Err(error) => Err(error),
+        },
         _ => Err(refused(alloc, file.as_str(), 0, Why::NotBuilt)),
     }
 }
 
-/// Puts the definitions of the file that a line names behind others; or tells its first fault.
+/// Puts the definitions of the file that a line names behind others, or its table of glosses in place of the one before; or tells
+/// its first fault.
 fn add_file(
     alloc: Global,
     sources: &Sources,
     line: &ManifestLine,
     file: &Text,
     written: &mut Vec<WrittenDefine>,
+    glosses: &mut GlossTable,
 ) -> Result<(), PlanError>
     requires { file_in (line_of line.now.declares) ≡ file.now ∷ [] }
     ensures written { OnOk result (HasDefined sources.now (placed_of line.now) (map written_of written.old.items) (map written_of written.new.items)) }
+    ensures glosses { OnOk result (GlossesOf readers_so_far sources.now glosses.old (glosses_said (line_of line.now.declares)) glosses.new) }
     ensures error { IfErr result (IsRefusedBy (NamedFault readers_so_far sources.now (placed_of line.now))) }
 {
     let Some(content) = sources.get(file.as_str()) else {
         return Err(refused(alloc, "project", line.number, Why::NoFile));
     };
     match text_of_file(alloc, file.as_str(), content) {
-        Ok(text) => add_text(alloc, line, file, text.as_str(), written),
+        Ok(text) => add_text(alloc, line, file, text.as_str(), written, glosses),
         Err(error) => Err(error),
     }
 }
 
-/// Puts the definitions of the file that a line names, if it names one, behind others; or tells its first fault.
+/// Puts the definitions of the file that a line names, if it names one, behind others, or its table of glosses in place of the
+/// one before; or tells its first fault.
 fn add_line(
     alloc: Global,
     sources: &Sources,
     line: &ManifestLine,
     written: &mut Vec<WrittenDefine>,
+    glosses: &mut GlossTable,
 ) -> Result<(), PlanError>
     ensures written { OnOk result (HasDefined sources.now (placed_of line.now) (map written_of written.old.items) (map written_of written.new.items)) }
+    ensures glosses { OnOk result (GlossesOf readers_so_far sources.now glosses.old (glosses_said (line_of line.now.declares)) glosses.new) }
     ensures error { IfErr result (IsRefusedBy (NamedFault readers_so_far sources.now (placed_of line.now))) }
 {
     match line.declares.file() {
-        Some(file) => add_file(alloc, sources, line, file, written),
+        Some(file) => add_file(alloc, sources, line, file, written, glosses),
         None => Ok(()),
     }
 }
 
-/// The definitions of the files that these lines name, in order; or their first fault.
-pub fn written_in(
+/// The definitions of the files that these lines name, in order, and their glosses; or their first fault.
+pub fn contents_of(
     alloc: Global,
     sources: &Sources,
     lines: &[ManifestLine],
-) -> Result<Vec<WrittenDefine>, PlanError>
-    ensures written { IfOk result (λ written. FilesDefine readers_so_far sources.now (map placed_of lines.now) (map written_of written.items)) }
+) -> Result<Contents, PlanError>
+    ensures written { IfOk result (λ contents. FilesDefine readers_so_far sources.now (map placed_of lines.now) (map written_of contents.written.items)) }
+    ensures glosses { IfOk result (λ contents. GlossesOf readers_so_far sources.now [] (gloss_files_in (map placed_of lines.now)) contents.glosses) }
     ensures faultless { OnOk result ((found : Fault) → First (NamedFault readers_so_far sources.now) (map placed_of lines.now) found → ⊥) }
     ensures error { IfErr result (IsRefusedBy (First (NamedFault readers_so_far sources.now) (map placed_of lines.now))) }
 {
     let mut written = Vec::new(alloc);
+    let mut glosses = GlossTable::empty(alloc);
     'lines: for line in lines {
-        match add_line(alloc, sources, line, &mut written) {
+        match add_line(alloc, sources, line, &mut written, &mut glosses) {
             Ok(()) => {}
             Err(error) => return Err(error),
         }
     }
-    Ok(written)
+    Ok(Contents { written, glosses })
 }

@@ -28,6 +28,7 @@ use crate::unknown::first_unknown;
 use crate::written::WrittenDefine;
 use expr_kinds::Form;
 use fsm_base::{Sym, SymbolTable, Text};
+use interlinear::GlossTable;
 use lexicon_resolution::{are_resolved_by_number, resolve_lexicons};
 use name_resolution::{Names, resolve};
 use project_definitions::{Body, Definition, Demand, first_failing, forms_of, order_in};
@@ -38,7 +39,7 @@ use regex_ast::{Atom, Raw, Why};
 use std::alloc::{AllocError, Global};
 use std::marker::Model;
 
-/// The definitions of a project without fault, and the symbols of its alphabet.
+/// The definitions of a project without fault, the symbols of its alphabet, and its glosses.
 #[derive(Drop)]
 pub struct Plan {
     /// The definitions, in order; each has a name of its own and can be built over the symbols.
@@ -49,6 +50,8 @@ pub struct Plan {
     order: Vec<usize>,
     /// What each definition is by its form.
     forms: Vec<Form>,
+    /// The glosses of its files.
+    glosses: GlossTable,
 }
 
 impl Model for Plan {
@@ -63,9 +66,9 @@ impl Model for Plan {
 
     ghost use Rattle.project_model.specs.Plans.{IsOrderedPlan};
 
-    ghost view = { λ p. record { definitions = p.definitions.items; symbols = p.symbols.items; forms = p.forms.items } };
+    ghost view = { λ p. record { definitions = p.definitions.items; symbols = p.symbols.items; forms = p.forms.items; glosses = p.glosses } };
 
-    ghost invariant = { λ p. IsOrderedPlan (record { definitions = p.definitions.items; symbols = p.symbols.items; forms = p.forms.items }) p.order.items };
+    ghost invariant = { λ p. IsOrderedPlan (record { definitions = p.definitions.items; symbols = p.symbols.items; forms = p.forms.items; glosses = p.glosses }) p.order.items };
 }
 
 impl Plan {
@@ -91,6 +94,13 @@ impl Plan {
         ensures formed { IsPlan self.now }
     {
         &self.forms
+    }
+
+    /// The table of glosses, which is empty where the project has none.
+    pub fn glosses(&self) -> &GlossTable
+        ensures { result.now ≡ self.now.glosses }
+    {
+        &self.glosses
     }
 
     /// The places of the definitions, counted from 0, each behind those that its definition refers to.
@@ -252,7 +262,7 @@ fn check(alloc: Global, definitions: &[Definition], forms: &[Form]) -> Result<()
     Ok(())
 }
 
-/// The plan of definitions over an alphabet, whose symbols are put into the table. They are refused for their first
+/// The plan of definitions over an alphabet, whose symbols are put into the table, and of a table of glosses. They are refused for their first
 /// fault: a definition that reaches itself, an operand that must be a language and isn't one, a definition that is too
 /// heavy, or one that can't be built yet. Whatever it answers, the table begins with what it was.
 fn plan_over(
@@ -260,6 +270,7 @@ fn plan_over(
     names: &Names,
     alphabet: &SymbolTable,
     written: &[WrittenDefine],
+    glosses: GlossTable,
     table: &mut SymbolTable,
 ) -> Result<Plan, PlanError>
     requires names { names.now ≡ names_of (map written_of written.now) }
@@ -269,6 +280,7 @@ fn plan_over(
     requires room { length table.old + length alphabet.now ≤ 16777216 }
     requires formed { All (λ w. IsFormed w.body) (map written_of written.now) }
     ensures plan { (manifest : List Placed) → (project_in (said_of manifest (map written_of written.now))).alphabet ≡ alphabet.now → IsPlanBy definitions_so_far (said_of manifest (map written_of written.now)) table.old table.new result }
+    ensures glosses { IfOk result (λ plan. plan.glosses ≡ glosses) }
     ensures front { take (length table.old) table.new ≡ table.old }
 {
     intern_all(alphabet, table)?;
@@ -288,10 +300,12 @@ fn plan_over(
         symbols,
         order,
         forms,
+        glosses,
     })
 }
 
-/// The plan of the definitions that the files of a manifest with these lines write, whose symbols are put into the table. They
+/// The plan of the definitions and glosses that the files of a manifest with these lines write, whose symbols are put into the
+/// table. They
 /// are refused for their first fault: a name that stands twice or names that are too many, symbols that are too many, a name
 /// that a line requires and that isn't defined, or one of their definitions. Whatever it answers, the table begins with what
 /// it was.
@@ -299,12 +313,14 @@ pub fn plan_of(
     alloc: Global,
     lines: &[ManifestLine],
     written: &[WrittenDefine],
+    glosses: GlossTable,
     table: &mut SymbolTable,
 ) -> Result<Plan, PlanError>
     requires symbols { All IsSymbol (symbols_of (map placed_of lines.now)) }
     requires room { length table.old ≤ most_before }
     requires formed { All (λ w. IsFormed w.body) (map written_of written.now) }
     ensures plan { IsPlanBy said_so_far (said_of (map placed_of lines.now) (map written_of written.now)) table.old table.new result }
+    ensures glosses { IfOk result (λ plan. plan.glosses ≡ glosses) }
     ensures front { take (length table.old) table.new ≡ table.old }
 {
     let names = match names_of(alloc, written) {
@@ -318,5 +334,5 @@ pub fn plan_of(
     if let Some(line) = first_unknown(&names, lines) {
         return Err(refused(alloc, "project", line.number, Why::UnknownName));
     }
-    plan_over(alloc, &names, &alphabet, written, table)
+    plan_over(alloc, &names, &alphabet, written, glosses, table)
 }

@@ -4,18 +4,27 @@ use Rattle.fsm_io.specs.Folders.{Files}
 use Rattle.regex_ast.specs.declared.fault.Fault.{Fault}
 use Rattle.regex_ast.specs.declared.fault.Why.TheVariants as why
 use Rattle.regex_reader.specs.Files.{FaultAt}
+use Rattle.interlinear.specs.Glosses.{Entry, SaysTable}
 use Rattle.expr_kinds.specs.Weights.{most_weight}
 use Rattle.lexc_grammar.specs.Files.{SaysLexicons}
 use Rattle.project_manifest.specs.Manifests.{project_name}
 use Rattle.project_meaning.specs.Forms.{body_weight, weight_in}
 use Rattle.project_meaning.specs.Projects.{Definition, Project, HasNoCycle, IsClosed}
-use Rattle.project_sources.specs.Sources.{Readers}
+use Rattle.project_sources.specs.Sources.{FilesGloss, Readers}
 use Rattle.project_sources.specs.Edits.{Edit, Holding, Apply}
 use Rattle.project_sources.specs.Faults.{Row, empty_centre, in_said, fault, HasFault, FirstFault, SourcesSay}
 
 -- sources have at most one first fault, whichever rows are told
 abbrev pub OneFault : Readers → Type 0
 OneFault readers = (files : Files) (by : List Row) (a b : Fault) → FirstFault readers files by a → FirstFault readers files by b → a ≡ b
+
+-- sources have one table of glosses
+abbrev pub OneTable : Readers → Type 0
+OneTable readers = (files : Files) (a b : List Entry) → FilesGloss readers files a → FilesGloss readers files b → a ≡ b
+
+-- those that are a project have a table of glosses
+abbrev pub ProjectsHaveTables : Readers → Type 0
+ProjectsHaveTables readers = (files : Files) (by : List Row) (project : Project) → SourcesSay readers files by (Ok project) → (table : List Entry) × FilesGloss readers files table
 
 -- sources are one project, or have one first fault, and not both
 abbrev pub OneAnswer : Readers → Type 0
@@ -27,7 +36,7 @@ says_unbuilt text answer = answer ≡ Err (record { line = 0; why = why.NotBuilt
 
 -- the readers that there are so far
 abbrev pub readers_so_far : Readers
-readers_so_far = record { lexc = SaysLexicons; twolc = says_unbuilt; gloss = says_unbuilt }
+readers_so_far = record { lexc = SaysLexicons; twolc = says_unbuilt; gloss = SaysTable }
 
 -- each name that stands in a definition is defined, none reaches itself, and no definition weighs too much
 pub record IsSoundProject (project : Project) : Type 0 where

@@ -1,5 +1,5 @@
 ghost use Rattle.project_sources.specs.Faults.{read_rows, read_so_far, rows, rows_so_far};
-ghost use Rattle.project_sources.specs.Laws.{CentresComeLast, NoFilesNoProject, OneAnswer, OneFault, OneOutcome, ProjectsAreSound, readers_so_far};
+ghost use Rattle.project_sources.specs.Laws.{CentresComeLast, NoFilesNoProject, OneAnswer, OneFault, OneOutcome, OneTable, ProjectsAreSound, ProjectsHaveTables, readers_so_far};
 
 /// Sources have at most one first fault.
 pub fn one_fault()
@@ -9,6 +9,12 @@ pub fn one_fault()
 /// Sources are one project, or have one first fault, and not both.
 pub fn one_answer()
     ensures { OneAnswer readers_so_far }
+{}
+
+/// Sources have one table of glosses, and those that are a project have one.
+pub fn one_table()
+    ensures one { OneTable readers_so_far }
+    ensures some { ProjectsHaveTables readers_so_far }
 {}
 
 /// In the project of sources without a fault each name is defined, none reaches itself, and no definition weighs too much.

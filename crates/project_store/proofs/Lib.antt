@@ -8,3 +8,4 @@ pub mod Parts
 pub mod Shown
 pub mod Spelled
 pub mod Trying
+mod Glossed

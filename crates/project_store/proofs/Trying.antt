@@ -41,7 +41,7 @@ use Rattle.project_definitions.proofs.Referring.{at_map, count, first_here, from
 use Rattle.project_store.specs.Building.{AreBuilt, HasParts, IsBuiltAt, IsThere, expression_leaves}
 use Rattle.project_store.specs.Centres.{AreClear, AreFree, AreTried, CentresAreBuilt, HasNoCentre, HasNoEmptyCentre, HasNoNetwork, HasNoOwn, HasNone, IsBarred, IsCentreError, IsFirstEmpty, IsFirstMark, IsFree, IsOutcome, OfPlace, body_centres, with_empty, with_network}
 use Rattle.project_store.specs.Loaded.{IsLoadedFrom, LoadedView}
-use Rattle.project_store.specs.Projects.{IsOfSources, IsWhyNot, Reads}
+use Rattle.project_store.specs.Projects.{HasTable, IsOfSources, IsWhyNot, Reads}
 use Rattle.project_store.specs.declared.centres.Outcome.{Outcome}
 use Rattle.project_store.specs.declared.centres.Outcome.TheVariants.{Built, EmptyCentre, Behind}
 use Rattle.project_store.specs.declared.store_error.StoreError.{StoreError}
@@ -473,9 +473,9 @@ module _ (sources : Files) (said : Said) (free : (found : Fault) → FirstFault 
       (centres_come_last readers_so_far read_so_far sources found).1 (inr (free, (said, says, earlier)))
 
   -- so it is with what telling its centres answers
-  pub loads_project : (r : Result LoadedView StoreError) → IfOk r (λ new. new ≡ loaded) → OnOk r (HasNoEmptyCentre loaded) → IfOk r (IsOfSources sources)
-  loads_project (Ok new) same none = (said, subst (IsLoadedFrom said) (sym same) from, reads_project none)
-  loads_project (Err error) same none = same
+  pub loads_project : HasTable sources loaded.glosses → (r : Result LoadedView StoreError) → IfOk r (λ new. new ≡ loaded) → OnOk r (HasNoEmptyCentre loaded) → IfOk r (IsOfSources sources)
+  loads_project table (Ok new) same none = (said, subst (IsLoadedFrom said) (sym same) from, reads_project none, subst (λ (l : LoadedView). HasTable sources l.glosses) (sym same) table)
+  loads_project table (Err error) same none = same
 
   pub why_not_loaded : (r : Result LoadedView StoreError) → IfErr r (IsCentreError loaded) → IfErr r (IsWhyNot sources)
   why_not_loaded (Ok new) is = is
