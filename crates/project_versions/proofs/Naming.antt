@@ -55,7 +55,7 @@ stand_for said loaded from = record {
   texts = from.texts;
   definitions = from.definitions;
   forms = loaded.forms;
-  plan = from.plan;
+  plan = record { distinct = from.plan.distinct; names = from.plan.names; forms = from.plan.forms; sound = from.plan.sound; };
 }
 
 module _ (old new : Project) (definitions : List Definition) (distinct : IsDistinct (map (λ d. d.name) definitions)) (places : List ℕ) (are : AreTouched old new definitions places) where
