@@ -53,7 +53,7 @@ fn resolve_side(
 ) -> Result<Vec<Piece<Atom>>, AllocError>
     ensures { IfOk result (λ found. map piece_of found.items ≡ map (piece_in names.now table.now) (map piece_of side.now)) }
 {
-    let mut found = Vec::new(alloc);
+    let mut found = Vec::with_capacity(alloc, side.len())?;
     'side: for piece in side {
         found.push(resolve_piece(names, table, piece)?)?;
     }
@@ -108,7 +108,7 @@ fn resolve_entries(
     ensures entries { IfOk result (λ found. map entry_of found.items ≡ map (entry_in names.now table.now) (map entry_of entries.now)) }
     ensures lines { IfOk result (λ found. map (λ e. e.line) found.items ≡ map (λ e. e.line) entries.now) }
 {
-    let mut found = Vec::new(alloc);
+    let mut found = Vec::with_capacity(alloc, entries.len())?;
     'entries: for entry in entries {
         found.push(resolve_entry(alloc, names, table, entry)?)?;
     }
@@ -146,7 +146,7 @@ pub fn resolve_lexicons(
     ensures lexicons { IfOk result (λ found. map lexicon_of found.items ≡ map (lexicon_in names.now table.now) (map lexicon_of lexicons.now)) }
     ensures lines { IfOk result (λ found. map lines_of found.items ≡ map lines_of lexicons.now) }
 {
-    let mut found = Vec::new(alloc);
+    let mut found = Vec::with_capacity(alloc, lexicons.len())?;
     'lexicons: for lexicon in lexicons {
         found.push(resolve_lexicon(alloc, names, table, lexicon)?)?;
     }
