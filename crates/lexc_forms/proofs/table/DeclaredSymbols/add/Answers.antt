@@ -30,8 +30,8 @@ invariant_of-self-2 c =
     let is : most ≡ max c.self.inside.longest c.len.result = search rules in
     (subst (AreWithin most) (sym grown)
     (All-push (IsWithin most) (map kept keys) symbol (within-more c.self.inside.longest most (map kept keys) (omega (arith, is)) c.self.invariant.0) (c.requires, omega (arith, is, c.len.ensures, c.args.symbol.ok))),
-    subst (AreMarked c.with_mark.result.items) (sym grown)
-    (with_marked c.in_ok-marks.field-0.items c.with_mark.result.items (map kept keys) symbol c.with_mark.ensures.kept (subst (AreMarked c.in_ok-marks.field-0.items) (sym c.self.view_is) c.in_ok-marks.ensures) (subst (IsMarkedFor c.with_mark.result.items) c.as_slice-2.ensures.value c.with_mark.ensures.marked)))
+    subst (AreMarked c.with_mark-begins.result.items) (sym grown)
+    (with_marked c.in_ok-marks.field-0.items c.with_mark-begins.result.items (map kept keys) symbol c.with_mark-begins.ensures.kept (subst (AreMarked c.in_ok-marks.field-0.items) (sym c.self.view_is) c.in_ok-marks.ensures) (subst (IsMarkedFor c.with_mark-begins.result.items) c.as_slice-2.ensures.value c.with_mark-begins.ensures.marked)))
 
 pub returns : goal.returns
 returns c =
