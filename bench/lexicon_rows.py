@@ -1,6 +1,6 @@
 #!/usr/bin/env python3
 """Says which rows of worked_rows that look words up in projects with a lexicon want another answer than the definitions give, and writes
-forty such rows with lexicons made by chance behind the last heading of its file stdin. The definitions are taken word for word, on lists of
+forty such rows with lexicons made by chance behind their heading in its file stdin. The definitions are taken word for word, on lists of
 symbols: each path of entries from Root to the end, with the pairs of an entry's expression, is kept where the flags of its upper side pass
 and those of its lower side do; an answer is a text of what such a path relates to the word's cut. No automaton is built here. Words longer
 than a bound aren't listed, so rows have short ones; definitions with `->` and `=>`, endless answers and more than are listed are left to rows by hand.
@@ -16,7 +16,7 @@ import unicodedata
 from measure import ROOT
 
 PATH = os.path.join(ROOT, 'crates', 'worked_rows', 'stdin')
-LAST_HEADING = '# Lexicons by chance, whose pairs bench/lexicon_rows.py lists by the definition'
+HEADING = '# Lexicons by chance, whose pairs bench/lexicon_rows.py lists by the definition'
 SEED, COUNT = 1983, 40
 # the most entries of a path, and the most symbols of a word: fewer where an operator speaks of all words
 MOST_ENTRIES, BOUND, BOUND_OF_ALL = 16, 10, 4
@@ -488,12 +488,13 @@ def shown_whole(text):
 
 def main():
     with open(PATH, encoding='utf-8') as source:
-        text = source.read().split('\n' + LAST_HEADING)[0].rstrip('\n') + '\n'
+        text, _, rest = source.read().partition('\n' + HEADING)
+    text, (_, heading, later) = text.rstrip('\n') + '\n', rest.partition('\n# ')
     blocks = [block.split('\n') for block in text.split('\n\n')]
     tell_of([[line.partition(' ')[::2] for line in block if line] for block in blocks if block[0].startswith('row ')])
     by_chance = [''.join('%s %s\n' % line for line in row) for row in rows_by_chance()]
     with open(PATH, 'w', encoding='utf-8') as out:
-        out.write('\n'.join([text, LAST_HEADING + '\n'] + by_chance))
+        out.write('\n'.join([text, HEADING + '\n'] + by_chance) + heading + later)
 
 
 if __name__ == '__main__':

@@ -1,6 +1,6 @@
 mod Splits
 mod Numbers
 mod Parts
-mod Unique
+pub mod Unique
 mod Lines
 mod Keywords

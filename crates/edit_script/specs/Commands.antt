@@ -6,6 +6,8 @@ use Rattle.reply_meaning.specs.Replies.{IsWord, without_return}
 use Rattle.project_manifest.specs.Manifests.{IsFileName, project_name}
 use Rattle.edit_script.specs.declared.commands.EditCommand.{EditCommand}
 use Rattle.edit_script.specs.declared.commands.EditCommand.TheVariants as commands
+use Rattle.edit_script.specs.declared.commands.CommandKind.{CommandKind}
+use Rattle.edit_script.specs.declared.commands.CommandKind.TheVariants as kinds
 use Rattle.edit_script.specs.declared.looks.Look.{Look}
 use Rattle.edit_script.specs.declared.looks.Look.TheVariants as looks
 use Rattle.edit_script.specs.declared.errors.CommandError.{CommandError}
@@ -109,6 +111,19 @@ lines_behind commands.End = 0
 pub data HasLines (line : List ℕ) (n : ℕ) : Type 0 where
   of_command : (command : EditCommand) → IsCommand line command → n ≡ lines_behind command → HasLines line n
   of_none : ((command : EditCommand) → IsCommand line command → ⊥) → n ≡ 0 → HasLines line n
+
+-- what kind a command is of
+abbrev pub kind_of : EditCommand → CommandKind
+kind_of (commands.Put file lines) = kinds.Edit
+kind_of (commands.Splice file from count lines) = kinds.Edit
+kind_of (commands.Drop file) = kinds.Edit
+kind_of (commands.Up net word) = kinds.LookUp
+kind_of (commands.Down net word) = kinds.LookUp
+kind_of commands.End = kinds.End
+
+-- the line is a command of this kind
+abbrev pub HasKind : List ℕ → CommandKind → Type 0
+HasKind line kind = (command : EditCommand) × IsCommand line command × (kind ≡ kind_of command)
 
 -- a line is one command only, and one look-up only
 abbrev pub OneCommand : Type 0

@@ -1,5 +1,5 @@
 ghost use Rattle.std.specs.Prelude.{◌≡◌, ◌≢◌, List, ℕ, MatchOption, MatchResult};
-ghost use Rattle.edit_script.specs.Commands.{HasLines, HasNoSpace, IsCommand, IsPut, IsSplice, IsWhyNoCommand, Orders, lines_behind};
+ghost use Rattle.edit_script.specs.Commands.{HasKind, HasLines, HasNoSpace, IsCommand, IsPut, IsSplice, IsWhyNoCommand, Orders, kind_of, lines_behind};
 ghost use Rattle.edit_script.specs.Reading.{command_of};
 ghost use Rattle.edit_script.specs.declared.commands.EditCommand.{EditCommand};
 ghost use Rattle.edit_script.specs.declared.commands.EditCommand.TheVariants.{End};
@@ -53,6 +53,29 @@ pub enum EditCommand {
     End,
 }
 
+impl EditCommand {
+    /// How many lines follow it.
+    pub fn lines_behind(&self) -> u32
+        ensures { result ≡ lines_behind self.now }
+    {
+        match self {
+            EditCommand::Put { lines, .. } | EditCommand::Splice { lines, .. } => *lines,
+            _ => 0,
+        }
+    }
+}
+
+/// What kind a command is of.
+#[derive(Clone, Copy, Debug, PartialEq, Eq)]
+pub enum CommandKind {
+    /// An edit: `put`, `splice` or `drop`.
+    Edit,
+    /// A look-up: `up` or `down`.
+    LookUp,
+    /// `end`.
+    End,
+}
+
 /// A command whose texts are parts of its line.
 #[derive(Drop)]
 pub enum CommandOf<'a> {
@@ -94,6 +117,19 @@ impl CommandOf<'_> {
         match self {
             CommandOf::Put { lines, .. } | CommandOf::Splice { lines, .. } => *lines,
             _ => 0,
+        }
+    }
+
+    /// What kind it is of.
+    fn kind(&self) -> CommandKind
+        ensures { result ≡ kind_of (command_of self.now) }
+    {
+        match self {
+            CommandOf::Put { .. } | CommandOf::Splice { .. } | CommandOf::Drop { .. } => {
+                CommandKind::Edit
+            }
+            CommandOf::Up { .. } | CommandOf::Down { .. } => CommandKind::LookUp,
+            CommandOf::End => CommandKind::End,
         }
     }
 
@@ -228,5 +264,16 @@ pub fn command_lines(line: &[u8]) -> u32
     match command_in(line) {
         Some(parts) => parts.lines_behind(),
         None => 0,
+    }
+}
+
+/// What kind of command a line is, or `None` where it is no command. It takes no memory: where [`read_command`] finds none, this tells
+/// what the line asks for.
+pub fn command_kind(line: &[u8]) -> Option<CommandKind>
+    ensures { MatchOption result ((command : EditCommand) → IsCommand line.now command → ⊥) (HasKind line.now) }
+{
+    match command_in(line) {
+        Some(parts) => Some(parts.kind()),
+        None => None,
     }
 }

@@ -1,10 +1,10 @@
-mod Words
+pub mod Words
 mod Sets
 mod Pairs
-mod Edges
+pub mod Edges
 mod Pieces
-mod Sides
-mod Carrying
+pub mod Sides
+pub mod Carrying
 pub mod Spelling
 pub mod Leaves
 pub mod Alphabets

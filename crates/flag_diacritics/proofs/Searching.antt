@@ -15,6 +15,7 @@ use Rattle.flag_diacritics.specs.declared.tape.Tape.TheVariants.{UpFlag, LowFlag
 use Rattle.flag_diacritics.specs.declared.actions.Action.{Action}
 use Rattle.flag_diacritics.specs.declared.tables.Place.{Place}
 use Rattle.flag_diacritics.specs.Numbers.{Features, Keeps, IsNumbered, with_upper, with_lower, behind_if, behind}
+use Rattle.flag_diacritics.specs.Idle.{behind_edge}
 use Rattle.flag_diacritics.specs.Search.{Shows, IsPlaceBehind, Names, IsAt, AreShown, Leads, AddsEdges, IsResolved, letter_for}
 use Rattle.flag_diacritics.proofs.Finding.{keeps_more, keeps_then}
 
@@ -26,8 +27,8 @@ module _ (old new : Names) (places : Keeps old.places new.places) (features : Ke
   pub at_kept : (k state : ℕ) (now : Features) → IsAt old k state now → IsAt new k state now
   at_kept k state now h = record { place = h.place; stands = places k h.place h.stands; state_is = h.state_is; shows = shows_kept old.features new.features features h.place now h.shows }
 
-  leads_kept : (actions : List Action) (now : Features) (e : Edge Tape) (f : Edge Pair) → Leads actions old now e f → Leads actions new now e f
-  leads_kept actions now e f h = record { next = h.next; passes = h.passes; at = at_kept f.to e.to h.next h.at; letter = h.letter }
+  leads_kept : (step : Edge Tape → Features → Option Features) (now : Features) (e : Edge Tape) (f : Edge Pair) → Leads step old now e f → Leads step new now e f
+  leads_kept step now e f h = record { next = h.next; passes = h.passes; at = at_kept f.to e.to h.next h.at; letter = h.letter }
 
 -- a number is that of one state and one list of features
 same_features : (now then : Features) → now.upper ≡ then.upper → now.lower ≡ then.lower → now ≡ then
@@ -47,18 +48,18 @@ module _ (names : Names) (k state other : ℕ) (now then : Features) (here : IsA
       (same_at names.features there.place.lower now.lower then.lower (ap (λ (p : Place). slice_get names.features p.lower) (sym one_place) ∙ here.shows.lower) there.shows.lower)
 
 -- one edge of the network: its flag doesn't pass, or an edge is added
-module _ (actions : List Action) (number : ℕ) (now : Features) (edge : Edge Tape) (places : List Place) (features new_features : List (List (Option ℕ))) (kept : Keeps features new_features) (edges : List (Edge Pair)) where
-  pub AddsEdges-blocked : behind actions edge.letter now ≡ None → AddsEdges actions number now (λ e. e ≡ edge) (record { places = places; features = features }) edges (record { places = places; features = new_features }) edges
+module _ (step : Edge Tape → Features → Option Features) (number : ℕ) (now : Features) (edge : Edge Tape) (places : List Place) (features new_features : List (List (Option ℕ))) (kept : Keeps features new_features) (edges : List (Edge Pair)) where
+  pub AddsEdges-blocked : step edge now ≡ None → AddsEdges step number now (λ e. e ≡ edge) (record { places = places; features = features }) edges (record { places = places; features = new_features }) edges
   AddsEdges-blocked blocked = record {
     places = λ k x at. at;
     features = kept;
     shown = λ shown k place at. let s = shown k place at in (s.0, shows_kept features new_features kept place s.0 s.1);
     kept = λ e h. h;
     only = λ e h. inl h;
-    all = λ old next same passes. let clash : None ≡ Some next = sym blocked ∙ ap (λ (e : Edge Tape). behind actions e.letter now) (sym same) ∙ passes in absurd (cc);
+    all = λ old next same passes. let clash : None ≡ Some next = sym blocked ∙ ap (λ (e : Edge Tape). step e now) (sym same) ∙ passes in absurd (cc);
   }
 
-  module _ (next : Features) (passes : behind actions edge.letter now ≡ Some next) (place : Place) (state_is : place.state ≡ edge.to) (shows : Shows new_features place next)
+  module _ (next : Features) (passes : step edge now ≡ Some next) (place : Place) (state_is : place.state ≡ edge.to) (shows : Shows new_features place next)
       (new_places : List Place) (to : ℕ) (at : slice_get new_places to ≡ Some place) (grown : (new_places ≡ places) ⊎ (new_places ≡ places ++ place ∷ [])) (new_edges : List (Edge Pair))
       (is : new_edges ≡ edges ++ record { from = number; letter = letter_for edge.letter; to = to } ∷ []) where
     made : Edge Pair
@@ -67,7 +68,7 @@ module _ (actions : List Action) (number : ℕ) (now : Features) (edge : Edge Ta
     abbrev new_names : Names
     new_names = record { places = new_places; features = new_features }
 
-    leads : (e : Edge Pair) → e.to ≡ to → e.letter ≡ letter_for edge.letter → Leads actions new_names now edge e
+    leads : (e : Edge Pair) → e.to ≡ to → e.letter ≡ letter_for edge.letter → Leads step new_names now edge e
     leads e to_is letter_is = record {
       next = next;
       passes = passes;
@@ -91,7 +92,7 @@ module _ (actions : List Action) (number : ℕ) (now : Features) (edge : Edge Ta
               (next, subst (λ p. Shows new_features p next) same shows)
         ]
 
-    pub AddsEdges-one : AddsEdges actions number now (λ e. e ≡ edge) (record { places = places; features = features }) edges (record { places = new_places; features = new_features }) new_edges
+    pub AddsEdges-one : AddsEdges step number now (λ e. e ≡ edge) (record { places = places; features = features }) edges (record { places = new_places; features = new_features }) new_edges
     unfolding made
     AddsEdges-one = record {
       places = keeps_more places new_places place grown;
@@ -102,14 +103,14 @@ module _ (actions : List Action) (number : ℕ) (now : Features) (edge : Edge Ta
         | inl held ↦ inl held
         | inr same ↦ inr (ap (λ (f : Edge Pair). f.from) (sym same), (edge, refl, leads e (ap (λ (f : Edge Pair). f.to) (sym same)) (ap (λ (f : Edge Pair). f.letter) (sym same))))
       ];
-      all = λ old then same is_behind. (made, subst (λ es. Contains es made) (sym is) (Contains-push edges made), refl, subst (λ f. Leads actions new_names now f made) (sym same) (leads made refl refl));
+      all = λ old then same is_behind. (made, subst (λ es. Contains es made) (sym is) (Contains-push edges made), refl, subst (λ f. Leads step new_names now f made) (sym same) (leads made refl refl));
     }
 
-module _ (actions : List Action) (number : ℕ) (now : Features) where
-  pub AddsEdges-none : (P : Edge Tape → Type 0) (names : Names) (edges : List (Edge Pair)) → ((e : Edge Tape) → P e → ⊥) → AddsEdges actions number now P names edges names edges
+module _ (step : Edge Tape → Features → Option Features) (number : ℕ) (now : Features) where
+  pub AddsEdges-none : (P : Edge Tape → Type 0) (names : Names) (edges : List (Edge Pair)) → ((e : Edge Tape) → P e → ⊥) → AddsEdges step number now P names edges names edges
   AddsEdges-none P names edges never = record { places = λ k x at. at; features = λ k x at. at; shown = λ s. s; kept = λ e h. h; only = λ e h. inl h; all = λ old next p is. absurd (never old p) }
 
-  pub AddsEdges-then : (P Q R : Edge Tape → Type 0) (a_names b_names c_names : Names) (a b c : List (Edge Pair)) → ((e : Edge Tape) → R e → P e ⊎ Q e) → ((e : Edge Tape) → P e → R e) → ((e : Edge Tape) → Q e → R e) → AddsEdges actions number now P a_names a b_names b → AddsEdges actions number now Q b_names b c_names c → AddsEdges actions number now R a_names a c_names c
+  pub AddsEdges-then : (P Q R : Edge Tape → Type 0) (a_names b_names c_names : Names) (a b c : List (Edge Pair)) → ((e : Edge Tape) → R e → P e ⊎ Q e) → ((e : Edge Tape) → P e → R e) → ((e : Edge Tape) → Q e → R e) → AddsEdges step number now P a_names a b_names b → AddsEdges step number now Q b_names b c_names c → AddsEdges step number now R a_names a c_names c
   AddsEdges-then P Q R a_names b_names c_names a b c split f g first second = record {
     places = keeps_then a_names.places b_names.places c_names.places first.places second.places;
     features = keeps_then a_names.features b_names.features c_names.features first.features second.features;
@@ -118,17 +119,17 @@ module _ (actions : List Action) (number : ℕ) (now : Features) where
     only = λ e h. elim (second.only e h) [
       | inl held ↦ elim (first.only e held) [
         | inl older ↦ inl older
-        | inr r ↦ inr (r.0, (r.1.0, f r.1.0 r.1.1, leads_kept b_names c_names second.places second.features actions now r.1.0 e r.1.2))
+        | inr r ↦ inr (r.0, (r.1.0, f r.1.0 r.1.1, leads_kept b_names c_names second.places second.features step now r.1.0 e r.1.2))
       ]
       | inr r ↦ inr (r.0, (r.1.0, g r.1.0 r.1.1, r.1.2))
     ];
     all = λ old next r is. elim (split old r) [
-      | inl p ↦ let s = first.all old next p is in (s.0, second.kept s.0 s.1, s.2, leads_kept b_names c_names second.places second.features actions now old s.0 s.3)
+      | inl p ↦ let s = first.all old next p is in (s.0, second.kept s.0 s.1, s.2, leads_kept b_names c_names second.places second.features step now old s.0 s.3)
       | inr q ↦ second.all old next q is
     ];
   }
 
-  pub AddsEdges-same : (P Q : Edge Tape → Type 0) (a_names b_names : Names) (a b : List (Edge Pair)) → ((e : Edge Tape) → P e ↔ Q e) → AddsEdges actions number now P a_names a b_names b → AddsEdges actions number now Q a_names a b_names b
+  pub AddsEdges-same : (P Q : Edge Tape → Type 0) (a_names b_names : Names) (a b : List (Edge Pair)) → ((e : Edge Tape) → P e ↔ Q e) → AddsEdges step number now P a_names a b_names b → AddsEdges step number now Q a_names a b_names b
   AddsEdges-same P Q a_names b_names a b same h = record {
     places = h.places;
     features = h.features;
@@ -140,33 +141,33 @@ module _ (actions : List Action) (number : ℕ) (now : Features) where
 
   -- edges that are looked at one by one
   module _ (olds : List (Edge Tape)) where
-    pub edges_none : (names : Names) (edges : List (Edge Pair)) → AddsEdges actions number now (Contains (take 0 olds)) names edges names edges
+    pub edges_none : (names : Names) (edges : List (Edge Pair)) → AddsEdges step number now (Contains (take 0 olds)) names edges names edges
     edges_none names edges = AddsEdges-none (Contains (take 0 olds)) names edges (λ e h. Contains-nil_cases e h)
 
-    pub edges_more : (i : ℕ) (d : Edge Tape) → i < length olds → (a_names b_names c_names : Names) (a b c : List (Edge Pair)) → AddsEdges actions number now (Contains (take i olds)) a_names a b_names b → AddsEdges actions number now (λ e. e ≡ get_or olds i d) b_names b c_names c → AddsEdges actions number now (Contains (take (i + 1) olds)) a_names a c_names c
-    edges_more i d within a_names b_names c_names a b c before step =
+    pub edges_more : (i : ℕ) (d : Edge Tape) → i < length olds → (a_names b_names c_names : Names) (a b c : List (Edge Pair)) → AddsEdges step number now (Contains (take i olds)) a_names a b_names b → AddsEdges step number now (λ e. e ≡ get_or olds i d) b_names b c_names c → AddsEdges step number now (Contains (take (i + 1) olds)) a_names a c_names c
+    edges_more i d within a_names b_names c_names a b c before next =
         let y : Edge Tape = get_or olds i d in
         let front : take (i + 1) olds ≡ take i olds ++ y ∷ [] = take_more olds i d within in
         AddsEdges-then (Contains (take i olds)) (λ e. e ≡ y) (Contains (take (i + 1) olds)) a_names b_names c_names a b c
         (λ e h. elim (Contains-push_cases (take i olds) y e (subst (λ ys. Contains ys e) front h)) [ inl held ↦ inl held | inr same ↦ inr (sym same) ])
         (λ e h. subst (λ ys. Contains ys e) (sym front) (Contains-append_left (take i olds) (y ∷ []) e h))
         (λ e same. subst (λ z. Contains (take (i + 1) olds) z) (sym same) (subst (λ ys. Contains ys y) (sym front) (Contains-push (take i olds) y)))
-        before step
+        before next
 
-    pub edges_all : (i : ℕ) (a_names b_names : Names) (a b : List (Edge Pair)) → length olds ≤ i → AddsEdges actions number now (Contains (take i olds)) a_names a b_names b → AddsEdges actions number now (Contains olds) a_names a b_names b
-    edges_all i a_names b_names a b past h = subst (λ ys. AddsEdges actions number now (Contains ys) a_names a b_names b) (take_all i olds past) h
+    pub edges_all : (i : ℕ) (a_names b_names : Names) (a b : List (Edge Pair)) → length olds ≤ i → AddsEdges step number now (Contains (take i olds)) a_names a b_names b → AddsEdges step number now (Contains olds) a_names a b_names b
+    edges_all i a_names b_names a b past h = subst (λ ys. AddsEdges step number now (Contains ys) a_names a b_names b) (take_all i olds past) h
 
 -- what holds when so many places were looked at as there are final marks
-pub record IsExploring (actions : List Action) (net : Automaton Tape) (first : Features) (names : Names) (edges : List (Edge Pair)) (finals : List Bool) : Type 0 where
+pub record IsExploring (step : Edge Tape → Features → Option Features) (net : Automaton Tape) (first : Features) (names : Names) (edges : List (Edge Pair)) (finals : List Bool) : Type 0 where
   pub start : IsAt names 0 0 first
   pub looked : length finals ≤ length names.places
   pub shown : AreShown names
   pub final : (k state : ℕ) (now : Features) → k < length finals → IsAt names k state now → (slice_get finals k ≡ Some true) ↔ IsFinal net state
-  pub only : (e : Edge Pair) → Contains edges e → (now : Features) × (old : Edge Tape) × (e.from < length finals) × IsAt names e.from old.from now × Contains net.edges old × Leads actions names now old e
-  pub all : (k : ℕ) (now next : Features) (old : Edge Tape) → k < length finals → IsAt names k old.from now → Contains net.edges old → behind actions old.letter now ≡ Some next → (e : Edge Pair) × Contains edges e × (e.from ≡ k) × Leads actions names now old e
+  pub only : (e : Edge Pair) → Contains edges e → (now : Features) × (old : Edge Tape) × (e.from < length finals) × IsAt names e.from old.from now × Contains net.edges old × Leads step names now old e
+  pub all : (k : ℕ) (now next : Features) (old : Edge Tape) → k < length finals → IsAt names k old.from now → Contains net.edges old → step old now ≡ Some next → (e : Edge Pair) × Contains edges e × (e.from ≡ k) × Leads step names now old e
 
-module _ (actions : List Action) (net : Automaton Tape) (first : Features) where
-  pub exploring_none : (names : Names) (edges : List (Edge Pair)) (finals : List Bool) → names.places ≡ record { state = 0; upper = 0; lower = 0 } ∷ [] → Shows names.features (record { state = 0; upper = 0; lower = 0 }) first → edges ≡ [] → finals ≡ [] → IsExploring actions net first names edges finals
+module _ (step : Edge Tape → Features → Option Features) (net : Automaton Tape) (first : Features) where
+  pub exploring_none : (names : Names) (edges : List (Edge Pair)) (finals : List Bool) → names.places ≡ record { state = 0; upper = 0; lower = 0 } ∷ [] → Shows names.features (record { state = 0; upper = 0; lower = 0 }) first → edges ≡ [] → finals ≡ [] → IsExploring step net first names edges finals
   exploring_none names edges finals one shows none no_finals =
       let zero_long : length finals ≡ 0 = ap length no_finals in
       let zero : Place = record { state = 0; upper = 0; lower = 0 } in
@@ -186,9 +187,9 @@ module _ (actions : List Action) (net : Automaton Tape) (first : Features) where
       }
 
   module _ (old_names names : Names) (old_edges edges : List (Edge Pair)) (old_finals finals : List Bool) (state : ℕ) (now : Features) (mark : Bool)
-      (before : IsExploring actions net first old_names old_edges old_finals) (at : IsAt old_names (length old_finals) state now)
+      (before : IsExploring step net first old_names old_edges old_finals) (at : IsAt old_names (length old_finals) state now)
       (mark_is : IsTrue mark ↔ IsFinal net state) (pushed : finals ≡ old_finals ++ mark ∷ [])
-      (added : AddsEdges actions (length old_finals) now (λ e. Contains net.edges e × (e.from ≡ state)) old_names old_edges names edges) where
+      (added : AddsEdges step (length old_finals) now (λ e. Contains net.edges e × (e.from ≡ state)) old_names old_edges names edges) where
     -- what a number that was looked at before, or is looked at now, stands for
     at_before : (k other : ℕ) (then : Features) → k < length old_names.places → IsAt names k other then → IsAt old_names k other then
     at_before k other then within here =
@@ -199,7 +200,7 @@ module _ (actions : List Action) (net : Automaton Tape) (first : Features) where
         let new : IsAt names k place.state s.0 = at_kept old_names names added.places added.features k place.state s.0 old in
         subst (λ p. IsAt old_names k p then) (one_state names k place.state other s.0 then new here) (subst (λ z. IsAt old_names k place.state z) (one_list names k place.state other s.0 then new here) old)
 
-    pub exploring_more : IsExploring actions net first names edges finals
+    pub exploring_more : IsExploring step net first names edges finals
     exploring_more =
         let long : length finals ≡ length old_finals + 1 = ap length pushed ∙ length_push old_finals mark in
         let inside : length old_finals < length old_names.places = slice_get_within old_names.places (length old_finals) at.place at.stands in
@@ -227,7 +228,7 @@ module _ (actions : List Action) (net : Automaton Tape) (first : Features) where
             | inl held ↦
                 let r = before.only e held in
                 let l : e.from < length old_finals = r.2 in
-                (r.0, r.1, omega arith, at_kept old_names names added.places added.features e.from (r.1).from r.0 r.3, r.4, leads_kept old_names names added.places added.features actions r.0 r.1 e r.5)
+                (r.0, r.1, omega arith, at_kept old_names names added.places added.features e.from (r.1).from r.0 r.3, r.4, leads_kept old_names names added.places added.features step r.0 r.1 e r.5)
             | inr r ↦
                 let from : e.from ≡ length old_finals = r.0 in
                 let old : Edge Tape = r.1.0 in
@@ -237,18 +238,18 @@ module _ (actions : List Action) (net : Automaton Tape) (first : Features) where
           all = λ k then next old l here held is. elim (cases_lt k (length old_finals)) [
             | inl b ↦
                 let r = before.all k then next old b (at_before k old.from then (omega arith) here) held is in
-                (r.0, added.kept r.0 r.1, r.2, leads_kept old_names names added.places added.features actions then old r.0 r.3)
+                (r.0, added.kept r.0 r.1, r.2, leads_kept old_names names added.places added.features step then old r.0 r.3)
             | inr g ↦
                 let this : length old_finals ≡ k = omega arith in
                 let here' : IsAt names (length old_finals) old.from then = subst (λ j. IsAt names j old.from then) (sym this) here in
                 let state_is : state ≡ old.from = one_state names (length old_finals) state old.from now then there here' in
                 let list_is : now ≡ then = one_list names (length old_finals) state old.from now then there here' in
-                let new = added.all old next (held, sym state_is) (ap (λ (z : Features). behind actions old.letter z) list_is ∙ is) in
-                (new.0, new.1, new.2 ∙ this, subst (λ (z : Features). Leads actions names z old new.0) list_is new.3)
+                let new = added.all old next (held, sym state_is) (ap (λ (z : Features). step old z) list_is ∙ is) in
+                (new.0, new.1, new.2 ∙ this, subst (λ (z : Features). Leads step names z old new.0) list_is new.3)
           ];
         }
 
-  pub exploring_all : (names : Names) (edges : List (Edge Pair)) (finals : List Bool) → length names.places ≤ length finals → IsExploring actions net first names edges finals → IsResolved actions net first names edges finals
+  pub exploring_all : (names : Names) (edges : List (Edge Pair)) (finals : List Bool) → length names.places ≤ length finals → IsExploring step net first names edges finals → IsResolved step net first names edges finals
   exploring_all names edges finals past is =
       let looked = is.looked in
       record {
@@ -262,10 +263,10 @@ module _ (actions : List Action) (net : Automaton Tape) (first : Features) where
 -- the place behind a flag
 module _ (actions : List Action) (old new : List (List (Option ℕ))) (kept : Keeps old new) (place : Place) (edge : Edge Tape) (now : Features) (shows : Shows old place now) (n : ℕ) where
   module _ (letter : edge.letter ≡ Some (UpFlag n)) where
-    pub upper_behind : (k : ℕ) → IsNumbered new (Some k) (behind_if now.upper (slice_get actions n)) → IsPlaceBehind actions new edge now (Some (record { state = edge.to; upper = k; lower = place.lower }))
+    pub upper_behind : (k : ℕ) → IsNumbered new (Some k) (behind_if now.upper (slice_get actions n)) → IsPlaceBehind (behind_edge actions) new edge now (Some (record { state = edge.to; upper = k; lower = place.lower }))
     upper_behind k = by (behind_if now.upper (slice_get actions n)) refl
       where
-        by : (o : Option (List (Option ℕ))) → behind_if now.upper (slice_get actions n) ≡ o → IsNumbered new (Some k) o → IsPlaceBehind actions new edge now (Some (record { state = edge.to; upper = k; lower = place.lower }))
+        by : (o : Option (List (Option ℕ))) → behind_if now.upper (slice_get actions n) ≡ o → IsNumbered new (Some k) o → IsPlaceBehind (behind_edge actions) new edge now (Some (record { state = edge.to; upper = k; lower = place.lower }))
         by None is h = absurd h
         by (Some upper) is h =
             (record { upper = upper; lower = now.lower }, ap (λ (l : Option Tape). behind actions l now) letter ∙ ap (with_upper now) is, refl, record { upper = h; lower = kept place.lower now.lower shows.lower })
@@ -278,10 +279,10 @@ module _ (actions : List Action) (old new : List (List (Option ℕ))) (kept : Ke
         by (Some upper) is h = absurd h
 
   module _ (letter : edge.letter ≡ Some (LowFlag n)) where
-    pub lower_behind : (k : ℕ) → IsNumbered new (Some k) (behind_if now.lower (slice_get actions n)) → IsPlaceBehind actions new edge now (Some (record { state = edge.to; upper = place.upper; lower = k }))
+    pub lower_behind : (k : ℕ) → IsNumbered new (Some k) (behind_if now.lower (slice_get actions n)) → IsPlaceBehind (behind_edge actions) new edge now (Some (record { state = edge.to; upper = place.upper; lower = k }))
     lower_behind k = by (behind_if now.lower (slice_get actions n)) refl
       where
-        by : (o : Option (List (Option ℕ))) → behind_if now.lower (slice_get actions n) ≡ o → IsNumbered new (Some k) o → IsPlaceBehind actions new edge now (Some (record { state = edge.to; upper = place.upper; lower = k }))
+        by : (o : Option (List (Option ℕ))) → behind_if now.lower (slice_get actions n) ≡ o → IsNumbered new (Some k) o → IsPlaceBehind (behind_edge actions) new edge now (Some (record { state = edge.to; upper = place.upper; lower = k }))
         by None is h = absurd h
         by (Some lower) is h =
             (record { upper = now.upper; lower = lower }, ap (λ (l : Option Tape). behind actions l now) letter ∙ ap (with_lower now) is, refl, record { upper = kept place.upper now.upper shows.upper; lower = h })

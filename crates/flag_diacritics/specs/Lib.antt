@@ -1,3 +1,4 @@
 pub mod Tapes
 pub mod Numbers
 pub mod Search
+pub mod Idle

@@ -4,10 +4,12 @@
 //! - [`resolve`]: the transducer of the pairs on those tapes whose flags pass (`specs/Tapes.antt`). No flag is left in
 //!   it, so whoever looks words up needs none.
 //! - `actions`: flags by numbers, and what they do (`specs/Numbers.antt`). `texts`: numbers of features and values.
-//!   `search`: the states of the result (`specs/Search.antt`), which `tables` numbers.
+//!   `idle`: features whose values no later flag tests (`specs/Idle.antt`), which don't tell states apart. `search`: the
+//!   states of the result (`specs/Search.antt`), which `tables` numbers.
 #![tactic(auto)]
 
 mod actions;
+mod idle;
 mod resolution;
 mod search;
 mod tables;

@@ -7,6 +7,7 @@ ghost use Rattle.fst_relation.specs.Relation.{IsRelated};
 ghost use Rattle.flag_diacritics.specs.Tapes.{HasPairs, TapesRelate, UsesPair};
 
 use crate::actions::actions_of;
+use crate::idle::idle_features;
 use crate::search::explore;
 use crate::tape::Tape;
 use fsa::Fsa;
@@ -18,14 +19,16 @@ use std::alloc::{AllocError, Global};
 /// The transducer of a network's pairs, its flags resolved: an accepted tape counts where each flag of its upper side
 /// passes, from all features neutral, and so does each flag of its lower side by itself. A flag is named by its place
 /// in `flags`; a number past their end is no flag. The states are a state of the network with what the features of both
-/// sides are there, as far as the start reaches them and a final state is reached.
+/// sides are there that some later flag tests before they are set again, as far as the start reaches them and a final state
+/// is reached.
 pub fn resolve(alloc: Global, net: &Fsa<Tape>, flags: &[FlagOp]) -> Result<Fsa<Pair>, AllocError>
     ensures pairs { IfOk result (λ m. (x : Pair) → UsesLetter m x → UsesPair net.now x) }
     ensures language { IfOk result (λ m. (pairs : List Pair) → Accepts m pairs ↔ HasPairs net.now flags.now pairs) }
     ensures relation { IfOk result (λ m. AreSame (IsRelated m) (TapesRelate net.now flags.now)) }
 {
     let actions = actions_of(alloc, flags)?;
-    let built = explore(alloc, net, &actions)?;
+    let idle = idle_features(alloc, net, &actions)?;
+    let built = explore(alloc, net, &actions, &idle)?;
     let m = automaton(alloc, built.finals, &built.edges)?;
     trim(alloc, &m)
 }

@@ -2,9 +2,11 @@ ghost use Rattle.std.specs.Prelude.{◌≡◌, ◌<◌, ◌↔◌, ℕ, List, []
 ghost use Rattle.fsa.specs.declared.automaton.Edge.{Edge};
 ghost use Rattle.flag_diacritics.specs.declared.tape.Tape.{Tape};
 ghost use Rattle.flag_diacritics.specs.Numbers.{Features, Keeps, IsNumbered, behind_if};
+ghost use Rattle.flag_diacritics.specs.Idle.{behind_edge, live_behind, masked};
 ghost use Rattle.flag_diacritics.specs.Search.{Names, Shows, IsPlaceBehind, AddsEdges, IsResolved, letter_for};
 
 use crate::actions::{Action, Actions, behind_action};
+use crate::idle::{Idle, is_masked, masked, row_at};
 use crate::tables::{FeatureTable, Place, PlaceTable};
 use crate::tape::Tape;
 use fsa::{Edge, Fsa};
@@ -34,8 +36,13 @@ pub struct Explored {
 
 /// The automaton of the places that edges whose flags pass lead to, from the start with all features neutral. A place
 /// is final where its state is.
-pub fn explore(alloc: Global, net: &Fsa<Tape>, actions: &Actions) -> Result<Explored, AllocError>
-    ensures { IfOk result (λ built. (names : Names) × IsResolved actions.now.list.items net.now (record { upper = replicate actions.now.features None; lower = replicate actions.now.features None }) names built.edges.items built.finals.items) }
+pub fn explore(
+    alloc: Global,
+    net: &Fsa<Tape>,
+    actions: &Actions,
+    idle: &Idle,
+) -> Result<Explored, AllocError>
+    ensures { IfOk result (λ built. (names : Names) × IsResolved (live_behind actions.now.list.items idle.now) net.now (record { upper = replicate actions.now.features None; lower = replicate actions.now.features None }) names built.edges.items built.finals.items) }
 {
     let rows = EdgesByState::of(alloc, net.edges())?;
     let mut found = start(alloc, actions.features)?;
@@ -48,6 +55,7 @@ pub fn explore(alloc: Global, net: &Fsa<Tape>, actions: &Actions) -> Result<Expl
             alloc,
             &mut found,
             &actions.list,
+            idle,
             number,
             place,
             rows.out(place.state),
@@ -92,16 +100,17 @@ fn add_edges(
     alloc: Global,
     found: &mut Found,
     actions: &[Action],
+    idle: &Idle,
     number: usize,
     place: Place,
     edges: &[Edge<Tape>],
 ) -> Result<(), AllocError>
     requires upper { place.upper < length found.old.features }
     requires lower { place.lower < length found.old.features }
-    ensures { OnOk result ((now : Features) → Shows found.old.features place now → AddsEdges actions.now number now (Contains edges.now) (record { places = found.old.places; features = found.old.features }) found.old.edges.items (record { places = found.new.places; features = found.new.features }) found.new.edges.items) }
+    ensures { OnOk result ((now : Features) → Shows found.old.features place now → AddsEdges (live_behind actions.now idle.now) number now (Contains edges.now) (record { places = found.old.places; features = found.old.features }) found.old.edges.items (record { places = found.new.places; features = found.new.features }) found.new.edges.items) }
 {
     for edge in edges {
-        add_edge(alloc, found, actions, number, place, edge)?;
+        add_edge(alloc, found, actions, idle, number, place, edge)?;
     }
     Ok(())
 }
@@ -111,15 +120,16 @@ fn add_edge(
     alloc: Global,
     found: &mut Found,
     actions: &[Action],
+    idle: &Idle,
     number: usize,
     place: Place,
     edge: &Edge<Tape>,
 ) -> Result<(), AllocError>
     requires upper { place.upper < length found.old.features }
     requires lower { place.lower < length found.old.features }
-    ensures { OnOk result ((now : Features) → Shows found.old.features place now → AddsEdges actions.now number now (λ e. e ≡ edge.now) (record { places = found.old.places; features = found.old.features }) found.old.edges.items (record { places = found.new.places; features = found.new.features }) found.new.edges.items) }
+    ensures { OnOk result ((now : Features) → Shows found.old.features place now → AddsEdges (live_behind actions.now idle.now) number now (λ e. e ≡ edge.now) (record { places = found.old.places; features = found.old.features }) found.old.edges.items (record { places = found.new.places; features = found.new.features }) found.new.edges.items) }
 {
-    let Some(next) = place_behind(alloc, &mut found.features, actions, place, edge)? else {
+    let Some(next) = live_place(alloc, &mut found.features, actions, idle, place, edge)? else {
         return Ok(());
     };
     let to = found.places.number_of(next)?;
@@ -129,6 +139,53 @@ fn add_edge(
         to,
     })?;
     Ok(())
+}
+
+/// The place that an edge leads to, with its idle features neutral, or None where its flag doesn't pass.
+fn live_place(
+    alloc: Global,
+    features: &mut FeatureTable,
+    actions: &[Action],
+    idle: &Idle,
+    place: Place,
+    edge: &Edge<Tape>,
+) -> Result<Option<Place>, AllocError>
+    requires upper { place.upper < length features.old }
+    requires lower { place.lower < length features.old }
+    ensures kept { OnOk result (Keeps features.old features.new) }
+    ensures place { IfOk result (λ next. (now : Features) → Shows features.old place now → IsPlaceBehind (live_behind actions.now idle.now) features.new edge.now now next) }
+{
+    let Some(next) = place_behind(alloc, features, actions, place, edge)? else {
+        return Ok(None);
+    };
+    let upper = masked_number(alloc, features, row_at(&idle.upper, edge.to), next.upper)?;
+    let lower = masked_number(alloc, features, row_at(&idle.lower, edge.to), next.lower)?;
+    Ok(Some(Place {
+        state: next.state,
+        upper,
+        lower,
+    }))
+}
+
+/// The number of what the features with a number are, the idle ones being made neutral.
+fn masked_number(
+    alloc: Global,
+    features: &mut FeatureTable,
+    row: &[bool],
+    number: usize,
+) -> Result<usize, AllocError>
+    ensures kept { OnOk result (Keeps features.old features.new) }
+    ensures masked { IfOk result (λ k. (now : List (Option ℕ)) → slice_get features.old number ≡ Some now → slice_get features.new k ≡ Some (masked row.now now)) }
+{
+    if number >= features.len() {
+        return Ok(number);
+    }
+    let now = features.get(number);
+    if is_masked(row, now) {
+        return Ok(number);
+    }
+    let list = masked(alloc, row, now)?;
+    features.number_of(list)
 }
 
 /// The place that an edge leads to, or None where its flag doesn't pass.
@@ -142,7 +199,7 @@ fn place_behind(
     requires upper { place.upper < length features.old }
     requires lower { place.lower < length features.old }
     ensures kept { OnOk result (Keeps features.old features.new) }
-    ensures place { IfOk result (λ next. (now : Features) → Shows features.old place now → IsPlaceBehind actions.now features.new edge.now now next) }
+    ensures place { IfOk result (λ next. (now : Features) → Shows features.old place now → IsPlaceBehind (behind_edge actions.now) features.new edge.now now next) }
 {
     let (upper, lower) = (place.upper, place.lower);
     let state = edge.to;

@@ -31,6 +31,13 @@ impl FeatureTable {
         }
     }
 
+    /// How many lists there are.
+    pub fn len(&self) -> usize
+        ensures { result ≡ length self.now }
+    {
+        self.lists.len()
+    }
+
     /// The list with a number.
     pub fn get(&self, number: usize) -> &[Option<usize>]
         requires { number < length self.now }

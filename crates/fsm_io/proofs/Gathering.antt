@@ -17,7 +17,7 @@ use Rattle.fsm_io.proofs.Cuts.{within-nil, within-append, told-kept, told-short,
 
 -- ---- a front of the held bytes goes to the line
 
-pub moves_newline : (held0 held : List ℕ) (line0 line : BufferView) (place count : ℕ) → IsNewline held0 place → held ≡ drop (place + 1) held0 → length line0.held ≤ line0.room
+unfoldable pub moves_newline : (held0 held : List ℕ) (line0 line : BufferView) (place count : ℕ) → IsNewline held0 place → held ≡ drop (place + 1) held0 → length line0.held ≤ line0.room
     → count ≡ min (line0.room - length line0.held) (length (take place held0)) → line ≡ record line0 { held = line0.held ++ take count (take place held0) } → Moves held0 held line0 line true
 moves_newline held0 held line0 line place count newline left fits counts filled = record {
   piece = take place held0;
@@ -28,7 +28,7 @@ moves_newline held0 held line0 line place count newline left fits counts filled 
   room = ap (λ (b : BufferView). b.room) filled;
 }
 
-pub moves_all : (held0 held : List ℕ) (line0 line : BufferView) (count : ℕ) → IsWithinLine held0 → held ≡ [] → length line0.held ≤ line0.room
+unfoldable pub moves_all : (held0 held : List ℕ) (line0 line : BufferView) (count : ℕ) → IsWithinLine held0 → held ≡ [] → length line0.held ≤ line0.room
     → count ≡ min (line0.room - length line0.held) (length held0) → line ≡ record line0 { held = line0.held ++ take count held0 } → Moves held0 held line0 line false
 moves_all held0 held line0 line count within left fits counts filled = record {
   piece = held0;
@@ -52,7 +52,7 @@ pub record Gathering (left0 left : Option (List ℕ)) (budget0 budget : ℕ) (li
   pub kept : line.held ≡ take line0.room (line0.held ++ piece)
   pub room : line.room ≡ line0.room
 
-pub gathering_start : (left : Option (List ℕ)) (budget : ℕ) (line : BufferView) (held : List ℕ) → length line.held ≤ line.room → Gathering left left budget budget line line held held
+unfoldable pub gathering_start : (left : Option (List ℕ)) (budget : ℕ) (line : BufferView) (held : List ℕ) → length line.held ≤ line.room → Gathering left left budget budget line line held held
 gathering_start left budget line held fits = record {
   taken = [];
   piece = [];
@@ -64,17 +64,17 @@ gathering_start left budget line held fits = record {
   room = refl;
 }
 
-more_bytes : (held0 held1 held none taken piece moved : List ℕ) → held0 ++ taken ≡ piece ++ held1 → held1 ≡ moved ++ none → none ≡ [] → held0 ++ (taken ++ held) ≡ (piece ++ moved) ++ held
+pub more_bytes : (held0 held1 held none taken piece moved : List ℕ) → held0 ++ taken ≡ piece ++ held1 → held1 ≡ moved ++ none → none ≡ [] → held0 ++ (taken ++ held) ≡ (piece ++ moved) ++ held
 more_bytes held0 held1 held none taken piece moved before moves empty =
     let all : held1 ≡ moved = moves ∙ ap (λ (l : List ℕ). moved ++ l) empty ∙ append-nil moved in
     sym (append_assoc held0 taken held) ∙ ap (λ (l : List ℕ). l ++ held) (before ∙ ap (λ (l : List ℕ). piece ++ l) all)
 
-more_kept : (room room1 : ℕ) (line0 line1 line piece moved : List ℕ) → room1 ≡ room → line1 ≡ take room (line0 ++ piece) → line ≡ take room1 (line1 ++ moved) → line ≡ take room (line0 ++ (piece ++ moved))
+pub more_kept : (room room1 : ℕ) (line0 line1 line piece moved : List ℕ) → room1 ≡ room → line1 ≡ take room (line0 ++ piece) → line ≡ take room1 (line1 ++ moved) → line ≡ take room (line0 ++ (piece ++ moved))
 more_kept room room1 line0 line1 line piece moved same before moves =
     moves ∙ ap (λ (n : ℕ). take n (line1 ++ moved)) same ∙ ap (λ (l : List ℕ). take room (l ++ moved)) before ∙ take-take-append room (line0 ++ piece) moved ∙ ap (take room) (append_assoc line0 piece moved)
 
 -- the held bytes went to the line, none of them a newline, and others were read
-pub gathering_more : (left0 left1 left : Option (List ℕ)) (budget0 budget1 budget : ℕ) (line0 line1 line : BufferView) (held0 held1 none held : List ℕ)
+unfoldable pub gathering_more : (left0 left1 left : Option (List ℕ)) (budget0 budget1 budget : ℕ) (line0 line1 line : BufferView) (held0 held1 none held : List ℕ)
     → Gathering left0 left1 budget0 budget1 line0 line1 held0 held1 → Moves held1 none line1 line false → Consumes left1 left held → budget + length held ≡ budget1
     → Gathering left0 left budget0 budget line0 line held0 held
 gathering_more left0 left1 left budget0 budget1 budget line0 line1 line held0 held1 none held before moves consumed spent = record {
@@ -88,7 +88,7 @@ gathering_more left0 left1 left budget0 budget1 budget line0 line1 line held0 he
   room = moves.room ∙ before.room;
 }
 
-gathering_kept : (left0 left1 left : Option (List ℕ)) (budget0 budget : ℕ) (line0 line : BufferView) (held0 held : List ℕ)
+unfoldable pub gathering_kept : (left0 left1 left : Option (List ℕ)) (budget0 budget : ℕ) (line0 line : BufferView) (held0 held : List ℕ)
     → Gathering left0 left1 budget0 budget line0 line held0 held → Consumes left1 left [] → Gathering left0 left budget0 budget line0 line held0 held
 gathering_kept left0 left1 left budget0 budget line0 line held0 held before kept = record {
   taken = before.taken;
@@ -102,7 +102,7 @@ gathering_kept left0 left1 left budget0 budget line0 line held0 held before kept
 }
 
 -- no bytes are held, whichever list that is
-moves_kept : (held0 none held : List ℕ) (line0 line : BufferView) → Moves held0 none line0 line false → held ≡ [] → Moves held0 held line0 line false
+unfoldable pub moves_kept : (held0 none held : List ℕ) (line0 line : BufferView) → Moves held0 none line0 line false → held ≡ [] → Moves held0 held line0 line false
 moves_kept held0 none held line0 line moves empty = record {
   piece = moves.piece;
   within = moves.within;
@@ -113,7 +113,7 @@ moves_kept held0 none held line0 line moves empty = record {
 }
 
 -- and at last to the step that ends it
-pub gathered : (left0 left : Option (List ℕ)) (budget0 budget : ℕ) (line0 line1 line : BufferView) (held0 held1 held : List ℕ) (whole : Bool) (ended : Step)
+unfoldable pub gathered : (left0 left : Option (List ℕ)) (budget0 budget : ℕ) (line0 line1 line : BufferView) (held0 held1 held : List ℕ) (whole : Bool) (ended : Step)
     → Gathering left0 left budget0 budget line0 line1 held0 held1 → Moves held1 held line1 line whole → is_settled ended ≡ whole → IsStep ended left budget held
     → Gathered left0 left budget0 budget line0 line held0 held ended
 gathered left0 left budget0 budget line0 line1 line held0 held1 held whole ended before moves settled is = record {
@@ -130,24 +130,24 @@ gathered left0 left budget0 budget line0 line1 line held0 held1 held whole ended
   step = is;
 }
 
-pub gathered_settled : (left0 left : Option (List ℕ)) (budget0 budget : ℕ) (line0 line1 line : BufferView) (held0 held1 held : List ℕ)
+unfoldable pub gathered_settled : (left0 left : Option (List ℕ)) (budget0 budget : ℕ) (line0 line1 line : BufferView) (held0 held1 held : List ℕ)
     → Gathering left0 left budget0 budget line0 line1 held0 held1 → Moves held1 held line1 line true → Gathered left0 left budget0 budget line0 line held0 held step.Settled
 gathered_settled left0 left budget0 budget line0 line1 line held0 held1 held before moves =
     gathered left0 left budget0 budget line0 line1 line held0 held1 held true step.Settled before moves refl tt
 
-pub gathered_over : (left0 left : Option (List ℕ)) (budget0 budget : ℕ) (line0 line1 line : BufferView) (held0 held1 held : List ℕ)
+unfoldable pub gathered_over : (left0 left : Option (List ℕ)) (budget0 budget : ℕ) (line0 line1 line : BufferView) (held0 held1 held : List ℕ)
     → Gathering left0 left budget0 budget line0 line1 held0 held1 → Moves held1 held line1 line false → budget ≡ 0 → Gathered left0 left budget0 budget line0 line held0 held step.Over
 gathered_over left0 left budget0 budget line0 line1 line held0 held1 held before moves spent =
     gathered left0 left budget0 budget line0 line1 line held0 held1 held false step.Over before moves refl (spent, moves.none refl)
 
-pub gathered_failed : (left0 left1 left : Option (List ℕ)) (budget0 budget : ℕ) (line0 line1 line : BufferView) (held0 held1 none held : List ℕ)
+unfoldable pub gathered_failed : (left0 left1 left : Option (List ℕ)) (budget0 budget : ℕ) (line0 line1 line : BufferView) (held0 held1 none held : List ℕ)
     → Gathering left0 left1 budget0 budget line0 line1 held0 held1 → Moves held1 none line1 line false → Consumes left1 left held → held ≡ [] → 0 < budget
     → Gathered left0 left budget0 budget line0 line held0 held step.Failed
 gathered_failed left0 left1 left budget0 budget line0 line1 line held0 held1 none held before moves consumed empty some =
     gathered left0 left budget0 budget line0 line1 line held0 held1 held false step.Failed (gathering_kept left0 left1 left budget0 budget line0 line1 held0 held1 before (subst (λ (l : List ℕ). Consumes left1 left l) empty consumed))
     (moves_kept held1 none held line1 line moves empty) refl (some, empty)
 
-pub gathered_ended : (left0 left1 left : Option (List ℕ)) (budget0 budget : ℕ) (line0 line1 line : BufferView) (held0 held1 none held : List ℕ)
+unfoldable pub gathered_ended : (left0 left1 left : Option (List ℕ)) (budget0 budget : ℕ) (line0 line1 line : BufferView) (held0 held1 none held : List ℕ)
     → Gathering left0 left1 budget0 budget line0 line1 held0 held1 → Moves held1 none line1 line false → Consumes left1 left held → held ≡ [] → 0 < budget → IsAtEnd left
     → Gathered left0 left budget0 budget line0 line held0 held step.Ended
 gathered_ended left0 left1 left budget0 budget line0 line1 line held0 held1 none held before moves consumed empty some end =
@@ -300,25 +300,28 @@ over_event left0 left budget0 budget line0 line held0 held text0 g room = record
 }
 
 -- the end, by whether a line is left
-last_event : (left0 left : Option (List ℕ)) (budget0 budget : ℕ) (line0 line : BufferView) (held0 held text0 : List ℕ) (none : Bool) → Gathered left0 left budget0 budget line0 line held0 held step.Ended → line0.room ≡ most_kept → (length line.held == 0) ≡ none
-    → NextEvent left0 left (reader_before line0.held held0 text0 budget0) (reader_after step.Ended line.held held budget) (cond none End (cond (nat_le (length line.held) 4096) Line Long))
+last_event : (left0 left : Option (List ℕ)) (budget0 budget : ℕ) (line0 line : BufferView) (held0 held text0 : List ℕ) (none : Bool) (g : Gathered left0 left budget0 budget line0 line held0 held step.Ended) → line0.room ≡ most_kept → (length line.held == 0) ≡ none
+    → (next : NextEvent left0 left (reader_before line0.held held0 text0 budget0) (reader_after step.Ended line.held held budget) (cond none End (cond (nat_le (length line.held) 4096) Line Long))) × (next.piece ≡ g.piece)
+unfolding end_event ended_event
 last_event left0 left budget0 budget line0 line held0 held text0 true g room e =
-    end_event left0 left budget0 budget line0 line held0 held text0 g room (length-nil line.held (grind (arith, nat_tests)))
+    (end_event left0 left budget0 budget line0 line held0 held text0 g room (length-nil line.held (grind (arith, nat_tests))), refl)
 last_event left0 left budget0 budget line0 line held0 held text0 false g room e =
-    ended_event left0 left budget0 budget line0 line held0 held text0 (nat_le (length line.held) 4096) g room refl (grind (arith, nat_tests))
+    (ended_event left0 left budget0 budget line0 line held0 held text0 (nat_le (length line.held) 4096) g room refl (grind (arith, nat_tests)), refl)
 
-pub next_event : (left0 left : Option (List ℕ)) (budget0 budget : ℕ) (line0 line : BufferView) (held0 held text0 : List ℕ) (ended : Step) → Gathered left0 left budget0 budget line0 line held0 held ended → line0.room ≡ most_kept
-    → NextEvent left0 left (reader_before line0.held held0 text0 budget0) (reader_after ended line.held held budget) (event_of ended line.held)
-next_event left0 left budget0 budget line0 line held0 held text0 step.Settled g room = settled_event left0 left budget0 budget line0 line held0 held text0 (nat_le (length line.held) 4096) g room refl
+-- the event, which read that piece of the line
+pub next_event : (left0 left : Option (List ℕ)) (budget0 budget : ℕ) (line0 line : BufferView) (held0 held text0 : List ℕ) (ended : Step) (g : Gathered left0 left budget0 budget line0 line held0 held ended) → line0.room ≡ most_kept
+    → (next : NextEvent left0 left (reader_before line0.held held0 text0 budget0) (reader_after ended line.held held budget) (event_of ended line.held)) × (next.piece ≡ g.piece)
+unfolding settled_event failed_event over_event
+next_event left0 left budget0 budget line0 line held0 held text0 step.Settled g room = (settled_event left0 left budget0 budget line0 line held0 held text0 (nat_le (length line.held) 4096) g room refl, refl)
 next_event left0 left budget0 budget line0 line held0 held text0 step.Ended g room = last_event left0 left budget0 budget line0 line held0 held text0 (length line.held == 0) g room refl
-next_event left0 left budget0 budget line0 line held0 held text0 step.Failed g room = failed_event left0 left budget0 budget line0 line held0 held text0 g room
-next_event left0 left budget0 budget line0 line held0 held text0 step.Over g room = over_event left0 left budget0 budget line0 line held0 held text0 g room
+next_event left0 left budget0 budget line0 line held0 held text0 step.Failed g room = (failed_event left0 left budget0 budget line0 line held0 held text0 g room, refl)
+next_event left0 left budget0 budget line0 line held0 held text0 step.Over g room = (over_event left0 left budget0 budget line0 line held0 held text0 g room, refl)
 
 -- the same of the readers as they are seen, where a line that was told is let go of first
 pub advance_event : (left0 left : Option (List ℕ)) (budget0 budget : ℕ) (line1 line0 line : BufferView) (held0 held : List ℕ) (ended : Step) (told0 ended0 told1 ended1 : Bool) (old : LinesView) (event : LineEvent)
     → record { begun = cond told0 [] line1.held; ahead = held0; text = line1.held; budget = budget0; ended = ended0 } ≡ old → ended0 ≡ false → line0 ≡ record line1 { held = cond told0 [] line1.held } → line1.room ≡ most_kept
-    → Gathered left0 left budget0 budget line0 line held0 held ended → told1 ≡ is_told ended → ended1 ≡ is_ended ended → event ≡ event_of ended line.held
-    → NextEvent left0 left old (record { begun = cond told1 [] line.held; ahead = held; text = line.held; budget = budget; ended = ended1 }) event
+    → (g : Gathered left0 left budget0 budget line0 line held0 held ended) → told1 ≡ is_told ended → ended1 ≡ is_ended ended → event ≡ event_of ended line.held
+    → (next : NextEvent left0 left old (record { begun = cond told1 [] line.held; ahead = held; text = line.held; budget = budget; ended = ended1 }) event) × (next.piece ≡ g.piece)
 advance_event left0 left budget0 budget line1 line0 line held0 held ended told0 ended0 told1 ended1 old event seen going begun room g is_told1 is_ended1 is_event =
     let base = next_event left0 left budget0 budget line0 line held0 held line1.held ended g (ap (λ (b : BufferView). b.room) begun ∙ room) in
     let old_is : reader_before line0.held held0 line1.held budget0 ≡ old =
@@ -326,26 +329,30 @@ advance_event left0 left budget0 budget line1 line0 line held0 held ended told0 
     ∙ ap (λ (e : Bool). reader_at (cond told0 [] line1.held) held0 line1.held budget0 e) (sym going) ∙ seen in
     let new_is : reader_after ended line.held held budget ≡ reader_at (cond told1 [] line.held) held line.held budget ended1 =
     ap (λ (t : Bool). reader_at (cond t [] line.held) held line.held budget (is_ended ended)) (sym is_told1) ∙ ap (λ (e : Bool). reader_at (cond told1 [] line.held) held line.held budget e) (sym is_ended1) in
-    subst (λ (e : LineEvent). NextEvent left0 left old (reader_at (cond told1 [] line.held) held line.held budget ended1) e) (sym is_event)
-    (subst (λ (r : LinesView). NextEvent left0 left old r (event_of ended line.held)) new_is (subst (λ (r : LinesView). NextEvent left0 left r (reader_after ended line.held held budget) (event_of ended line.held)) old_is base))
+    subst (λ (e : LineEvent). (next : NextEvent left0 left old (reader_at (cond told1 [] line.held) held line.held budget ended1) e) × (next.piece ≡ g.piece)) (sym is_event)
+    (subst (λ (r : LinesView). (next : NextEvent left0 left old r (event_of ended line.held)) × (next.piece ≡ g.piece)) new_is
+    (subst (λ (r : LinesView). (next : NextEvent left0 left r (reader_after ended line.held held budget) (event_of ended line.held)) × (next.piece ≡ g.piece)) old_is base))
 
 -- once it has ended, the end is told again
-pub ended_again : (left : Option (List ℕ)) (begun held text : List ℕ) (budget : ℕ) (ended : Bool) (old : LinesView) → reader_at begun held text budget ended ≡ old → ended ≡ true → begun ≡ [] → held ≡ [] → NextEvent left left old old End
+pub ended_again : (left : Option (List ℕ)) (begun held text : List ℕ) (budget : ℕ) (ended : Bool) (old : LinesView) → reader_at begun held text budget ended ≡ old → ended ≡ true → begun ≡ [] → held ≡ []
+    → (next : NextEvent left left old old End) × (next.piece ≡ [])
 ended_again left begun held text budget ended old seen is none none_held =
     let is_old : old.ended ≡ true = ap (λ (r : LinesView). r.ended) (sym seen) ∙ is in
     let no_ahead : old.ahead ≡ [] = ap (λ (r : LinesView). r.ahead) (sym seen) ∙ none_held in
-    let no_begun : old.begun ≡ [] = ap (λ (r : LinesView). r.begun) (sym seen) ∙ none in
-    record {
-      taken = [];
-      piece = [];
-      consumed = consumes_none left;
-      spent = omega arith;
-      within = within-nil;
-      divided = (append-nil old.ahead ∙ no_ahead, no_ahead);
-      tells = (append-nil old.begun ∙ no_begun, no_begun);
-      stopped = is_old;
-      at_end = λ going _. cc;
-      stays = λ _. (refl, refl, refl);
-      short = λ e. cc;
-      progress = λ e. absurd e;
-    }
+    let no_begun : old.begun ≡ [] = ap (λ (r : LinesView). r.begun) (sym seen) ∙ none in (
+      record {
+        taken = [];
+        piece = [];
+        consumed = consumes_none left;
+        spent = omega arith;
+        within = within-nil;
+        divided = (append-nil old.ahead ∙ no_ahead, no_ahead);
+        tells = (append-nil old.begun ∙ no_begun, no_begun);
+        stopped = is_old;
+        at_end = λ going _. cc;
+        stays = λ _. (refl, refl, refl);
+        short = λ e. cc;
+        progress = λ e. absurd e;
+      },
+      refl,
+    )

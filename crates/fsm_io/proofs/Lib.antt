@@ -3,3 +3,4 @@ mod Pieces
 mod Gathering
 pub mod Cuts
 pub mod Streams
+pub mod Taking

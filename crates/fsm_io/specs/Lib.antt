@@ -9,3 +9,4 @@ pub mod Objects
 pub mod Requests
 pub mod Lines
 pub mod Reading
+pub mod Taking

@@ -1,9 +1,10 @@
-ghost use Rattle.std.specs.Prelude.{◌≡◌, ◌↔◌, ℕ, ◌≤◌, List, [], ◌++◌, Option, IfOk, IsTrue, Contains, MatchOption, length, take, drop, ◌∷◌, ◌+◌, ◌<◌, if◌then◌else◌, true};
+ghost use Rattle.std.specs.Prelude.{◌≡◌, ◌↔◌, ℕ, ◌≤◌, List, [], ◌++◌, Option, IfOk, IsTrue, Contains, MatchOption, length, take, drop, ◌∷◌, ◌+◌, ◌<◌, if◌then◌else◌, true, false, Ok};
 ghost use Rattle.fsm_io.specs.Buffers.{most_ahead};
 ghost use Rattle.fsm_io.specs.Causes.{Rose};
 ghost use Rattle.fsm_io.specs.Gather.{Moves, Gathered, IsNewline, event_of};
 ghost use Rattle.fsm_io.specs.Lines.{IsWithinLine};
 ghost use Rattle.fsm_io.specs.Reading.{HasTold, IsLineEvent, NextEvent, at_start, told_by};
+ghost use Rattle.fsm_io.specs.Taking.{GatheredInto, MovesInto, NextInto, PutsNext, TakesLine};
 
 use crate::buffer::Buffer;
 use crate::held::Held;
@@ -133,6 +134,37 @@ impl Lines {
         self.advance(source)
     }
 
+    /// Appends the next line with a newline to the caller's bytes, as far as there are at most `keep`, however long the line is:
+    /// a long one is a [`LineEvent::Line`] too. After a failure the same line goes on, behind what was appended of it.
+    ///
+    /// # Errors
+    ///
+    /// Where there was no memory for the line; then it was read to its end, and a front of it was appended.
+    pub fn take_line<S: Source>(
+        &mut self,
+        source: &mut S,
+        into: &mut Vec<u8>,
+        keep: usize,
+    ) -> Result<LineEvent, AllocError>
+        ensures taken { TakesLine (S.left source.old) (S.left source.new) self.old self.new keep into.old.items into.new.items result }
+        ensures few { length self.new.ahead ≤ most_ahead }
+        ensures spent { self.old.budget ≡ 0 → source.new ≡ source.old }
+        ensures ended { self.old.ended ≡ true → source.new ≡ source.old }
+        ensures failed { result ≡ Ok LineEvent.Failed → Rose (S.faults source.old) (S.faults source.new) }
+        ensures later { S.faults source.old ≤ S.faults source.new }
+    {
+        let mut lacks = false;
+        let event = self.advance_into(source, into, keep, &mut lacks);
+        if !tells_line(event) {
+            return Ok(event);
+        }
+        put(into, keep, b"\n", &mut lacks);
+        if lacks {
+            return Err(AllocError);
+        }
+        Ok(LineEvent::Line)
+    }
+
     /// Whether a whole line is ahead, so that the next event is that line and needs no read.
     pub fn is_ready(&self) -> bool
         ensures { IsTrue result ↔ Contains self.now.ahead 10 }
@@ -165,6 +197,47 @@ impl Lines {
         self.ended = step.is_ended();
         event_after(step, self.line.as_slice())
     }
+
+    /// The next event, whose bytes are also put behind the caller's.
+    fn advance_into<S: Source>(
+        &mut self,
+        source: &mut S,
+        into: &mut Vec<u8>,
+        keep: usize,
+        lacks: &mut bool,
+    ) -> LineEvent
+        requires { lacks.old ≡ false }
+        ensures next { NextInto (S.left source.old) (S.left source.new) self.old self.new keep into.old.items into.new.items lacks.new result }
+        ensures few { length self.new.ahead ≤ most_ahead }
+        ensures spent { self.old.budget ≡ 0 → source.new ≡ source.old }
+        ensures ended { self.old.ended ≡ true → source.new ≡ source.old }
+        ensures failed { result ≡ LineEvent.Failed → Rose (S.faults source.old) (S.faults source.new) }
+        ensures later { S.faults source.old ≤ S.faults source.new }
+    {
+        if self.ended {
+            return LineEvent::End;
+        }
+        begin(&mut self.line, self.told);
+        let step = gather_into(
+            &mut self.held,
+            &mut self.line,
+            &mut self.budget,
+            source,
+            into,
+            keep,
+            lacks,
+        );
+        self.told = step.is_told();
+        self.ended = step.is_ended();
+        event_after(step, self.line.as_slice())
+    }
+}
+
+/// Whether an event tells a line.
+fn tells_line(event: LineEvent) -> bool
+    ensures { IsTrue result ↔ IsLineEvent event }
+{
+    matches!(event, LineEvent::Line | LineEvent::Long)
 }
 
 /// Lets go of a line that was told.
@@ -212,6 +285,38 @@ fn gather<S: Source>(held: &mut Held, line: &mut Buffer, budget: &mut u64, sourc
     Step::Settled
 }
 
+/// The same, where the bytes are also put behind the caller's.
+fn gather_into<S: Source>(
+    held: &mut Held,
+    line: &mut Buffer,
+    budget: &mut u64,
+    source: &mut S,
+    into: &mut Vec<u8>,
+    keep: usize,
+    lacks: &mut bool,
+) -> Step
+    requires room { length line.old.held ≤ line.old.room }
+    requires few { length held.old ≤ most_ahead }
+    requires there { lacks.old ≡ false }
+    ensures few { length held.new ≤ most_ahead }
+    ensures gathered { GatheredInto (S.left source.old) (S.left source.new) budget.old budget.new line.old line.new held.old held.new keep into.old.items into.new.items lacks.new result }
+    ensures spent { budget.old ≡ 0 → source.new ≡ source.old }
+    ensures failed { result ≡ Step.Failed → Rose (S.faults source.old) (S.faults source.new) }
+    ensures later { S.faults source.old ≤ S.faults source.new }
+{
+    'reads: while !take_held_into(held, line, into, keep, lacks) {
+        if *budget == 0 {
+            return Step::Over;
+        }
+        match held.refill(source, *budget) {
+            Err(Failed) => return Step::Failed,
+            Ok(0) => return Step::Ended,
+            Ok(count) => *budget -= count as u64,
+        }
+    }
+    Step::Settled
+}
+
 /// Moves the held bytes to the line, up to a newline, which is let go of. Whether there was one.
 fn take_held(held: &mut Held, line: &mut Buffer) -> bool
     ensures moves { Moves held.old held.new line.old line.new result }
@@ -230,6 +335,44 @@ fn take_held(held: &mut Held, line: &mut Buffer) -> bool
             false
         }
     }
+}
+
+/// The same, where the bytes are also put behind the caller's.
+fn take_held_into(
+    held: &mut Held,
+    line: &mut Buffer,
+    into: &mut Vec<u8>,
+    keep: usize,
+    lacks: &mut bool,
+) -> bool
+    ensures { MovesInto held.old held.new line.old line.new keep into.old.items into.new.items lacks.old lacks.new result }
+{
+    let bytes = held.as_slice();
+    match newline_of(bytes) {
+        Some(at) => {
+            line.fill(&bytes[..at]);
+            put(into, keep, &bytes[..at], lacks);
+            held.skip(at + 1);
+            true
+        }
+        None => {
+            line.fill(bytes);
+            put(into, keep, bytes, lacks);
+            held.clear();
+            false
+        }
+    }
+}
+
+/// Puts bytes behind the caller's, as far as there are at most `keep`, unless memory lacks.
+fn put(into: &mut Vec<u8>, keep: usize, bytes: &[u8], lacks: &mut bool)
+    ensures { PutsNext keep into.old.items bytes.now into.new.items lacks.old lacks.new }
+{
+    if *lacks {
+        return;
+    }
+    let count = bytes.len().min(keep.saturating_sub(into.len()));
+    *lacks = into.extend_from_slice(&bytes[..count]).is_err();
 }
 
 /// The place of the first newline.

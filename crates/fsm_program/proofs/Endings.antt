@@ -8,18 +8,21 @@ use Rattle.reply_meaning.specs.declared.ending.Ending.{Ending}
 use Rattle.reply_meaning.specs.declared.ending.Ending.TheVariants.{Finished, WriteFailed, ReadFailed, Spent}
 use Rattle.project_meaning.specs.Projects.{Project}
 use Rattle.reply_meaning.specs.Replies.{Replies}
+use Rattle.project_sources.specs.Edits.{Version}
 use Rattle.project_sources.specs.Sources.{Said, project_in}
 use Rattle.project_sources.specs.Faults.{rows_so_far}
 use Rattle.project_sources.specs.Laws.{readers_so_far}
 use Rattle.project_sources.proofs.Once.{one_answer, exact_so_far}
 use Rattle.project_store.specs.Loaded.{AreNames, IsLoadedFrom, LoadedView}
 use Rattle.reply_text.specs.Projects.{accepted_line, refused_line}
-use Rattle.fsm_program.specs.Ends.{Ends, Asked, for_check, for_look, for_help, Loads, Query, no_words, helped, refused, folder_failed, no_memory, checked, answered, IsAnswered, IsNotLoaded, IsWhyUnread, usage_text, status_of}
+use Rattle.fsm_program.specs.Ends.{Ends, Asked, for_check, for_look, for_serve, for_help, Loads, Query, no_words, helped, refused, folder_failed, no_memory, checked, answered, served, IsAnswered, IsServed, IsNotLoaded, IsWhyUnread, usage_text, status_of}
 use Rattle.fsm_program.specs.Outside.{Outside, ReadNothing, WroteNothing, Wrote, FolderFailed, IsSaid}
 use Rattle.fsm_program.specs.Files.{IsLoaded, IsLoadError, most_read}
 use Rattle.project_store.specs.Projects.{Reads}
 use Rattle.project_sources.specs.Limits.{most_bytes}
 use Rattle.fsm_program.specs.Running.{most_taken}
+use Rattle.fsm_program.specs.Serving.{IsFirstVersion}
+use Rattle.editor_session.specs.Sessions.{HasEdited}
 use Rattle.fsm_program.specs.declared.load.LoadError.{LoadError}
 use Rattle.fsm_program.specs.declared.words.WordsError.{WordsError}
 use Rattle.fsm_program.specs.declared.words.WordsError.TheVariants as unread
@@ -69,6 +72,16 @@ pub ends_answered : (version : ℕ) (query : Query) (before after : Outside) (st
 ends_answered version query before after status loaded name (said, from, told) is answers =
     answered query (project_in said) refl told (subst (λ (n : List ℕ). IsAnswered (Replies (project_in said) query.direction version n) before after status) is (answers said from))
 
+-- the commands were answered from a version on, or there was no memory for the first line
+pub ends_served : (version : ℕ) (before after : Outside) (status : ℕ) (loaded : Version) → Told before.files (λ fs. Reads fs (Ok loaded.project)) × Told before.files (IsFirstVersion loaded)
+    → (status ≡ 5 → ReadNothing before after × WroteNothing before after)
+    → ((ending : Ending) × (status ≡ status_of ending) × HasEdited loaded most_taken before.input after.input before.output after.output ending) ⊎ (status ≡ 5) → Ends version (Some for_serve) before after status
+ends_served version before after status loaded told nothing either =
+    elim either as (λ _. Ends version (Some for_serve) before after status) [
+      | inl serves ↦ served loaded refl told.0 (told.1, serves)
+      | inr is ↦ let none = nothing is in no_memory for_serve refl tt none.0 none.1 is
+    ]
+
 -- files say one thing
 one_told : (files : Option Files) (r q : Result Project Fault) → IsTold files (λ fs. Reads fs r) → Told files (λ fs. Reads fs q) → r ≡ q
 one_told None r q told other = absurd told
@@ -96,6 +109,12 @@ no_help asked what help is loads = absurd (subst Loads (same_asked asked what fo
 check_look : {P : Type 0} (asked : Option Asked) (query : Query) → asked ≡ Some for_check → asked ≡ Some (for_look query) → P
 check_look asked query check look = let e : for_check ≡ for_look query = same_asked asked for_check (for_look query) check look in cc
 
+check_serve : {P : Type 0} (asked : Option Asked) → asked ≡ Some for_check → asked ≡ Some for_serve → P
+check_serve asked check serves = let e : for_check ≡ for_serve = same_asked asked for_check for_serve check serves in cc
+
+look_serve : {P : Type 0} (asked : Option Asked) (query : Query) → asked ≡ Some (for_look query) → asked ≡ Some for_serve → P
+look_serve asked query look serves = let e : for_look query ≡ for_serve = same_asked asked (for_look query) for_serve look serves in cc
+
 same_query : (asked : Option Asked) (a b : Query) → asked ≡ Some (for_look a) → asked ≡ Some (for_look b) → a ≡ b
 same_query asked a b e f = let g : for_look a ≡ for_look b = same_asked asked (for_look a) (for_look b) e f in cc
 
@@ -122,6 +141,7 @@ module _ {version : ℕ} {asked : Option Asked} {before after : Outside} {status
   unsaid (no_memory what is loads l h s) e = asks_none asked what e is
   unsaid (checked project names is told are l said) e = asks_none asked for_check e is
   unsaid (answered query project is told answers) e = asks_none asked (for_look query) e is
+  unsaid (served loaded is told serves) e = asks_none asked for_serve e is
 
   -- help
   pub help : Ends version asked before after status → asked ≡ Some for_help → Wrote before after usage_text 0 status
@@ -132,6 +152,7 @@ module _ {version : ℕ} {asked : Option Asked} {before after : Outside} {status
   help (no_memory what is loads l h s) e = no_help asked what e is loads
   help (checked project names is told are l said) e = no_help asked for_check e is tt
   help (answered query project is told answers) e = no_help asked (for_look query) e is tt
+  help (served loaded is told serves) e = no_help asked for_serve e is tt
 
   -- a project with a fault
   pub refusal : Ends version asked before after status → (what : Asked) (fault : Fault) → asked ≡ Some what → Loads what → IsTold before.files (λ fs. Reads fs (Err fault)) → (FolderFailed before after → ⊥)
@@ -144,6 +165,7 @@ module _ {version : ℕ} {asked : Option Asked} {before after : Outside} {status
   refusal (no_memory what' is loads' l h s) what fault e loads told whole = inr s
   refusal (checked project names is told' are l said) what fault e loads told whole = no_fault fault project (one_told before.files (Err fault) (Ok project) told told')
   refusal (answered query project is told' answers) what fault e loads told whole = no_fault fault project (one_told before.files (Err fault) (Ok project) told told')
+  refusal (served loaded is told' serves) what fault e loads told whole = no_fault fault loaded.project (one_told before.files (Err fault) (Ok loaded.project) told told')
 
   -- a project without, of which the names were asked for
   pub check : Ends version asked before after status → (project : Project) → asked ≡ Some for_check → IsTold before.files (λ fs. Reads fs (Ok project)) → (FolderFailed before after → ⊥)
@@ -156,6 +178,7 @@ module _ {version : ℕ} {asked : Option Asked} {before after : Outside} {status
   check (checked project' names is told' are l said) project e told whole =
       inl (names, subst (λ (p : Project). AreNames p names) (sym (same_project project project' (one_told before.files (Ok project) (Ok project') told told'))) are, said)
   check (answered query project' is told' answers) project e told whole = check_look asked query e is
+  check (served loaded is told' serves) project e told whole = check_serve asked e is
 
   -- a project without, in which lines were looked up
   pub answer : Ends version asked before after status → (query : Query) (project : Project) → asked ≡ Some (for_look query) → IsTold before.files (λ fs. Reads fs (Ok project)) → (FolderFailed before after → ⊥)
@@ -169,6 +192,19 @@ module _ {version : ℕ} {asked : Option Asked} {before after : Outside} {status
   answer (answered query' project' is told' answers) query project e told whole =
       inl (subst (λ (p : Project). IsAnswered (Replies p query.direction version query.net) before after status) (sym (same_project project project' (one_told before.files (Ok project) (Ok project') told told')))
       (subst (λ (q : Query). IsAnswered (Replies project' q.direction version q.net) before after status) (same_query asked query' query is e) answers))
+  answer (served loaded is told' serves) query project e told whole = look_serve asked query e is
+
+  -- a project without, whose commands were answered
+  pub serve : Ends version asked before after status → (project : Project) → asked ≡ Some for_serve → IsTold before.files (λ fs. Reads fs (Ok project)) → (FolderFailed before after → ⊥)
+      → ((loaded : Version) × (loaded.project ≡ project) × IsServed loaded before after status) ⊎ (status ≡ 5)
+  serve (no_words none l said) project e told whole = asks_none asked for_serve none e
+  serve (helped is l said) project e told whole = no_help asked for_serve is e tt
+  serve (refused what' fault' is loads' told' held l said) project e told whole = no_fault fault' project (sym (one_told before.files (Ok project) (Err fault') told told'))
+  serve (folder_failed what' is loads' rose l h s) project e told whole = absurd (whole rose)
+  serve (no_memory what' is loads' l h s) project e told whole = inr s
+  serve (checked project' names is told' are l said) project e told whole = check_serve asked is e
+  serve (answered query project' is told' answers) project e told whole = look_serve asked query is e
+  serve (served loaded is told' serves) project e told whole = inl (loaded, sym (same_project project loaded.project (one_told before.files (Ok project) (Ok loaded.project) told told')), serves)
 
   -- with no failure and bytes left to take, all was done or there was no memory
   pub completes : {I O : Type 0} → Ends version asked before after status → (status ≡ 3 → FolderFailed before after ⊎ I) → (status ≡ 4 → O) → (what : Asked) (project : Project) → asked ≡ Some what → Loads what
@@ -184,6 +220,7 @@ module _ {version : ℕ} {asked : Option Asked} {before after : Outside} {status
       by : (what : Asked) → asked ≡ Some what → Loads what → (status ≡ 0) ⊎ (status ≡ 5)
       by for_check e loads = elim (check ends project e told whole) as (λ _. (status ≡ 0) ⊎ (status ≡ 5)) [ inl (names, are, said) ↦ inl (said_whole before.output after.output said four written) | inr five ↦ inr five ]
       by (for_look query) e loads = elim (answer ends query project e told whole) as (λ _. (status ≡ 0) ⊎ (status ≡ 5)) [ inl (ending, s, a) ↦ by_ending ending s | inr five ↦ inr five ]
+      by for_serve e loads = elim (serve ends project e told whole) as (λ _. (status ≡ 0) ⊎ (status ≡ 5)) [ inl (loaded, same, (first, (ending, s, a))) ↦ by_ending ending s | inr five ↦ inr five ]
       by for_help e loads = absurd loads
 
   -- status 1 comes for words in no form
@@ -195,6 +232,7 @@ module _ {version : ℕ} {asked : Option Asked} {before after : Outside} {status
   usage_cause (no_memory what is loads l h s) e = absurd (omega (arith, s, e))
   usage_cause (checked project names is told are l said) e = said_other before.output after.output said e (λ z. omega (arith, z)) (λ z. omega (arith, z))
   usage_cause (answered query project is told (ending, s, a)) e = answered_other ending 1 s e (inl refl)
+  usage_cause (served loaded is told (first, (ending, s, a))) e = answered_other ending 1 s e (inl refl)
 
   -- 2 for a project with a fault
   pub fault_cause : Ends version asked before after status → status ≡ 2 → (fault : Fault) × Told before.files (λ fs. Reads fs (Err fault)) × ¬ FolderFailed before after
@@ -205,6 +243,7 @@ module _ {version : ℕ} {asked : Option Asked} {before after : Outside} {status
   fault_cause (no_memory what is loads l h s) e = absurd (omega (arith, s, e))
   fault_cause (checked project names is told are l said) e = said_other before.output after.output said e (λ z. omega (arith, z)) (λ z. omega (arith, z))
   fault_cause (answered query project is told (ending, s, a)) e = answered_other ending 2 s e (inr refl)
+  fault_cause (served loaded is told (first, (ending, s, a))) e = answered_other ending 2 s e (inr refl)
 
   -- and 6 where so many bytes were taken
   pub spent_cause : Ends version asked before after status → status ≡ 6 → (taken : List ℕ) × Consumes before.input after.input taken × (length taken ≡ most_taken)
@@ -218,3 +257,7 @@ module _ {version : ℕ} {asked : Option Asked} {before after : Outside} {status
   spent_cause (answered query project is told (Finished, s, a)) e = absurd (omega (arith, s, e))
   spent_cause (answered query project is told (WriteFailed, s, a)) e = absurd (omega (arith, s, e))
   spent_cause (answered query project is told (ReadFailed, s, a)) e = absurd (omega (arith, s, e))
+  spent_cause (served loaded is told (first, (Spent, s, a))) e = (a.taken, a.consumed, a.spends refl)
+  spent_cause (served loaded is told (first, (Finished, s, a))) e = absurd (omega (arith, s, e))
+  spent_cause (served loaded is told (first, (WriteFailed, s, a))) e = absurd (omega (arith, s, e))
+  spent_cause (served loaded is told (first, (ReadFailed, s, a))) e = absurd (omega (arith, s, e))

@@ -23,6 +23,9 @@ use Rattle.project_sources.specs.Faults.{fault, TextFault, text_rows, ContentFau
 use Rattle.project_sources.specs.Laws.{readers_so_far}
 use Rattle.fsm_program.specs.Files.{IsLoaded, IsLoadError, load_error, most_read}
 use Rattle.project_store.specs.Projects.{Reads}
+use Rattle.project_sources.specs.Edits.{Version}
+use Rattle.editor_meaning.specs.Editing.{IsLoaded as IsLoadedVersion}
+use Rattle.fsm_program.specs.Serving.{IsFirstVersion}
 use Rattle.fsm_program.specs.Gathered.{IsGathered, IsSeen}
 use Rattle.project_store.specs.Projects.{IsOfSources, IsWhyNot}
 use Rattle.project_store.specs.Loaded.{LoadedView}
@@ -292,6 +295,16 @@ loaded_from sources files loaded told (said, from, reads) =
 pub why_from : (sources : Files) (files : Option Files) (before now : ℕ) (error : StoreError) → Told files (IsGathered sources) → ¬ (Rose before now) → IsWhyNot sources error → IsLoadError (load_error error) files before now
 why_from sources files before now (store.Memory refused) told held why = tt
 why_from sources files before now (store.Refused fault) told held why = (told_so (IsGathered sources) (λ fs. Reads fs (Err fault)) files (λ fs gathered. gathered_says sources fs gathered (Err fault) why) told, held)
+
+-- the version of the sources is that of the folder's files
+pub version_from : (sources : Files) (files : Option Files) (meant : Version) → Told files (IsGathered sources) → IsLoadedVersion readers_so_far rows_so_far sources meant → Told files (λ fs. Reads fs (Ok meant.project)) × Told files (IsFirstVersion meant)
+version_from sources files meant told loads = (
+  told_so (IsGathered sources) (λ fs. Reads fs (Ok meant.project)) files (λ fs gathered. gathered_says sources fs gathered (Ok meant.project) loads.says) told,
+  told_so (IsGathered sources) (IsFirstVersion meant) files (λ fs gathered. record {
+    gathered = subst (λ (f : Files). IsGathered f fs) (sym loads.files_are) gathered;
+    loads = subst (λ (f : Files). IsLoadedVersion readers_so_far rows_so_far f meant) (sym loads.files_are) loads;
+  }) told,
+)
 
 -- the error that a fault of the sources becomes is so where the fault is
 pub fails_by : {T : Type 0} (r : Result T LoadError) (P : LoadError → Type 0) (error : StoreError) → IsErrAnd r (λ e. e ≡ load_error error) → P (load_error error) → IfErr r P

@@ -8,6 +8,8 @@ use Rattle.reply_meaning.specs.declared.ending.Ending.{Ending}
 use Rattle.reply_meaning.specs.declared.ending.Ending.TheVariants.{Finished, WriteFailed, ReadFailed, Spent}
 use Rattle.fsm_base.specs.Normal.{nfc_of}
 use Rattle.project_meaning.specs.Projects.{Project}
+use Rattle.project_sources.specs.Edits.{Version}
+use Rattle.editor_session.specs.Sessions.{HasEdited}
 use Rattle.lookup_answers.specs.declared.direction.Direction.{Direction}
 use Rattle.lookup_answers.specs.declared.direction.Direction.TheVariants.{Up, Down}
 use Rattle.reply_meaning.specs.Replies.{Replies, line_of}
@@ -23,6 +25,7 @@ use Rattle.fsm_program.specs.declared.words.Command.TheVariants as commands
 use Rattle.fsm_program.specs.declared.words.WordsError.{WordsError}
 use Rattle.fsm_program.specs.declared.words.WordsError.TheVariants as unread
 use Rattle.fsm_program.specs.Running.{most_taken}
+use Rattle.fsm_program.specs.Serving.{IsFirstVersion}
 
 -- what is looked up: in which direction, and in which name, in Normalization Form C
 pub record Query : Type 0 where
@@ -33,6 +36,7 @@ pub record Query : Type 0 where
 pub data Asked : Type 0 where
   for_check : Asked
   for_look : Query → Asked
+  for_serve : Asked
   for_help : Asked
 
 -- the direction of a command
@@ -43,10 +47,10 @@ direction_of command = if bytes_eq command (codes "up") then Some Up else if byt
 abbrev pub is_help : List ℕ → Bool
 is_help word = bytes_eq word (codes "help") || (bytes_eq word (codes "-h") || bytes_eq word (codes "--help"))
 
--- `check DIR`, `up DIR NET`, `down DIR NET` or `help`; other words are in no form
+-- `check DIR`, `up DIR NET`, `down DIR NET`, `serve DIR` or `help`; other words are in no form
 abbrev pub asked_of : List (List ℕ) → Option Asked
 asked_of (word ∷ []) = if is_help word then Some for_help else None
-asked_of (command ∷ dir ∷ []) = if bytes_eq command (codes "check") then Some for_check else None
+asked_of (command ∷ dir ∷ []) = if bytes_eq command (codes "check") then Some for_check else if bytes_eq command (codes "serve") then Some for_serve else None
 asked_of (command ∷ dir ∷ net ∷ []) = option_map (λ direction. for_look (record { direction = direction; net = nfc_of net })) (direction_of command)
 asked_of _ = None
 
@@ -55,6 +59,7 @@ abbrev pub asked_by : Command → Asked
 asked_by commands.Check = for_check
 asked_by (commands.Up net) = for_look (record { direction = Up; net = net })
 asked_by (commands.Down net) = for_look (record { direction = Down; net = net })
+asked_by commands.Serve = for_serve
 asked_by commands.Help = for_help
 
 -- why words aren't read: they are in no form, or there was no memory for the name that they look up in
@@ -66,10 +71,11 @@ IsWhyUnread what (unread.Memory refused) = (query : Query) × (what ≡ Some (fo
 abbrev pub Loads : Asked → Type 0
 Loads for_check = Unit {0}
 Loads (for_look query) = Unit {0}
+Loads for_serve = Unit {0}
 Loads for_help = ⊥
 
 abbrev pub usage_text : List ℕ
-usage_text = line_of (codes "check DIR") ++ line_of (codes "up DIR NET") ++ line_of (codes "down DIR NET") ++ line_of (codes "help")
+usage_text = line_of (codes "check DIR") ++ line_of (codes "up DIR NET") ++ line_of (codes "down DIR NET") ++ line_of (codes "serve DIR") ++ line_of (codes "help")
 
 abbrev pub status_of : Ending → ℕ
 status_of Finished = 0
@@ -81,6 +87,11 @@ status_of Spent = 6
 abbrev pub IsAnswered : (Option (List ℕ) → List ℕ → Type 0) → Outside → Outside → ℕ → Type 0
 IsAnswered R before after status =
     (ending : Ending) × (status ≡ status_of ending) × HasAnswered (WithoutState R) tt most_taken before.input after.input before.output after.output ending
+
+-- the commands of the input were answered from this version on, which the folder's files are, and this is the status of how that ended
+abbrev pub IsServed : Version → Outside → Outside → ℕ → Type 0
+IsServed loaded before after status =
+    Told before.files (IsFirstVersion loaded) × ((ending : Ending) × (status ≡ status_of ending) × HasEdited loaded most_taken before.input after.input before.output after.output ending)
 
 -- Every way to end. `asked` is what the words ask for, `version` the number that the replies name, and `before` and `after`
 -- are what stands outside. The folder didn't fail where its project is refused.
@@ -95,6 +106,7 @@ pub data Ends (version : ℕ) (asked : Option Asked) (before after : Outside) (s
       → Wrote before after (accepted_line version names) 0 status → Ends version asked before after status
   answered : (query : Query) (project : Project) → asked ≡ Some (for_look query) → Told before.files (λ files. Reads files (Ok project))
       → IsAnswered (Replies project query.direction version query.net) before after status → Ends version asked before after status
+  served : (loaded : Version) → asked ≡ Some for_serve → Told before.files (λ files. Reads files (Ok loaded.project)) → IsServed loaded before after status → Ends version asked before after status
 
 -- how a run ends whose project isn't loaded
 abbrev pub IsNotLoaded : LoadError → Option (List ℕ) → Option (List ℕ) → ℕ → Type 0

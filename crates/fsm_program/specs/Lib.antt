@@ -4,4 +4,5 @@ pub mod Steps
 pub mod Files
 pub mod Gathered
 pub mod Outside
+pub mod Serving
 pub mod Ends

@@ -1,15 +1,21 @@
-ghost use Rattle.std.specs.Prelude.{◌≡◌, ◌≤◌, ℕ, List, All, Contains, None, MatchOption, IfOk, IfErr};
+ghost use Rattle.std.specs.Prelude.{◌≡◌, ◌≤◌, ℕ, List, All, Contains, None, Ok, MatchOption, IfOk, IfErr};
 ghost use Rattle.fsm_io.specs.Folders.{Finds, HasAsked, Told, file_of};
 ghost use Rattle.fsm_program.specs.Files.{AskedForFiles, AsksForFront, IsLoadError, IsLoaded, IsReadError, most_read};
 ghost use Rattle.fsm_program.specs.Gathered.{HasAdded, IsGathered, IsSeen, SourcesDeclare};
+ghost use Rattle.fsm_program.specs.Serving.{IsFirstVersion};
 ghost use Rattle.project_manifest.specs.Lines.{Placed};
 ghost use Rattle.project_model.specs.Answers.{IsManifestFile};
+ghost use Rattle.project_sources.specs.Edits.{Version as Meant};
+ghost use Rattle.project_store.specs.Projects.{Reads};
+ghost use Rattle.project_versions.specs.Versions.{Stands};
 ghost use Rattle.word_relations.specs.Words.{IsDistinct};
 
 use fsm_base::Text;
 use fsm_io::{Folder, FolderError, Found, rose};
-use project_model::{Manifest, PlanError, Sources, manifest_of};
+use project_files::{PlanError, Sources};
+use project_model::{Manifest, manifest_of};
 use project_store::{Ready, StoreError, project_of};
+use project_versions::Version;
 use regex_ast::Fault;
 use std::alloc::{AllocError, Global};
 use thiserror::Error;
@@ -175,4 +181,24 @@ pub fn load<F: Folder>(alloc: Global, folder: &mut F, most: usize) -> Result<Rea
         return Err(LoadError::Failed);
     }
     Ok(project_of(alloc, &sources)?)
+}
+
+/// Loads the first version of a folder's project, as [`load`] loads the project.
+pub fn load_version<F: Folder>(
+    alloc: Global,
+    folder: &mut F,
+    most: usize,
+) -> Result<Version, LoadError>
+    requires { most ≡ most_read }
+    ensures loaded { IfOk result (λ version. (meant : Meant) × Stands version meant × (Told (F.files folder.old) (λ files. Reads files (Ok meant.project)) × Told (F.files folder.old) (IsFirstVersion meant))) }
+    ensures error { IfErr result (λ error. IsLoadError error (F.files folder.old) (F.faults folder.old) (F.faults folder.new)) }
+    ensures asked { AskedForFiles (F.files folder.old) (F.asked folder.old) (F.asked folder.new) }
+    ensures later { F.faults folder.old ≤ F.faults folder.new }
+{
+    let before = folder.faults();
+    let sources = gather(alloc, folder, most)?;
+    if rose(before, folder.faults()) {
+        return Err(LoadError::Failed);
+    }
+    Ok(project_versions::load(alloc, sources)?)
 }

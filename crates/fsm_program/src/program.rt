@@ -11,28 +11,34 @@ ghost use Rattle.reply_meaning.specs.Transcripts.{HasAnswered, WithoutState, fir
 ghost use Rattle.project_sources.specs.Sources.{Said, project_in};
 ghost use Rattle.project_store.specs.Loaded.{AreNames, IsLoadedFrom};
 ghost use Rattle.reply_text.specs.Projects.{accepted_line, refused_line};
-ghost use Rattle.fsm_program.specs.Ends.{Asked, Ends, IsNotLoaded, IsWhyUnread, Loads, Query, asked_by, asked_of, for_check, for_help, for_look, status_of, usage_text};
+ghost use Rattle.fsm_program.specs.Ends.{Asked, Ends, IsNotLoaded, IsWhyUnread, Loads, Query, asked_by, asked_of, for_check, for_help, for_look, for_serve, status_of, usage_text};
 ghost use Rattle.fsm_program.specs.Files.{AskedForFiles};
 ghost use Rattle.project_store.specs.Projects.{Reads};
 ghost use Rattle.project_store.specs.Networks.{Shows};
 ghost use Rattle.fsm_program.specs.Outside.{IsSaid, outside};
 ghost use Rattle.fsm_program.specs.Running.{most_taken};
+ghost use Rattle.fsm_program.specs.Serving.{IsFirstVersion};
+ghost use Rattle.editor_session.specs.Sessions.{HasEdited};
+ghost use Rattle.project_sources.specs.Edits.{Version as MeantVersion};
+ghost use Rattle.project_versions.specs.Versions.{Stands};
 
-use crate::load::{LoadError, load};
+use crate::load::{LoadError, load, load_version};
 use crate::look_up::LookUp;
 use crate::session::Session;
 use crate::words::{Command, WordsError, read_words};
+use editor_session::edit_session;
 use fsm_base::Text;
 use fsm_io::{Failed, Folder, Lines, Outbox, Sink, Source, write_all};
 use lookup_answers::Direction;
 use project_sources::MOST_BYTES;
 use project_store::{Network, Project};
+use project_versions::Version;
 use reply_meaning::Ending;
 use reply_text::{accepted, refused};
 use std::alloc::{AllocError, Global};
 
 /// What is written for help, and where the words are in no form.
-const USAGE: &[u8] = b"check DIR\nup DIR NET\ndown DIR NET\nhelp\n";
+const USAGE: &[u8] = b"check DIR\nup DIR NET\ndown DIR NET\nserve DIR\nhelp\n";
 
 /// The number of the version that is loaded.
 const FIRST_VERSION: u64 = 1;
@@ -202,6 +208,52 @@ fn look_up<F: Folder, I: Source, O: Sink>(
     }
 }
 
+/// Answers the commands of the input, from this version on.
+fn edited<I: Source, O: Sink>(
+    alloc: Global,
+    version: Version,
+    lines: Lines,
+    input: &mut I,
+    output: &mut O,
+) -> u8
+    requires { lines ≡ at_start most_taken }
+    ensures edited { (loaded : MeantVersion) → Stands version loaded
+        → ((ending : Ending) × (result ≡ status_of ending) × HasEdited loaded most_taken (I.left input.old) (I.left input.new) (O.held output.old) (O.held output.new) ending) ⊎ (result ≡ 5) }
+    ensures status { (result ≢ 1) × (result ≢ 2) }
+    ensures none { result ≡ 5 → (input.new ≡ input.old) × (output.new ≡ output.old) }
+    ensures read { result ≡ 3 → Rose (I.faults input.old) (I.faults input.new) }
+    ensures write { result ≡ 4 → Rose (O.faults output.old) (O.faults output.new) }
+{
+    match edit_session(alloc, version, lines, input, output) {
+        Ok(ending) => status(ending),
+        Err(_) => 5,
+    }
+}
+
+/// Answers the commands of the input, from the folder's project on.
+fn serve<F: Folder, I: Source, O: Sink>(
+    alloc: Global,
+    version: u64,
+    folder: &mut F,
+    input: &mut I,
+    output: &mut O,
+) -> u8
+    ensures ends { Ends version (Some for_serve) (outside (F.files folder.old) (F.faults folder.old) (I.left input.old) (I.faults input.old) (O.held output.old) (O.faults output.old)) (outside (F.files folder.new) (F.faults folder.new) (I.left input.new) (I.faults input.new) (O.held output.new) (O.faults output.new)) result }
+    ensures unread { (result ≡ 1) ⊎ (result ≡ 2) ⊎ (result ≡ 5) → input.new ≡ input.old }
+    ensures unwritten { result ≡ 5 → output.new ≡ output.old }
+    ensures read { result ≡ 3 → Rose (F.faults folder.old) (F.faults folder.new) ⊎ Rose (I.faults input.old) (I.faults input.new) }
+    ensures write { result ≡ 4 → Rose (O.faults output.old) (O.faults output.new) }
+    ensures asked { AskedForFiles (F.files folder.old) (F.asked folder.old) (F.asked folder.new) }
+{
+    let Ok(lines) = Lines::open(alloc, MOST_TAKEN) else {
+        return 5;
+    };
+    match load_version(alloc, folder, MOST_READ) {
+        Ok(version) => edited(alloc, version, lines, input, output),
+        Err(error) => not_loaded(alloc, error, output),
+    }
+}
+
 /// Does what a command asks for.
 fn obey<F: Folder, I: Source, O: Sink>(
     alloc: Global,
@@ -213,7 +265,7 @@ fn obey<F: Folder, I: Source, O: Sink>(
 ) -> u8
     ensures ends { Ends version (Some (asked_by command)) (outside (F.files folder.old) (F.faults folder.old) (I.left input.old) (I.faults input.old) (O.held output.old) (O.faults output.old)) (outside (F.files folder.new) (F.faults folder.new) (I.left input.new) (I.faults input.new) (O.held output.new) (O.faults output.new)) result }
     ensures unread { (result ≡ 1) ⊎ (result ≡ 2) ⊎ (result ≡ 5) → input.new ≡ input.old }
-    ensures look_ups_read { ((query : Query) → asked_by command ≢ for_look query) → input.new ≡ input.old }
+    ensures look_ups_read { ((query : Query) → asked_by command ≢ for_look query) → asked_by command ≢ for_serve → input.new ≡ input.old }
     ensures unwritten { result ≡ 5 → output.new ≡ output.old }
     ensures unasked { ¬ (Loads (asked_by command)) → folder.new ≡ folder.old }
     ensures read { result ≡ 3 → Rose (F.faults folder.old) (F.faults folder.new) ⊎ Rose (I.faults input.old) (I.faults input.new) }
@@ -232,6 +284,7 @@ fn obey<F: Folder, I: Source, O: Sink>(
             input,
             output,
         ),
+        Command::Serve => serve(alloc, version, folder, input, output),
         Command::Help => said(output, USAGE, 0),
     }
 }
@@ -246,7 +299,7 @@ fn ended<F: Folder, I: Source, O: Sink>(
 ) -> u8
     ensures ends { Ends first_version (asked_of (map string_bytes words.now)) (outside (F.files folder.old) (F.faults folder.old) (I.left input.old) (I.faults input.old) (O.held output.old) (O.faults output.old)) (outside (F.files folder.new) (F.faults folder.new) (I.left input.new) (I.faults input.new) (O.held output.new) (O.faults output.new)) result }
     ensures unread { (result ≡ 1) ⊎ (result ≡ 2) ⊎ (result ≡ 5) → input.new ≡ input.old }
-    ensures look_ups_read { ((query : Query) → asked_of (map string_bytes words.now) ≢ Some (for_look query)) → input.new ≡ input.old }
+    ensures look_ups_read { ((query : Query) → asked_of (map string_bytes words.now) ≢ Some (for_look query)) → asked_of (map string_bytes words.now) ≢ Some for_serve → input.new ≡ input.old }
     ensures unwritten { result ≡ 5 → output.new ≡ output.old }
     ensures unasked { ((what : Asked) → asked_of (map string_bytes words.now) ≡ Some what → ¬ (Loads what)) → folder.new ≡ folder.old }
     ensures read { result ≡ 3 → Rose (F.faults folder.old) (F.faults folder.new) ⊎ Rose (I.faults input.old) (I.faults input.new) }
@@ -266,10 +319,12 @@ fn ended<F: Folder, I: Source, O: Sink>(
 /// - `up DIR NET` looks up each line of the input in the name NET of the folder's project, and writes
 ///   the reply with its upper words to the output.
 /// - `down DIR NET` does the same with its lower words.
+/// - `serve DIR` writes `ok 1 rebuilt` with the names of the folder's project, and answers the commands of the input, which look up
+///   words and edit the project's files.
 /// - `help`, `-h` and `--help` write these forms.
 ///
 /// Returns the exit status:
-/// - 0: what was asked for is written. Of a look-up every line of the input has its reply.
+/// - 0: what was asked for is written. Every line of the input has its reply, or every command up to `end`.
 /// - 1: the words are in no form. The forms were written to the output.
 /// - 2: the project has a fault. Its first fault was written to the output.
 /// - 3: a file of the folder or the input couldn't be read. Every line that was read whole has its
@@ -295,11 +350,14 @@ pub fn run<F: Folder, I: Source, O: Sink>(
         → ((names : List (List ℕ)) × AreNames project names × IsSaid (O.held output.old) (O.held output.new) (accepted_line first_version names) 0 result) ⊎ (result ≡ 5) }
     ensures answered { (query : Query) (project : Meant) → asked_of (map string_bytes words.now) ≡ Some (for_look query) → IsTold (F.files folder.old) (λ files. Reads files (Ok project)) → ¬ (Rose (F.faults folder.old) (F.faults folder.new))
         → ((ending : Ending) × (result ≡ status_of ending) × HasAnswered (WithoutState (Replies project query.direction first_version query.net)) tt most_taken (I.left input.old) (I.left input.new) (O.held output.old) (O.held output.new) ending) ⊎ (result ≡ 5) }
+    ensures served { (project : Meant) → asked_of (map string_bytes words.now) ≡ Some for_serve → IsTold (F.files folder.old) (λ files. Reads files (Ok project)) → ¬ (Rose (F.faults folder.old) (F.faults folder.new))
+        → ((loaded : MeantVersion) × (loaded.project ≡ project) × (Told (F.files folder.old) (IsFirstVersion loaded)
+        × ((ending : Ending) × (result ≡ status_of ending) × HasEdited loaded most_taken (I.left input.old) (I.left input.new) (O.held output.old) (O.held output.new) ending))) ⊎ (result ≡ 5) }
     ensures complete { (what : Asked) (project : Meant) → asked_of (map string_bytes words.now) ≡ Some what → Loads what → IsTold (F.files folder.old) (λ files. Reads files (Ok project)) → ¬ (Rose (F.faults folder.old) (F.faults folder.new))
         → ¬ (Rose (I.faults input.old) (I.faults input.new)) → ¬ (Rose (O.faults output.old) (O.faults output.new)) → result ≢ 6 → (result ≡ 0) ⊎ (result ≡ 5) }
     ensures spent { result ≡ 6 → (taken : List ℕ) × Consumes (I.left input.old) (I.left input.new) taken × (length taken ≡ most_taken) }
     ensures unread { (result ≡ 1) ⊎ (result ≡ 2) ⊎ (result ≡ 5) → input.new ≡ input.old }
-    ensures look_ups_read { ((query : Query) → asked_of (map string_bytes words.now) ≢ Some (for_look query)) → input.new ≡ input.old }
+    ensures look_ups_read { ((query : Query) → asked_of (map string_bytes words.now) ≢ Some (for_look query)) → asked_of (map string_bytes words.now) ≢ Some for_serve → input.new ≡ input.old }
     ensures unwritten { result ≡ 5 → output.new ≡ output.old }
     ensures unasked { ((what : Asked) → asked_of (map string_bytes words.now) ≡ Some what → ¬ (Loads what)) → folder.new ≡ folder.old }
     ensures read { result ≡ 3 → Rose (F.faults folder.old) (F.faults folder.new) ⊎ Rose (I.faults input.old) (I.faults input.new) }

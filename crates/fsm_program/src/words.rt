@@ -24,6 +24,8 @@ pub enum Command {
         /// The name that is looked up in, in Normalization Form C.
         net: Text,
     },
+    /// `serve DIR`: the replies to the commands of the input.
+    Serve,
     /// `help`, `-h` or `--help`: the forms of the words.
     Help,
 }
@@ -80,7 +82,7 @@ fn look_up(alloc: Global, direction: Direction, net: &str) -> Result<Command, Al
 }
 
 /// Reads the words of a command line, of which the first is the command: `check DIR`, `up DIR NET`, `down DIR NET`,
-/// `help`, `-h` or `--help`.
+/// `serve DIR`, `help`, `-h` or `--help`.
 ///
 /// # Errors
 ///
@@ -91,6 +93,7 @@ pub fn read_words(alloc: Global, words: &[String]) -> Result<Command, WordsError
     match words {
         [word] if is_help(word.as_str()) => Ok(Command::Help),
         [command, _] if command.as_str() == "check" => Ok(Command::Check),
+        [command, _] if command.as_str() == "serve" => Ok(Command::Serve),
         [command, _, net] => match direction_of(command.as_str()) {
             Some(direction) => Ok(look_up(alloc, direction, net.as_str())?),
             None => Err(WordsError::Usage),

@@ -1,7 +1,7 @@
-ghost use Rattle.std.specs.Prelude.{◌≡◌, ◌≤◌, ◌-◌, ◌↔◌, None, Some, Contains, IfOk, length, take, drop};
+ghost use Rattle.std.specs.Prelude.{◌≡◌, ◌≤◌, ◌-◌, ◌↔◌, None, Some, Contains, IfOk, IfSome, length, take, drop};
 ghost use Rattle.lookup_walk.specs.declared.moves.Move.{Move};
 ghost use Rattle.lookup_walk.specs.Moves.{AreMoves};
-ghost use Rattle.lookup_walk.specs.Sorted.{AreRows, AreSorted, IsRow};
+ghost use Rattle.lookup_walk.specs.Sorted.{AreRows, AreSorted, IsOnly, IsRow};
 
 use crate::moves::{Move, Spot, take};
 use fsa::Edge;
@@ -81,6 +81,52 @@ impl Table {
     {
         reading_in(self.moves.as_slice(), self.rows.as_slice(), state, symbol)
     }
+
+    /// The move of a state that reads a symbol, where no other one reads it and none reads nothing.
+    pub fn only(&self, state: usize, symbol: Sym) -> Option<Move>
+        ensures { IfSome result (λ only. IsOnly self.now state symbol only) }
+    {
+        only_in(self.moves.as_slice(), self.rows.as_slice(), state, symbol)
+    }
+}
+
+/// The move of a state that reads a symbol, where it is the only one and none reads nothing, among sorted moves with the
+/// rows of the first states.
+fn only_in(moves: &[Move], rows: &[Row], state: usize, symbol: Sym) -> Option<Move>
+    requires sorted { AreSorted moves.now }
+    requires rows { AreRows moves.now rows.now }
+    ensures { IfSome result (λ only. IsOnly moves.now state symbol only) }
+{
+    if rows.len() <= state {
+        return None;
+    }
+    let row = rows[state];
+    if row.first < row.reads {
+        return None;
+    }
+    let read = Some(symbol);
+    only_at(part(moves, row.reads, row.end), Spot { state, read })
+}
+
+/// The move at a spot among sorted ones, where it is the only one there.
+fn only_at(moves: &[Move], spot: Spot) -> Option<Move>
+    requires { AreSorted moves.now }
+    ensures { IfSome result (λ only. (m : Move) → (Contains moves.now m × (m.at ≡ spot)) ↔ (m ≡ only)) }
+{
+    let rest = &moves[moves.partition_point(|m| m.at.cmp(&spot).is_lt())..];
+    let Some((first, others)) = rest.split_first() else {
+        return None;
+    };
+    if first.at != spot {
+        return None;
+    }
+    let Some(next) = others.first() else {
+        return Some(*first);
+    };
+    if next.at == spot {
+        return None;
+    }
+    Some(*first)
 }
 
 /// The moves of a state that read nothing, among sorted ones with the rows of the first states.

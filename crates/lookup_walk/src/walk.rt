@@ -1,10 +1,11 @@
-ghost use Rattle.std.specs.Prelude.{◌≡◌, ◌↔◌, ℕ, List, Some, Contains, IfOk, IfSome, IsTrue};
+ghost use Rattle.std.specs.Prelude.{◌≡◌, ◌<◌, ◌++◌, ◌↔◌, ℕ, List, Some, Contains, IfOk, IfSome, IfNone, IsTrue, OnOk, length};
+ghost use Rattle.std.specs.Option.{option_to_list};
 ghost use Rattle.word_relations.specs.Answers.{AreAll, IsInOrder};
 ghost use Rattle.word_relations.specs.Words.{IsOver};
 ghost use Rattle.fsm_base.specs.Alphabet.{symbols_of};
 ghost use Rattle.fsm_base.specs.declared.letters.Sym.{Sym};
 ghost use Rattle.lookup_walk.specs.Answering.{IsOverAlphabet, TextsBy};
-ghost use Rattle.lookup_walk.specs.Walks.{Adds, Along, Goes, Stops, Through, WritesOver};
+ghost use Rattle.lookup_walk.specs.Walks.{Adds, Along, Goes, GoesOn, Stops, Through, WritesOver};
 
 use crate::finals::is_final;
 use crate::moves::Move;
@@ -24,6 +25,9 @@ const DEEPEST: usize = 1_024;
 /// How many bytes of texts a walk finds before it is given up. Many paths may write one long text, which is kept for
 /// each of them until the walk ends.
 const MOST_BYTES: usize = 262_144;
+
+/// How many symbols more than the word room is made for, since analyses end with a few tags.
+const TAGS: usize = 8;
 
 /// What a walk goes over.
 #[derive(Clone, Copy)]
@@ -54,6 +58,15 @@ pub(crate) struct Trail {
     found: Vec<Text>,
 }
 
+/// A place that a walk comes to.
+#[derive(Clone, Copy)]
+struct Place<'a> {
+    /// The state.
+    state: usize,
+    /// The rest of the word.
+    rest: &'a [Sym],
+}
+
 /// The texts of the words that a network relates to a word, each once and in the order of their bytes, or None where
 /// the walk was given up. It takes one path after another, depth first and with no regard to where it was before. So
 /// where it ends there are no further paths, and around a loop it is given up.
@@ -77,10 +90,10 @@ pub fn walked(
         bytes: MOST_BYTES,
     };
     let mut trail = Trail {
-        written: Vec::with_capacity(alloc, word.len())?,
+        written: Vec::with_capacity(alloc, word.len().saturating_add(TAGS))?,
         found: Vec::new(alloc),
     };
-    if !enter(alloc, &ground, 0, word, DEEPEST, &mut left, &mut trail)? {
+    if !go(alloc, &ground, 0, word, DEEPEST, &mut left, &mut trail)? {
         return Ok(None);
     }
     let texts = in_order(trail.found);
@@ -99,6 +112,29 @@ fn in_order(texts: Vec<Text>) -> Vec<Text>
     sorted.sort_unstable();
     sorted.dedup();
     sorted
+}
+
+/// Takes the paths from a state that read the rest of the word, as [`enter`] does, but goes on with no call as long as one
+/// move alone leads on. Gives false where the walk was given up.
+#[cycle(walk)]
+fn go(
+    alloc: Global,
+    ground: &Ground,
+    state: usize,
+    rest: &[Sym],
+    depth: usize,
+    left: &mut Left,
+    trail: &mut Trail,
+) -> Result<bool, AllocError>
+    requires moves { WritesOver ground.now.alphabet.now ground.now.table.now }
+    requires written { IsOver (symbols_of ground.now.alphabet.now) trail.old.written.items }
+    ensures { IfOk result (λ whole. IsTrue whole → Adds ground.now.alphabet.now (Goes ground.now.table.now ground.now.finals.now state rest.now) trail.old trail.new) }
+{
+    let len = trail.written.len();
+    let place = ahead(ground, state, rest, left, trail)?;
+    let whole = enter(alloc, ground, place.state, place.rest, depth, left, trail)?;
+    trail.written.truncate(len);
+    Ok(whole)
 }
 
 /// Takes the paths from a state that read the rest of the word. Gives false where the walk was given up.
@@ -176,14 +212,79 @@ fn pass(
     ensures { IfOk result (λ whole. IsTrue whole → Adds ground.now.alphabet.now (Through ground.now.table.now ground.now.finals.now m rest.now) trail.old trail.new) }
 {
     let Some(symbol) = m.write else {
-        let all = enter(alloc, ground, m.to, rest, depth, left, trail)?;
+        let all = go(alloc, ground, m.to, rest, depth, left, trail)?;
         return Ok(all);
     };
     let len = trail.written.len();
     trail.written.push(symbol)?;
-    let whole = enter(alloc, ground, m.to, rest, depth, left, trail)?;
+    let whole = go(alloc, ground, m.to, rest, depth, left, trail)?;
     trail.written.truncate(len);
     Ok(whole)
+}
+
+/// Takes moves as long as one alone leads on. Gives the place behind them.
+fn ahead<'a>(
+    ground: &Ground,
+    state: usize,
+    word: &'a [Sym],
+    left: &mut Left,
+    trail: &mut Trail,
+) -> Result<Place<'a>, AllocError>
+    requires moves { WritesOver ground.now.alphabet.now ground.now.table.now }
+    requires written { IsOver (symbols_of ground.now.alphabet.now) trail.old.written.items }
+    ensures { IfOk result (λ place. GoesOn ground.now.alphabet.now ground.now.table.now ground.now.finals.now state word.now place.state place.rest.now trail.old trail.new) }
+{
+    let mut at = state;
+    let mut rest = word;
+    'moves: loop {
+        let Some(next) = step(ground, at, rest, left, trail)? else {
+            return Ok(Place { state: at, rest });
+        };
+        at = next.state;
+        rest = next.rest;
+    }
+}
+
+/// Takes the move that leads on from a state, where it is the only one and the walk isn't given up. Gives the place behind it.
+fn step<'a>(
+    ground: &Ground,
+    state: usize,
+    rest: &'a [Sym],
+    left: &mut Left,
+    trail: &mut Trail,
+) -> Result<Option<Place<'a>>, AllocError>
+    requires moves { WritesOver ground.now.alphabet.now ground.now.table.now }
+    requires written { IsOver (symbols_of ground.now.alphabet.now) trail.old.written.items }
+    ensures on { IfOk result (λ next. IfSome next (λ place. GoesOn ground.now.alphabet.now ground.now.table.now ground.now.finals.now state rest.now place.state place.rest.now trail.old trail.new)) }
+    ensures shorter { IfOk result (λ next. IfSome next (λ place. length place.rest.now < length rest.now)) }
+    ensures none { IfOk result (λ next. IfNone next (trail.new ≡ trail.old)) }
+{
+    if left.states == 0 {
+        return Ok(None);
+    }
+    let Some((symbol, behind)) = rest.split_first() else {
+        return Ok(None);
+    };
+    let Some(m) = ground.table.only(state, *symbol) else {
+        return Ok(None);
+    };
+    left.states -= 1;
+    write(m.write, trail)?;
+    Ok(Some(Place {
+        state: m.to,
+        rest: behind,
+    }))
+}
+
+/// Writes a symbol, if there is one.
+fn write(symbol: Option<Sym>, trail: &mut Trail) -> Result<(), AllocError>
+    ensures written { OnOk result (trail.new.written.items ≡ trail.old.written.items ++ option_to_list symbol) }
+    ensures found { OnOk result (trail.new.found.items ≡ trail.old.found.items) }
+{
+    if let Some(symbol) = symbol {
+        trail.written.push(symbol)?;
+    }
+    Ok(())
 }
 
 /// Adds the text that was written on the way here, where the state is final. Gives false where the walk was given up.

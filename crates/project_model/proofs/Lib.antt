@@ -1,4 +1,3 @@
-mod Filed
 mod NameSteps
 pub mod Gathering
 pub mod Built

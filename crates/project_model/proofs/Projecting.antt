@@ -36,8 +36,8 @@ use Rattle.project_model.specs.Stands.{Entry, entry_in, entry_of}
 use Rattle.project_model.specs.declared.definition.Definition.{Definition}
 use Rattle.project_model.specs.declared.demands.Demand.{Demand}
 use Rattle.project_model.specs.declared.demands.Demand.TheVariants as demand
-use Rattle.project_model.specs.declared.plan_error.PlanError.{PlanError}
-use Rattle.project_model.specs.declared.plan_error.PlanError.TheVariants.{Refused, Memory}
+use Rattle.project_files.specs.declared.plan_error.PlanError.{PlanError}
+use Rattle.project_files.specs.declared.plan_error.PlanError.TheVariants.{Refused, Memory}
 use Rattle.project_model.proofs.Alphabets.{numbers_distinct, put}
 use Rattle.project_model.proofs.Built.{All-front}
 use Rattle.project_model.proofs.Demanded.{demand_fault}

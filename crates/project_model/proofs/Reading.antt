@@ -20,8 +20,8 @@ use Rattle.project_sources.specs.Laws.{readers_so_far as readers}
 use Rattle.project_sources.proofs.Once.{files_say_one, text_one, exact_so_far}
 use Rattle.project_model.specs.Answers.{IsManifestFile, IsNoManifest, IsPlanBy, IsPlanOf, IsProjectRead, IsRefusal, IsRefusedBy, IsTextFault, said_of}
 use Rattle.project_model.specs.Plans.{PlanView}
-use Rattle.project_model.specs.declared.plan_error.PlanError.{PlanError}
-use Rattle.project_model.specs.declared.plan_error.PlanError.TheVariants.{Refused, Memory}
+use Rattle.project_files.specs.declared.plan_error.PlanError.{PlanError}
+use Rattle.project_files.specs.declared.plan_error.PlanError.TheVariants.{Refused, Memory}
 use Rattle.project_model.proofs.Alphabets.{numbers_held, put}
 
 -- why a content has no text

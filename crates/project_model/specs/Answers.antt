@@ -19,6 +19,7 @@ use Rattle.project_sources.specs.Built.{BodyIsBuiltBy}
 use Rattle.project_sources.specs.Sources.{HasText, Said, FilesSay}
 use Rattle.project_sources.specs.Faults.{fault, HasNoText, SaidRow, SaidFault, read_so_far, FirstFault}
 use Rattle.project_sources.specs.Laws.{readers_so_far}
+pub use Rattle.project_files.specs.Refusals.{IsRefusedBy, IsRefusal}
 use Rattle.project_model.specs.Bodies.{BodyFitsBy, weight_of_body}
 use Rattle.project_model.specs.Plain.{body_of}
 use Rattle.project_model.specs.Plans.{PlanView}
@@ -26,8 +27,8 @@ use Rattle.project_model.specs.Stands.{Stands}
 use Rattle.project_model.specs.declared.definition.Definition.{Definition}
 use Rattle.project_model.specs.declared.demands.Demand.{Demand}
 use Rattle.project_model.specs.declared.demands.Demand.TheVariants as demand
-use Rattle.project_model.specs.declared.plan_error.PlanError.{PlanError}
-use Rattle.project_model.specs.declared.plan_error.PlanError.TheVariants.{Refused, Memory}
+use Rattle.project_files.specs.declared.plan_error.PlanError.{PlanError}
+use Rattle.project_files.specs.declared.plan_error.PlanError.TheVariants.{Refused, Memory}
 use Rattle.project_model.specs.declared.written.WrittenDefine.{WrittenDefine}
 
 -- the files have no fault by the rows that are told so far, and the plan stands for what they say
@@ -42,15 +43,6 @@ abbrev pub IsProjectRead : Files → List (List ℕ) → List (List ℕ) → Res
 IsProjectRead files old new (Ok plan) = IsPlanOf files old new plan
 IsProjectRead files old new (Err (Refused found)) = FirstFault readers_so_far files read_so_far found
 IsProjectRead files old new (Err (Memory refused)) = ⊤
-
--- refused for such a fault, or for want of memory
-abbrev pub IsRefusedBy : (Fault → Type 0) → PlanError → Type 0
-IsRefusedBy IsFault (Refused found) = IsFault found
-IsRefusedBy IsFault (Memory refused) = ⊤
-
--- refused for this fault
-abbrev pub IsRefusal : Fault → PlanError → Type 0
-IsRefusal fault error = IsRefusedBy (λ found. found ≡ fault) error
 
 -- the content of the manifest's file has a text without fault, with these lines
 pub record IsManifestFile (content : List ℕ) (lines : List Placed) : Type 0 where

@@ -8,5 +8,4 @@ pub mod Plain
 pub mod Plans
 pub mod Referring
 pub mod Sound
-pub mod Sources
 pub mod Stands

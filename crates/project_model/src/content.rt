@@ -5,8 +5,8 @@ ghost use Rattle.project_sources.specs.Limits.{most_bytes};
 ghost use Rattle.project_sources.specs.Sources.{HasText};
 ghost use Rattle.project_model.specs.Answers.{IsRefusedBy};
 
-use crate::plan_error::{PlanError, refused};
 use fsm_base::{Text, TextError, normal};
+use project_files::{PlanError, refused};
 use project_sources::MOST_BYTES;
 use regex_ast::Why;
 use std::alloc::Global;

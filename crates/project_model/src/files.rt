@@ -17,11 +17,10 @@ ghost use Rattle.regex_reader.specs.Files.{FaultAt, ReadsAs, statement_of};
 
 use crate::content::text_of_file;
 use crate::definition::Body;
-use crate::plan_error::{PlanError, refused};
-use crate::sources::Sources;
 use crate::written::WrittenDefine;
 use fsm_base::Text;
 use lexc_reader::read_lexc;
+use project_files::{PlanError, Sources, refused};
 use project_manifest::{Declaration, ManifestLine};
 use regex_ast::{Define, Lexicon, Raw, ReadError, Why};
 use regex_reader::read_xfst;

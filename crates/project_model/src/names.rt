@@ -5,9 +5,9 @@ ghost use Rattle.project_meaning.specs.Projects.{names_of};
 ghost use Rattle.project_sources.specs.Faults.{NamesFault, fault};
 ghost use Rattle.project_model.specs.Answers.{IsRefusal, IsRefusedBy, written_of};
 
-use crate::plan_error::{PlanError, refused};
 use crate::written::WrittenDefine;
 use name_resolution::Names;
+use project_files::{PlanError, refused};
 use project_sources::MOST_NAMES;
 use regex_ast::Why;
 use std::alloc::Global;

@@ -7,9 +7,8 @@ ghost use Rattle.project_model.specs.Answers.{IsManifestFile, IsNoManifest, IsPr
 use crate::content::text_of_file;
 use crate::files::written_in;
 use crate::plan::{Plan, plan_of};
-use crate::plan_error::{PlanError, refused};
-use crate::sources::Sources;
 use fsm_base::SymbolTable;
+use project_files::{PlanError, Sources, refused};
 use project_manifest::{Manifest, read_manifest};
 use regex_ast::{ReadError, Why};
 use std::alloc::Global;

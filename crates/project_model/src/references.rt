@@ -10,10 +10,10 @@ ghost use Rattle.project_model.specs.Plain.{body_of};
 ghost use Rattle.project_model.specs.Referring.{CycleFault, body_places, place_in, places_in, references_of};
 
 use crate::definition::{Body, Definition};
-use crate::plan_error::{PlanError, refused};
 use expr_leaves::leaves;
 use lexicon_resolution::expressions;
 use name_order::{Order, order_of};
+use project_files::{PlanError, refused};
 use regex_ast::{Atom, Expr, Why};
 use std::alloc::{AllocError, Global};
 

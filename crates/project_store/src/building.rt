@@ -166,7 +166,7 @@ fn has_network(built: &[Option<Network>], place: usize) -> bool
 }
 
 /// Builds the network of the definition at a place, where it isn't built already.
-fn fill(
+pub fn fill(
     alloc: Global,
     project: &Project,
     place: usize,

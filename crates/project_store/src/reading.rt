@@ -9,7 +9,8 @@ use crate::project::Project;
 use crate::ready::Ready;
 use crate::store_error::StoreError;
 use fsm_base::SymbolTable;
-use project_model::{Definition, PlanError, Sources, read_project};
+use project_files::{PlanError, Sources};
+use project_model::{Definition, read_project};
 use regex_ast::{Fault, Why};
 use std::alloc::{AllocError, Global};
 

@@ -4,8 +4,8 @@
 //! A line is a field and its value. `row NAME` begins a row; `file NAME TEXT`, `words WORD ..`, `input TEXT`,
 //! `fails FOLDER INPUT OUTPUT` (which call of each fails, counted from 1, where 0 is none) and `sizes READ WRITE ROOM`
 //! (how many bytes the input gives and the output takes at once, and how many the output takes at all) describe it;
-//! `run STATUS TEXT` runs it and says which status and what output is wanted, as `row_texts` shows it, and `loop` runs one
-//! whose answer must be a lawful loop. A text has the escapes of `row_texts`. An empty line, and one that begins with `#`,
+//! `run STATUS TEXT` runs it and says which status and what output is wanted, as `row_texts` shows it, `last STATUS TEXT` the same
+//! with the last line of the output alone, and `loop` runs one whose answer must be a lawful loop. A text has the escapes of `row_texts`. An empty line, and one that begins with `#`,
 //! says nothing; a line with another field is told.
 #![tactic(auto)]
 
@@ -60,6 +60,7 @@ fn obey(
         "fails" => row.set_fails(value),
         "sizes" => row.set_sizes(value),
         "run" => return count.judge(alloc, row, row.outcome(alloc)?.as_str(), value),
+        "last" => return count.judge(alloc, row, row.last_outcome(alloc)?.as_str(), value),
         "loop" => return count.judge(alloc, row, row.loop_outcome(alloc)?, ""),
         _ => return Ok(Some(format!(in alloc; "no such field: {line}")?)),
     }

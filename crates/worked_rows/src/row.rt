@@ -129,6 +129,14 @@ impl Row {
         format!(in alloc; "{status} {}", shown(alloc, &written)?.as_str())
     }
 
+    /// Runs the row: the status, and the last line that was written.
+    pub fn last_outcome(&self, alloc: Global) -> Result<String, AllocError> {
+        let (status, written) = self.answer(alloc, &self.words, &self.input)?;
+        let count = written.iter().filter(|byte| **byte == b'\n').count();
+        let last = line(&written, count.saturating_sub(1));
+        format!(in alloc; "{status} {}", shown(alloc, last)?.as_str())
+    }
+
     /// The row's words, the first of which is `down` now.
     fn down_words(&self, alloc: Global) -> Result<Vec<String>, AllocError> {
         let mut words = Vec::new(alloc);

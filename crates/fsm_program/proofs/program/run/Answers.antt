@@ -1,4 +1,4 @@
-use Rattle.fsm_program.proofs.Endings.{answer, check, completes, fault_cause, help, refusal, spent_cause, unsaid, usage_cause}
+use Rattle.fsm_program.proofs.Endings.{answer, check, completes, fault_cause, help, refusal, serve, spent_cause, unsaid, usage_cause}
 use Rattle.fsm_program.proofs.program.run.Goals as goal
 
 pub returns-clause-usage : goal.returns-clause-usage
@@ -21,6 +21,9 @@ returns-clause-checked g c = check c.ended.ensures.ends
 
 pub returns-clause-answered : goal.returns-clause-answered
 returns-clause-answered g c = answer c.ended.ensures.ends
+
+pub returns-clause-served : goal.returns-clause-served
+returns-clause-served g c = serve c.ended.ensures.ends
 
 pub returns-clause-complete : goal.returns-clause-complete
 returns-clause-complete g c = completes c.ended.ensures.ends c.ended.ensures.read c.ended.ensures.write

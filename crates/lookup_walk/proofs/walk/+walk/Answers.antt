@@ -6,7 +6,7 @@ use Rattle.word_relations.specs.Words.{IsOver}
 use Rattle.lookup_walk.specs.declared.moves.Move.{Move}
 use Rattle.lookup_walk.specs.Walks.{Through, WritesOver}
 use Rattle.lookup_walk.proofs.Adds.{Adds-more}
-use Rattle.lookup_walk.proofs.Entering.{entered_past, entered_inside, passed_writing, passed_by_epsilon}
+use Rattle.lookup_walk.proofs.Entering.{entered_past, entered_inside, passed_writing, passed_by_epsilon, went_on}
 use Rattle.lookup_walk.proofs.walk.+walk.Goals as goal
 
 abbrev no_move : Move
@@ -56,10 +56,10 @@ follow-moves-preserved t c =
 pub pass-returns-in_default : goal.pass-returns-in_default
 pass-returns-in_default t c = λ h.
     let none : c.args.m.write ≡ None = search rules in
-    passed_by_epsilon c.args.ground.now.alphabet.now c.args.ground.now.table.now c.args.ground.now.finals.now c.args.m c.args.rest.now c.args.trail.now c.enter.new.trail none (c.in_ok-all.ensures h)
+    passed_by_epsilon c.args.ground.now.alphabet.now c.args.ground.now.table.now c.args.ground.now.finals.now c.args.m c.args.rest.now c.args.trail.now c.go.new.trail none (c.in_ok-all.ensures h)
 
-pub pass-enter-requires-2 : goal.pass-enter-requires-2
-pass-enter-requires-2 t c =
+pub pass-go-requires-2 : goal.pass-go-requires-2
+pass-go-requires-2 t c =
     let here : Contains (symbols_of c.args.ground.now.alphabet.now) c.in-Some.symbol = c.requires.symbol c.in-Some.symbol c.in-Some.is in
     let over = subst (λ w. IsOver (symbols_of c.args.ground.now.alphabet.now) w) (sym c.in_ok-push.ensures.items) (All-push (Contains (symbols_of c.args.ground.now.alphabet.now)) c.args.trail.now.written.items c.in-Some.symbol c.requires.written here) in
     (omega (arith, c.decreases), (c.requires.moves, over))
@@ -67,5 +67,14 @@ pass-enter-requires-2 t c =
 pub pass-returns : goal.pass-returns
 pass-returns t c = λ h.
     passed_writing c.args.ground.now.alphabet.now c.args.ground.now.table.now c.args.ground.now.finals.now c.args.m c.in-Some.symbol c.args.rest.now c.len-len.result c.args.trail.now
-    (record { written = c.push.new.self; found = c.args.trail.now.found }) c.enter-2.new.trail (record { written = c.truncate.new.self; found = c.enter-2.new.trail.found })
+    (record { written = c.push.new.self; found = c.args.trail.now.found }) c.go-2.new.trail (record { written = c.truncate.new.self; found = c.go-2.new.trail.found })
     c.in-Some.is c.in_ok-push.ensures.items refl (omega (arith, c.len-len.ensures)) c.truncate.ensures.items refl (c.in_ok-whole.ensures h)
+
+pub go-enter-requires : goal.go-enter-requires
+go-enter-requires t c = (omega (arith, c.decreases), (c.requires.moves, c.in_ok-place.ensures.over))
+
+pub go-returns : goal.go-returns
+go-returns t c = λ h.
+    went_on c.args.ground.now.alphabet.now c.args.ground.now.table.now c.args.ground.now.finals.now c.args.state c.in_ok-place.place.state c.args.rest.now c.in_ok-place.place.rest.now c.len-len.result c.args.trail.now
+    c.ahead.new.trail c.enter.new.trail (record { written = c.truncate.new.self; found = c.enter.new.trail.found })
+    c.in_ok-place.ensures (omega (arith, c.len-len.ensures)) c.truncate.ensures.items refl (c.in_ok-whole.ensures h)

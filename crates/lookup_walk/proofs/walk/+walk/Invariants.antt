@@ -4,13 +4,16 @@ use Rattle.lookup_walk.proofs.walk.+walk.Given as goal
 
 -- by the moves that may be taken one after another
 abbrev pub decreases-enter : goal.decreases-enter
-decreases-enter l = 3 * l.depth
+decreases-enter l = 4 * l.depth
+
+abbrev pub decreases-go : goal.decreases-go
+decreases-go l = 4 * l.depth + 1
 
 abbrev pub decreases-pass : goal.decreases-pass
-decreases-pass l = 3 * l.depth + 1
+decreases-pass l = 4 * l.depth + 2
 
 abbrev pub decreases-follow : goal.decreases-follow
-decreases-follow l = 3 * l.depth + 2
+decreases-follow l = 4 * l.depth + 3
 
 abbrev pub invariant-follow-moves : goal.invariant-follow-moves
 invariant-follow-moves l = Adds l.ground.alphabet.now (Along l.ground.table.now l.ground.finals.now (take l.m-index l.moves) l.rest) l.initial.trail l.trail

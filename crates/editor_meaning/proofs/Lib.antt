@@ -1,0 +1,4 @@
+mod Changing
+mod InOrder
+mod Reading
+mod SameFiles

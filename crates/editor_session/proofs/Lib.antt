@@ -1,0 +1,6 @@
+mod Long
+mod Hearing
+mod Shortness
+mod Requests
+mod Replies
+mod Runs

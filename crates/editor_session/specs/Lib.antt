@@ -1,0 +1,4 @@
+pub mod Sessions
+pub mod Replying
+pub mod Reading
+pub mod Running

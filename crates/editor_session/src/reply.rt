@@ -1,0 +1,145 @@
+ghost use Rattle.std.specs.Prelude.{◌≡◌, ◌≤◌, ℕ, List, Option, length, IfOk};
+ghost use Rattle.std.specs.Option.{unwrap_or};
+ghost use Rattle.fsm_base.specs.Normal.{nfc_of};
+ghost use Rattle.fsm_io.specs.Causes.{HasCause};
+ghost use Rattle.fsm_io.specs.Lines.{most_line};
+ghost use Rattle.fsm_io.specs.Sinks.{WritesAll};
+ghost use Rattle.project_edits.specs.Applied.{edit_of};
+ghost use Rattle.project_sources.specs.Edits.{Version as Meant};
+ghost use Rattle.project_sources.specs.Faults.{rows_so_far};
+ghost use Rattle.project_sources.specs.Laws.{readers_so_far};
+ghost use Rattle.project_versions.specs.Versions.{Stands};
+ghost use Rattle.editor_meaning.specs.Editing.{RepliesToEdit};
+ghost use Rattle.reply_meaning.specs.Replies.{RepliesToWord, headed, line_of};
+ghost use Rattle.editor_session.specs.Replying.{IsShort, RepliesToRequest, bytes_of, edit_reply};
+
+use crate::request::Request;
+use fsm_base::{Text, nfc};
+use fsm_io::{Failed, Sink, write_all};
+use lookup_answers::Direction;
+use project_edits::Edit;
+use project_versions::{EditError, Version, edit};
+use reply_text::{Head, accepted, refused, short};
+use std::alloc::{AllocError, Global};
+
+/// A reply.
+#[derive(Drop)]
+pub enum Reply {
+    /// These bytes.
+    Bytes(Vec<u8>),
+    /// `bad`.
+    Bad,
+    /// `cut`.
+    Cut,
+    /// `full`.
+    Full,
+    /// `memory`.
+    Memory,
+    /// `V memory`, at the version of this number.
+    MemoryAt(u64),
+}
+
+impl Reply {
+    /// Writes the reply.
+    pub fn write<O: Sink>(&self, output: &mut O) -> Result<(), Failed>
+        ensures written { WritesAll (O.held output.old) (O.held output.new) (bytes_of self.now) result }
+        ensures cause { HasCause (O.faults output.old) (O.faults output.new) result }
+    {
+        match self {
+            Reply::Bytes(bytes) => write_all(output, bytes),
+            Reply::Bad => write_all(output, b"bad\n"),
+            Reply::Cut => write_all(output, b"cut\n"),
+            Reply::Full => write_all(output, b"full\n"),
+            Reply::Memory => write_all(output, b"memory\n"),
+            Reply::MemoryAt(number) => {
+                let mut buf = [0u8; 64];
+                let end = short(*number, Head::Memory, &mut buf);
+                write_all(output, &buf[..end])
+            }
+        }
+    }
+}
+
+/// The reply to an edit that makes no version.
+fn reply_to_error(alloc: Global, error: EditError) -> Reply
+    ensures { edit_reply error (bytes_of result) }
+{
+    match error {
+        EditError::Full => Reply::Full,
+        EditError::Refused(fault) => match refused(alloc, &fault) {
+            Ok(bytes) => Reply::Bytes(bytes),
+            Err(_) => Reply::Memory,
+        },
+        EditError::Memory(_) => Reply::Memory,
+    }
+}
+
+/// The reply to an edit. The version that it makes stands in the place of the one before, which else stays.
+fn reply_to_edit(alloc: Global, version: &mut Version, change: &Edit) -> Reply
+    ensures { (present : Meant) → Stands version.old present → (next : Meant) × (new : Option Meant) × Stands version.new next × (next ≡ unwrap_or new present)
+        × RepliesToEdit readers_so_far rows_so_far present (edit_of change.now) (bytes_of result) new }
+{
+    match edit(alloc, version, change) {
+        Ok(edited) => match accepted(alloc, edited.version.number(), &edited.rebuilt) {
+            Ok(bytes) => {
+                *version = edited.version;
+                Reply::Bytes(bytes)
+            }
+            Err(_) => Reply::Memory,
+        },
+        Err(error) => reply_to_error(alloc, error),
+    }
+}
+
+/// The reply to a word that is looked up in a name. Both are put into Normalization Form C first.
+fn reply_to_word(
+    alloc: Global,
+    version: &Version,
+    direction: Direction,
+    net: &str,
+    word: &str,
+) -> Result<Vec<u8>, AllocError>
+    requires { length word.now ≤ most_line }
+    ensures { (present : Meant) → Stands version.now present → IfOk result (λ bytes. RepliesToWord present.project direction present.number (nfc_of net.now) (nfc_of word.now) bytes.items) }
+{
+    let net = nfc(alloc, net)?;
+    let word = nfc(alloc, word)?;
+    version.reply_to(alloc, direction, net.as_str(), word.as_str())
+}
+
+/// The reply to a look-up, where want of memory is a reply too.
+fn reply_to_look_up(
+    alloc: Global,
+    version: &Version,
+    direction: Direction,
+    net: &Text,
+    word: &Text,
+) -> Reply
+    requires { length word.now ≤ most_line }
+    ensures { (present : Meant) → Stands version.now present → RepliesToWord present.project direction present.number (nfc_of net.now) (nfc_of word.now) (bytes_of result) }
+{
+    match reply_to_word(alloc, version, direction, net.as_str(), word.as_str()) {
+        Ok(bytes) => Reply::Bytes(bytes),
+        Err(_) => Reply::MemoryAt(version.number()),
+    }
+}
+
+/// The reply to a request at the present version. The version that it makes, if it makes one, is the present one then.
+pub fn reply_to(alloc: Global, version: &mut Version, request: &Request) -> Reply
+    requires { IsShort request.now }
+    ensures { (present : Meant) → Stands version.old present → (next : Meant) × (new : Option Meant) × Stands version.new next × (next ≡ unwrap_or new present)
+        × RepliesToRequest present request.now (bytes_of result) new }
+{
+    match request {
+        Request::Edit(change) => reply_to_edit(alloc, version, change),
+        Request::LookUp {
+            direction,
+            net,
+            word,
+        } => reply_to_look_up(alloc, version, *direction, net, word),
+        Request::Bad => Reply::Bad,
+        Request::Cut => Reply::Cut,
+        Request::UnkeptEdit => Reply::Memory,
+        Request::UnkeptLookUp => Reply::MemoryAt(version.number()),
+    }
+}

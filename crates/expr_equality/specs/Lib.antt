@@ -1,0 +1,3 @@
+pub mod Items
+pub mod Renumbered
+pub mod Rows

@@ -1,0 +1,303 @@
+ghost use Rattle.std.specs.Prelude.{◌≡◌, ◌⊎◌, ◌↔◌, ℕ, [], None, false, true, IfOk, IsTrue, cond, map, slice_get, slice_index_or};
+ghost use Rattle.flag_diacritics.specs.Idle.{AreIdle, IsIdleAlong, KeepsIdle, Sets, TestsNone, does_set, does_test, is_idle, lower_action, masked, upper_action};
+
+use crate::actions::{Action, Actions};
+use crate::tape::Tape;
+use fsa::{Edge, Fsa};
+use fsa_explore::EdgesByState;
+use regex_ast::FlagKind;
+use std::alloc::{AllocError, Global};
+
+/// Which features are idle at each state, by their numbers: each flag that tests one comes behind a flag that sets it. A
+/// feature that has no place in a row, or a state that has none, is not idle.
+#[derive(Debug, Drop)]
+pub struct Idle {
+    /// A row for each state, for the flags of the upper side.
+    pub upper: Vec<Vec<bool>>,
+    /// A row for each state, for those of the lower side.
+    pub lower: Vec<Vec<bool>>,
+}
+
+/// A feature of one side that is not idle at a state.
+#[derive(Clone, Copy, Debug)]
+struct Live {
+    state: usize,
+    feature: usize,
+    is_upper: bool,
+}
+
+/// The features that are idle at each state of a network. They are sought from the flags that test them back over the edges,
+/// and counted as none where the rows don't agree along each edge.
+pub fn idle_features(alloc: Global, net: &Fsa<Tape>, actions: &Actions) -> Result<Idle, AllocError>
+    ensures { IfOk result (λ idle. AreIdle actions.now.list.items idle net.now.edges) }
+{
+    let found = sought(alloc, net, actions)?;
+    if are_idle(net.edges(), &actions.list, &found) {
+        return Ok(found);
+    }
+    Ok(Idle {
+        upper: Vec::new(alloc),
+        lower: Vec::new(alloc),
+    })
+}
+
+/// The features that no path from a state tests before it sets them.
+fn sought(alloc: Global, net: &Fsa<Tape>, actions: &Actions) -> Result<Idle, AllocError> {
+    let states = net.states();
+    let mut idle = Idle {
+        upper: rows_of(alloc, states, actions.features)?,
+        lower: rows_of(alloc, states, actions.features)?,
+    };
+    let back = backwards(alloc, net.edges())?;
+    let mut live = Vec::new(alloc);
+    for edge in net.edges() {
+        let (upper, lower) = actions_at(&actions.list, edge.letter);
+        wake_tested(&mut idle, &mut live, edge.from, upper, true)?;
+        wake_tested(&mut idle, &mut live, edge.from, lower, false)?;
+    }
+    let most = states.saturating_mul(actions.features).saturating_mul(2);
+    for _step in 0..most {
+        let Some(now) = live.pop() else {
+            return Ok(idle);
+        };
+        for edge in back.out(now.state) {
+            let (upper, lower) = actions_at(&actions.list, edge.letter);
+            let action = if now.is_upper { upper } else { lower };
+            if !is_set(action, now.feature) {
+                wake(
+                    &mut idle,
+                    &mut live,
+                    Live {
+                        state: edge.to,
+                        feature: now.feature,
+                        is_upper: now.is_upper,
+                    },
+                )?;
+            }
+        }
+    }
+    Ok(idle)
+}
+
+/// Rows in which each feature is idle.
+fn rows_of(alloc: Global, states: usize, features: usize) -> Result<Vec<Vec<bool>>, AllocError> {
+    let mut rows = Vec::new(alloc);
+    for _state in 0..states {
+        rows.push(vec![in alloc; true; features]?)?;
+    }
+    Ok(rows)
+}
+
+/// The edges, each turned round.
+fn backwards(alloc: Global, edges: &[Edge<Tape>]) -> Result<EdgesByState<Tape>, AllocError> {
+    let mut turned = Vec::new(alloc);
+    for edge in edges {
+        turned.push(Edge {
+            from: edge.to,
+            letter: edge.letter,
+            to: edge.from,
+        })?;
+    }
+    EdgesByState::of(alloc, &turned)
+}
+
+/// The feature that a flag tests is not idle before it.
+fn wake_tested(
+    idle: &mut Idle,
+    live: &mut Vec<Live>,
+    state: usize,
+    action: Option<Action>,
+    is_upper: bool,
+) -> Result<(), AllocError> {
+    match action {
+        Some(action) if does_test(action.kind) => wake(
+            idle,
+            live,
+            Live {
+                state,
+                feature: action.feature,
+                is_upper,
+            },
+        ),
+        _ => Ok(()),
+    }
+}
+
+/// Takes a feature from the idle ones, and lists it where it was one of them.
+fn wake(idle: &mut Idle, live: &mut Vec<Live>, new: Live) -> Result<(), AllocError> {
+    let rows = if new.is_upper {
+        &mut idle.upper
+    } else {
+        &mut idle.lower
+    };
+    if new.state >= rows.len() {
+        return Ok(());
+    }
+    let row = &mut rows[new.state];
+    if new.feature < row.len() && row[new.feature] {
+        row[new.feature] = false;
+        live.push(new)?;
+    }
+    Ok(())
+}
+
+/// Whether the rows agree along each edge.
+fn are_idle(edges: &[Edge<Tape>], actions: &[Action], idle: &Idle) -> bool
+    ensures { IsTrue result → AreIdle actions.now idle.now edges.now }
+{
+    'edges: for edge in edges {
+        if !is_idle_along(edge, actions, idle) {
+            return false;
+        }
+    }
+    true
+}
+
+/// Whether the rows agree along an edge.
+fn is_idle_along(edge: &Edge<Tape>, actions: &[Action], idle: &Idle) -> bool
+    ensures { IsTrue result → IsIdleAlong actions.now idle.now edge.now }
+{
+    let (upper, lower) = actions_at(actions, edge.letter);
+    keeps_idle(
+        upper,
+        row_at(&idle.upper, edge.from),
+        row_at(&idle.upper, edge.to),
+    ) && keeps_idle(
+        lower,
+        row_at(&idle.lower, edge.from),
+        row_at(&idle.lower, edge.to),
+    )
+}
+
+/// The flags of a letter on the upper and on the lower side, if it has one.
+fn actions_at(actions: &[Action], letter: Option<Tape>) -> (Option<Action>, Option<Action>)
+    ensures upper { result.0 ≡ upper_action actions.now letter }
+    ensures lower { result.1 ≡ lower_action actions.now letter }
+{
+    match letter {
+        Some(Tape::UpFlag(flag)) => (action_at(actions, flag), None),
+        Some(Tape::LowFlag(flag)) => (None, action_at(actions, flag)),
+        _ => (None, None),
+    }
+}
+
+/// The flag with a number, if it is there.
+fn action_at(actions: &[Action], flag: u32) -> Option<Action>
+    ensures { result ≡ slice_get actions.now flag }
+{
+    actions.get(flag as usize).copied()
+}
+
+/// Whether a flag tests no idle feature, and what is idle before it is idle behind it or set by it.
+fn keeps_idle(action: Option<Action>, before: &[bool], behind: &[bool]) -> bool
+    ensures { IsTrue result → KeepsIdle action before.now behind.now }
+{
+    !tests_idle(action, before) && stays_idle(action, before, behind)
+}
+
+/// Whether a flag tests an idle feature.
+fn tests_idle(action: Option<Action>, before: &[bool]) -> bool
+    ensures { result ≡ false → TestsNone before.now action }
+{
+    match action {
+        Some(action) => does_test(action.kind) && is_idle(before, action.feature),
+        None => false,
+    }
+}
+
+/// Whether each feature that is idle before a flag is idle behind it or set by it.
+fn stays_idle(action: Option<Action>, before: &[bool], behind: &[bool]) -> bool
+    ensures { IsTrue result → (feature : ℕ) → is_idle before.now feature ≡ true → (is_idle behind.now feature ≡ true) ⊎ Sets action feature }
+{
+    let mut feature = 0;
+    'features: while feature < before.len() {
+        if before[feature] && !is_idle(behind, feature) && !is_set(action, feature) {
+            return false;
+        }
+        feature += 1;
+    }
+    true
+}
+
+/// Whether a flag sets a feature.
+fn is_set(action: Option<Action>, feature: usize) -> bool
+    ensures { IsTrue result ↔ Sets action feature }
+{
+    match action {
+        Some(action) => action.feature == feature && does_set(action.kind),
+        None => false,
+    }
+}
+
+/// Whether a kind of flag asks what its feature is.
+fn does_test(kind: FlagKind) -> bool
+    ensures { result ≡ does_test kind }
+{
+    match kind {
+        FlagKind::P | FlagKind::C => false,
+        FlagKind::R | FlagKind::D | FlagKind::U => true,
+    }
+}
+
+/// Whether a kind of flag sets its feature whatever it was.
+fn does_set(kind: FlagKind) -> bool
+    ensures { result ≡ does_set kind }
+{
+    match kind {
+        FlagKind::P | FlagKind::C | FlagKind::U => true,
+        FlagKind::R | FlagKind::D => false,
+    }
+}
+
+/// Whether a feature is idle by a row.
+fn is_idle(row: &[bool], feature: usize) -> bool
+    ensures { result ≡ is_idle row.now feature }
+{
+    feature < row.len() && row[feature]
+}
+
+/// The row of a state; a state that has none has no idle features.
+pub fn row_at(rows: &[Vec<bool>], state: usize) -> &[bool]
+    ensures { result.now ≡ slice_index_or (map (λ row. row.items) rows.now) state [] }
+{
+    if state < rows.len() {
+        rows[state].as_slice()
+    } else {
+        &[]
+    }
+}
+
+/// What features are, the idle ones being made neutral.
+pub fn masked(
+    alloc: Global,
+    row: &[bool],
+    now: &[Option<usize>],
+) -> Result<Vec<Option<usize>>, AllocError>
+    ensures { IfOk result (λ list. list.items ≡ masked row.now now.now) }
+{
+    now.iter()
+        .enumerate()
+        .map(|(feature, value)| value_if(is_idle(row, feature), *value))
+        .collect(alloc)
+}
+
+/// Whether the idle features are neutral already, so that nothing need be made.
+pub fn is_masked(row: &[bool], now: &[Option<usize>]) -> bool
+    ensures { IsTrue result → masked row.now now.now ≡ now.now }
+{
+    let mut feature = 0;
+    'features: while feature < now.len() {
+        if is_idle(row, feature) && now[feature].is_some() {
+            return false;
+        }
+        feature += 1;
+    }
+    true
+}
+
+/// A value, or none where its feature is idle.
+fn value_if(is_idle: bool, value: Option<usize>) -> Option<usize>
+    ensures { result ≡ cond is_idle None value }
+{
+    if is_idle { None } else { value }
+}

@@ -1,0 +1,4 @@
+mod Listing
+mod Numbering
+mod Parts
+mod Symbols

@@ -1,0 +1,4 @@
+pub mod Leaves
+pub mod Mapped
+pub mod Numbered
+pub mod Plain

@@ -1,0 +1,4 @@
+pub mod Rows
+pub mod Renamed
+pub mod Grammared
+pub mod Networked

@@ -1,0 +1,4 @@
+pub mod Accepting
+pub mod Naming
+pub mod Readying
+pub mod Replying

@@ -1,0 +1,4 @@
+pub mod Networks
+pub mod Versions
+pub mod Errors
+pub mod Rebuilt

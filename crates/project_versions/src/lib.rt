@@ -1,0 +1,18 @@
+//! Versions of a project: its files with a network for each of its names, and the edits that make one version of another.
+//!
+//! - [`load`]: the first version of sources, or why there is none.
+//! - [`Version`]: its number, its files, its names, and the replies to words that are looked up in it.
+//! - [`edit`]: the next version and the names that are rebuilt, as [`Edited`], or why there is none, an [`EditError`].
+//!
+//! Inside, `networks` builds the network of each definition, and `rebuilt` lists the names that an edit touches.
+#![tactic(auto)]
+
+mod edit_error;
+mod editing;
+mod networks;
+mod rebuilt;
+mod version;
+
+pub use edit_error::EditError;
+pub use editing::{Edited, edit, load};
+pub use version::Version;

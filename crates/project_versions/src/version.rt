@@ -1,0 +1,131 @@
+ghost use Rattle.std.specs.Prelude.{◌≡◌, ◌≤◌, ◌<◌, ◌+◌, ◌-◌, ◌^◌, Ok, IfOk, length, map};
+ghost use Rattle.editor_meaning.specs.Editing.{AreNames, most_edits};
+ghost use Rattle.project_meaning.specs.Projects.{Defines};
+ghost use Rattle.project_sources.specs.Edits.{Version as Meant};
+ghost use Rattle.project_sources.specs.Sources.{Said, project_in};
+ghost use Rattle.project_store.specs.Loaded.{IsLoadedFrom};
+ghost use Rattle.project_store.specs.Projects.{IsOfSources, Reads};
+ghost use Rattle.project_versions.specs.Networks.{AreNetworks, net_of};
+ghost use Rattle.project_versions.specs.Versions.{IsVersion, Stands};
+ghost use Rattle.reply_meaning.specs.Replies.{RepliesToWord};
+
+use crate::networks::networks_of;
+use fsm_base::Text;
+use lookup_answers::Direction;
+use network_build::Compiled;
+use project_files::Sources;
+use project_store::{Project, Ready, reply_in};
+use reply_text::no_net;
+use std::alloc::{AllocError, Global};
+use std::marker::Model;
+use std::sync::Arc;
+
+/// A version of a project: its number, its files, and a network for each of its names, with the meaning that the name has in these
+/// files. Nothing changes it.
+#[derive(Drop)]
+pub struct Version {
+    /// Its number, from 1 on.
+    number: u64,
+    /// Its files.
+    sources: Sources,
+    /// The project that they are.
+    project: Project,
+    /// The network of each definition, ready for look-ups, at the definition's place.
+    networks: Vec<Arc<Compiled>>,
+}
+
+impl Model for Version {
+    ghost use Rattle.regex_ast.specs.contracts.expr.Atom as atom;
+    ghost use Rattle.regex_ast.specs.contracts.expr.Expr as expr;
+    ghost use Rattle.std.specs.Prelude.{map};
+    ghost use Rattle.std.specs.Coded.{codes};
+    ghost use Rattle.project_versions.specs.Networks.{net_of};
+    ghost use Rattle.project_versions.specs.Versions.{IsVersion, VersionView};
+
+    ghost Value = { VersionView };
+
+    ghost coded = { Prim.hlevel (codes, (expr.the_row atom.the_row).coded) };
+
+    ghost view = { λ v. record { number = v.number; files = v.sources; loaded = v.project; nets = map net_of v.networks.items } };
+
+    ghost invariant = { λ v. IsVersion (record { number = v.number; files = v.sources; loaded = v.project; nets = map net_of v.networks.items }) };
+}
+
+impl Version {
+    /// The version of this number of a project that is read from these files.
+    pub(crate) fn of(
+        alloc: Global,
+        number: u64,
+        sources: Sources,
+        ready: Ready,
+    ) -> Result<Version, AllocError>
+        requires number { number ≤ most_edits + 1 }
+        requires files { IsOfSources sources ready }
+        ensures { (said : Said) → IsLoadedFrom said ready → Reads sources (Ok (project_in said)) → IfOk result (λ version. Stands version (record { number = number; files = sources; project = project_in said })) }
+    {
+        let (project, built) = ready.into_parts();
+        let networks = networks_of(alloc, &project, built)?;
+        Ok(Version {
+            number,
+            sources,
+            project,
+            networks,
+        })
+    }
+
+    /// Its number.
+    pub fn number(&self) -> u64
+        ensures number { result ≡ self.now.number }
+        ensures few { result ≤ most_edits + 1 }
+    {
+        self.number
+    }
+
+    /// Its files.
+    pub fn sources(&self) -> &Sources
+        ensures { result.now ≡ self.now.files }
+    {
+        &self.sources
+    }
+
+    /// The project that its files are.
+    pub(crate) fn project(&self) -> &Project
+        ensures { result.now ≡ self.now.loaded }
+    {
+        &self.project
+    }
+
+    /// The names that it defines, in the order of their bytes.
+    pub fn names(&self, alloc: Global) -> Result<Vec<Text>, AllocError>
+        ensures { (meant : Meant) → Stands self.now meant → IfOk result (λ names. AreNames (Defines meant.project) names.items) }
+    {
+        self.project.names(alloc)
+    }
+
+    /// The reply to a word that is looked up in a name, both in Normalization Form C.
+    pub fn reply_to(
+        &self,
+        alloc: Global,
+        direction: Direction,
+        net: &str,
+        word: &str,
+    ) -> Result<Vec<u8>, AllocError>
+        requires { length word.now < 2 ^ 32 - 1 }
+        ensures { (meant : Meant) → Stands self.now meant → IfOk result (λ bytes. RepliesToWord meant.project direction meant.number net.now word.now bytes.items) }
+    {
+        match self.project.find(net) {
+            Some(place) => {
+                let compiled = &self.networks[place];
+                reply_in(
+                    alloc,
+                    self.project.alphabet(),
+                    compiled.net(),
+                    direction,
+                    self.number,
+                    word,
+                )
+            }
+            None => no_net(alloc, self.number, net),
+        }
+    }
+}

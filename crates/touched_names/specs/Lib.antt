@@ -1,0 +1,4 @@
+pub mod Bodies
+pub mod Itself
+pub mod Places
+pub mod Touched
