@@ -7,6 +7,7 @@ use Rattle.regex_ast.specs.declared.expr.Atom.{Atom}
 use Rattle.expr_kinds.specs.Atoms.{is_known_at, is_symbol, leaves_at, weights_at}
 use Rattle.expr_kinds.specs.Weights.{most_weight}
 use Rattle.expr_kinds.specs.declared.form.Form.{Form}
+use Rattle.grammar_weights.specs.Weights.{is_same_symbol}
 use Rattle.project_manifest.specs.Rows.{First, Where}
 use Rattle.project_meaning.specs.Trees.{Body}
 use Rattle.project_sources.specs.Built.{BodyIsBuiltBy}
@@ -21,7 +22,7 @@ use Rattle.project_definitions.specs.declared.demands.Demand.TheVariants as dema
 -- too heavy, and that its network can be built
 abbrev pub Meets : List Form → Demand → Body Atom → Type 0
 Meets forms demand.Fits body = BodyFitsBy (leaves_at forms) body
-Meets forms demand.Light body = weight_of_body (weights_at forms) body ≤ most_weight
+Meets forms demand.Light body = weight_of_body (weights_at forms) is_same_symbol body ≤ most_weight
 Meets forms demand.Built body = BodyIsBuiltBy (is_known_at forms) is_symbol body
 
 abbrev pub why_not : Demand → Why

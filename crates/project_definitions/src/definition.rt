@@ -1,12 +1,12 @@
 use fsm_base::Text;
-use regex_ast::{Atom, Expr, Lexicon};
+use regex_ast::{Atom, Expr, Grammar, Lexicon};
 
 /// A definition of a project.
 #[derive(Debug, Drop)]
 pub struct Definition {
     /// The defined name.
     pub name: Text,
-    /// The line of its statement, counted from 1: that of the manifest where it names a file of lexicons.
+    /// The line of its statement, counted from 1: that of the manifest where it names a lexc or twolc file.
     pub line: u32,
     /// The file of its statement.
     pub file: Text,
@@ -21,4 +21,6 @@ pub enum Body<A> {
     Xfst(Expr<A>),
     /// The lexicons of a lexc file.
     Lexc(Vec<Lexicon<A>>),
+    /// The grammar of a twolc file.
+    Twolc(Grammar<A>),
 }

@@ -141,9 +141,6 @@ fn declared_behind(
     if names_again(&declares, lines, files) {
         return Err(refused(said, Why::Duplicate));
     }
-    if declares.is_unread() {
-        return Err(refused(said, Why::NotBuilt));
-    }
     if names_too_many(&declares, files) {
         return Err(refused(said, Why::LimitFiles));
     }

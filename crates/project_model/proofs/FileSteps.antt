@@ -19,7 +19,7 @@ use Rattle.lexc_grammar.specs.Files.{SaysLexicons}
 use Rattle.project_meaning.specs.Projects.{Written}
 use Rattle.project_meaning.specs.Trees.{Lexicon as Lexicons, lexc}
 use Rattle.project_sources.specs.Faults.{FileFault, HasNoText, NamedFault, fault, file_rows, missing, no_text, unread}
-use Rattle.project_sources.specs.Laws.{readers_so_far as readers}
+use Rattle.project_sources.specs.Laws.{all_readers as readers}
 use Rattle.project_sources.specs.Sources.{FileDefines, FilesDefine, HasText, HaveText, TextSays, declared, stated}
 use Rattle.project_sources.proofs.Once.{says_one, text_one, exact_so_far}
 use Rattle.project_model.specs.Answers.{IsRefusal, IsRefusedBy}

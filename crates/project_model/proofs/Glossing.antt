@@ -10,7 +10,7 @@ use Rattle.project_manifest.specs.Sayings.{placed_of}
 use Rattle.project_manifest.specs.declared.declarations.Declaration.TheVariants.{Glosses}
 use Rattle.project_manifest.specs.declared.manifest.ManifestLine.{ManifestLine}
 use Rattle.project_meaning.specs.Projects.{Written}
-use Rattle.project_sources.specs.Laws.{readers_so_far as readers}
+use Rattle.project_sources.specs.Laws.{all_readers as readers}
 use Rattle.project_sources.specs.Limits.{most_bytes}
 use Rattle.project_sources.specs.Sources.{GlossesOf, HasText}
 use Rattle.project_model.specs.Files.{HasGlossed, HasPut}

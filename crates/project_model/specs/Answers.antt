@@ -4,14 +4,14 @@ use Rattle.fsm_io.specs.Folders.{Files}
 use Rattle.regex_ast.specs.declared.fault.Fault.{Fault}
 use Rattle.regex_ast.specs.declared.fault.Why.TheVariants as why
 use Rattle.regex_reader.specs.Files.{FaultAt}
-use Rattle.project_manifest.specs.Lines.{ManifestFault, Placed, line_rows_so_far, manifest_of, names_required}
+use Rattle.project_manifest.specs.Lines.{ManifestFault, Placed, line_rows, manifest_of, names_required}
 use Rattle.project_manifest.specs.Manifests.{project_name}
 use Rattle.project_manifest.specs.Reading.{HasNoFault}
 use Rattle.project_manifest.specs.Rows.{First, HaveNone, Where}
 use Rattle.project_meaning.specs.Projects.{Written}
 use Rattle.project_sources.specs.Sources.{FilesGloss, HasText, Said, FilesSay}
 use Rattle.project_sources.specs.Faults.{fault, HasNoText, SaidRow, SaidFault, read_so_far, FirstFault}
-use Rattle.project_sources.specs.Laws.{readers_so_far}
+use Rattle.project_sources.specs.Laws.{all_readers}
 pub use Rattle.project_files.specs.Refusals.{IsRefusedBy, IsRefusal}
 use Rattle.project_definitions.specs.Plain.{body_of}
 use Rattle.project_model.specs.Plans.{PlanView}
@@ -22,16 +22,16 @@ use Rattle.project_model.specs.declared.written.WrittenDefine.{WrittenDefine}
 
 -- the files have no fault by the rows that are told so far, and the plan stands for what they say, and has their glosses
 pub record IsPlanOf (files : Files) (old new : List (List ℕ)) (plan : PlanView) : Type 0 where
-  pub faultless : (found : Fault) → FirstFault readers_so_far files read_so_far found → ⊥
+  pub faultless : (found : Fault) → FirstFault all_readers files read_so_far found → ⊥
   pub said : Said
-  pub says : FilesSay readers_so_far files said
+  pub says : FilesSay all_readers files said
   pub stands : Stands said old new plan
-  pub glosses : FilesGloss readers_so_far files plan.glosses
+  pub glosses : FilesGloss all_readers files plan.glosses
 
 -- the plan of files, their first fault, or want of memory
 abbrev pub IsProjectRead : Files → List (List ℕ) → List (List ℕ) → Result PlanView PlanError → Type 0
 IsProjectRead files old new (Ok plan) = IsPlanOf files old new plan
-IsProjectRead files old new (Err (Refused found)) = FirstFault readers_so_far files read_so_far found
+IsProjectRead files old new (Err (Refused found)) = FirstFault all_readers files read_so_far found
 IsProjectRead files old new (Err (Memory refused)) = ⊤
 
 -- the content of the manifest's file has a text without fault, with these lines
@@ -43,7 +43,7 @@ pub record IsManifestFile (content : List ℕ) (lines : List Placed) : Type 0 wh
 
 -- a text is no manifest
 abbrev pub IsTextFault : List ℕ → Fault → Type 0
-IsTextFault text found = (at : FaultAt) × ManifestFault line_rows_so_far text at × (found ≡ fault project_name at.line at.why)
+IsTextFault text found = (at : FaultAt) × ManifestFault line_rows text at × (found ≡ fault project_name at.line at.why)
 
 -- the content of the manifest's file has no text, or its text is no manifest
 abbrev pub IsNoManifest : List ℕ → Fault → Type 0

@@ -6,7 +6,7 @@ ghost use Rattle.project_manifest.specs.Lines.{file_in, gloss_files_in, glosses_
 ghost use Rattle.project_manifest.specs.Rows.{First};
 ghost use Rattle.project_manifest.specs.Sayings.{line_of, placed_of};
 ghost use Rattle.project_sources.specs.Faults.{NamedFault, fault};
-ghost use Rattle.project_sources.specs.Laws.{readers_so_far};
+ghost use Rattle.project_sources.specs.Laws.{all_readers};
 ghost use Rattle.project_sources.specs.Limits.{most_bytes};
 ghost use Rattle.project_sources.specs.Sources.{FilesDefine, GlossesOf, declared, stated};
 ghost use Rattle.project_model.specs.Answers.{IsRefusedBy, written_of};
@@ -168,8 +168,8 @@ fn add_file(
 ) -> Result<(), PlanError>
     requires { file_in (line_of line.now.declares) ≡ file.now ∷ [] }
     ensures written { OnOk result (HasDefined sources.now (placed_of line.now) (map written_of written.old.items) (map written_of written.new.items)) }
-    ensures glosses { OnOk result (GlossesOf readers_so_far sources.now glosses.old (glosses_said (line_of line.now.declares)) glosses.new) }
-    ensures error { IfErr result (IsRefusedBy (NamedFault readers_so_far sources.now (placed_of line.now))) }
+    ensures glosses { OnOk result (GlossesOf all_readers sources.now glosses.old (glosses_said (line_of line.now.declares)) glosses.new) }
+    ensures error { IfErr result (IsRefusedBy (NamedFault all_readers sources.now (placed_of line.now))) }
 {
     let Some(content) = sources.get(file.as_str()) else {
         return Err(refused(alloc, "project", line.number, Why::NoFile));
@@ -190,8 +190,8 @@ fn add_line(
     glosses: &mut GlossTable,
 ) -> Result<(), PlanError>
     ensures written { OnOk result (HasDefined sources.now (placed_of line.now) (map written_of written.old.items) (map written_of written.new.items)) }
-    ensures glosses { OnOk result (GlossesOf readers_so_far sources.now glosses.old (glosses_said (line_of line.now.declares)) glosses.new) }
-    ensures error { IfErr result (IsRefusedBy (NamedFault readers_so_far sources.now (placed_of line.now))) }
+    ensures glosses { OnOk result (GlossesOf all_readers sources.now glosses.old (glosses_said (line_of line.now.declares)) glosses.new) }
+    ensures error { IfErr result (IsRefusedBy (NamedFault all_readers sources.now (placed_of line.now))) }
 {
     match line.declares.file() {
         Some(file) => add_file(alloc, sources, line, file, written, glosses),
@@ -205,10 +205,10 @@ pub fn contents_of(
     sources: &Sources,
     lines: &[ManifestLine],
 ) -> Result<Contents, PlanError>
-    ensures written { IfOk result (λ contents. FilesDefine readers_so_far sources.now (map placed_of lines.now) (map written_of contents.written.items)) }
-    ensures glosses { IfOk result (λ contents. GlossesOf readers_so_far sources.now [] (gloss_files_in (map placed_of lines.now)) contents.glosses) }
-    ensures faultless { OnOk result ((found : Fault) → First (NamedFault readers_so_far sources.now) (map placed_of lines.now) found → ⊥) }
-    ensures error { IfErr result (IsRefusedBy (First (NamedFault readers_so_far sources.now) (map placed_of lines.now))) }
+    ensures written { IfOk result (λ contents. FilesDefine all_readers sources.now (map placed_of lines.now) (map written_of contents.written.items)) }
+    ensures glosses { IfOk result (λ contents. GlossesOf all_readers sources.now [] (gloss_files_in (map placed_of lines.now)) contents.glosses) }
+    ensures faultless { OnOk result ((found : Fault) → First (NamedFault all_readers sources.now) (map placed_of lines.now) found → ⊥) }
+    ensures error { IfErr result (IsRefusedBy (First (NamedFault all_readers sources.now) (map placed_of lines.now))) }
 {
     let mut written = Vec::new(alloc);
     let mut glosses = GlossTable::empty(alloc);

@@ -5,6 +5,7 @@ use Rattle.regex_ast.specs.declared.fault.Fault.{Fault}
 use Rattle.regex_ast.specs.declared.fault.Why.TheVariants as why
 use Rattle.regex_reader.specs.Files.{FaultAt}
 use Rattle.interlinear.specs.Glosses.{Entry, SaysTable}
+use Rattle.twolc_grammar.specs.Sections.{ReadsAs}
 use Rattle.expr_kinds.specs.Weights.{most_weight}
 use Rattle.lexc_grammar.specs.Files.{SaysLexicons}
 use Rattle.project_manifest.specs.Manifests.{project_name}
@@ -30,13 +31,9 @@ ProjectsHaveTables readers = (files : Files) (by : List Row) (project : Project)
 abbrev pub OneAnswer : Readers → Type 0
 OneAnswer readers = (files : Files) (by : List Row) (a b : Result Project Fault) → SourcesSay readers files by a → SourcesSay readers files by b → a ≡ b
 
--- a reader that isn't there yet says that a file can't be read
-abbrev pub says_unbuilt : {T : Type 0} → List ℕ → Result T FaultAt → Type 0
-says_unbuilt text answer = answer ≡ Err (record { line = 0; why = why.NotBuilt })
-
--- the readers that there are so far
-abbrev pub readers_so_far : Readers
-readers_so_far = record { lexc = SaysLexicons; twolc = says_unbuilt; gloss = SaysTable }
+-- what texts of the three kinds say
+abbrev pub all_readers : Readers
+all_readers = record { lexc = SaysLexicons; twolc = ReadsAs; gloss = SaysTable }
 
 -- each name that stands in a definition is defined, none reaches itself, and no definition weighs too much
 pub record IsSoundProject (project : Project) : Type 0 where
@@ -50,7 +47,7 @@ ProjectsAreSound readers by = (files : Files) (project : Project) → SourcesSay
 
 -- without files the manifest is missing
 abbrev pub NoFilesNoProject : List Row → Type 0
-NoFilesNoProject by = FirstFault readers_so_far [] by (fault project_name 0 why.NoProject)
+NoFilesNoProject by = FirstFault all_readers [] by (fault project_name 0 why.NoProject)
 
 -- an empty centre is the fault where none is read before
 abbrev pub CentresComeLast : Readers → List Row → Type 0
