@@ -16,6 +16,9 @@ use Rattle.live_session.specs.Lanes.{GoesBehind, GoesBeside, HasCauses, IsServed
 rose_later : (a b c : ℕ) → a ≤ b → Rose b c → Rose a c
 rose_later a b c le rose = omega (arith, le, rose)
 
+pub ended_same : {a b : Ending} → Ended a ≡ Ended b → a ≡ b
+ended_same e = cc (e)
+
 module _ {V : Type 0} where
   causes_later : (old mid new : LaneView V) (first stop : Stop) → HasCauses old mid first → HasCauses mid new stop → HasCauses old new stop
   causes_later old mid new first stop a b = record {
@@ -52,3 +55,14 @@ module _ {V : Type 0} where
 
     pub served : IsServed Replies values old new
     served = served_by b.stop refl (rest_learnt b.stop b.stop_is)
+
+  module _ (Replies : V → Option (List ℕ) → List ℕ → Type 0) where
+    -- a lane that didn't stop at its mark stays as it is
+    pub rest_unmarked : (lane : LaneView V) (stop : Stop) → lane.stop ≡ Some stop → (lane.stop ≡ Some Marked → ⊥) → GoesBehind Replies lane lane stop
+    rest_unmarked lane Marked is other = absurd (other is)
+    rest_unmarked lane (Ended ending) is other = refl
+
+    -- and one that did stopped for nothing else
+    pub rest_marked : (old new : LaneView V) → old.stop ≡ Some Marked → GoesBehind Replies old new Marked → (stop : Stop) → old.stop ≡ Some stop → GoesBehind Replies old new stop
+    rest_marked old new marked behind Marked is = behind
+    rest_marked old new marked behind (Ended ending) is = let both : Some Marked ≡ Some (Ended ending) = sym marked ∙ is in absurd (cc)

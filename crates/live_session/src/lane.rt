@@ -1,6 +1,5 @@
-ghost use Rattle.std.specs.Prelude.{◌≡◌, ℕ, Option, None, Some};
+ghost use Rattle.std.specs.Prelude.{◌≡◌, ◌↔◌, IsTrue, None, Some};
 ghost use Rattle.lane_session.specs.declared.session.Stop.{Stop};
-ghost use Rattle.publish_board.specs.Boards.{Seated};
 ghost use Rattle.live_session.specs.Lanes.{GoesBehind, GoesBeside, Learns};
 
 use fsm_io::{Lines, Sink, Source};
@@ -9,6 +8,13 @@ use publish_board::{Note, Seat};
 use std::alloc::Global;
 use std::marker::Model;
 use std::sync::Wait;
+
+/// Whether a lane stopped at its mark.
+fn is_marked(stop: Option<Stop>) -> bool
+    ensures { IsTrue result ↔ (stop ≡ Some Stop.Marked) }
+{
+    matches!(stop, Some(Stop::Marked))
+}
 
 /// A lane. Contracts see its values, its lines, what is left of its input and held by its output, and why it stopped.
 #[derive(Drop)]
@@ -64,10 +70,13 @@ impl<S: Source + Drop, K: Sink + Drop, V: Answers> Lane<S, K, V> {
     pub fn answer_rest(&mut self, alloc: Global)
         ensures { (stop : Stop) → self.old.stop ≡ Some stop → GoesBehind V.replies self.old self.new stop }
     {
-        if let Some(Stop::Marked) = self.stop {
-            let ending = self.session.answer_rest(alloc, &mut self.source, &mut self.sink);
-            self.stop = Some(Stop::Ended(ending));
+        if !is_marked(self.stop) {
+            return;
         }
+        let ending = self
+            .session
+            .answer_rest(alloc, &mut self.source, &mut self.sink);
+        self.stop = Some(Stop::Ended(ending));
     }
 
     /// How often its seat entered.
