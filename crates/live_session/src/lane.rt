@@ -51,11 +51,10 @@ impl<S: Source + Drop, K: Sink + Drop, V: Answers> Lane<S, K, V> {
     pub fn answer_beside(&mut self, alloc: Global)
         ensures { GoesBeside V.replies self.old self.new }
     {
-        self.stop = Some(self.session.answer_beside(
-            alloc,
-            &mut self.source,
-            &mut self.sink,
-        ));
+        self.stop = Some(
+            self.session
+                .answer_beside(alloc, &mut self.source, &mut self.sink),
+        );
     }
 
     /// Takes up the last value.

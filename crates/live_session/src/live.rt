@@ -12,8 +12,6 @@ use std::thread::{Threads, join_mut};
 
 /// What publishes values while lanes are answered.
 pub trait Publishes<V: Release, R: Wait> {
-    ghost use Rattle.std.specs.Prelude.{List};
-
     /// Which values there may be after a run, by those before it.
     ghost publishes: { Self → List V → Self → List V → Type 0 };
 
@@ -30,13 +28,7 @@ fn work<
     V: Answers + Send + Sync,
     E: Publishes<V, R> + Send,
     R: Threads + Wait + Sync,
->(
-    rt: &R,
-    alloc: Global,
-    editor: &mut Editor<V>,
-    publisher: &mut E,
-    lanes: &mut [Lane<S, K, V>],
-)
+>(rt: &R, alloc: Global, editor: &mut Editor<V>, publisher: &mut E, lanes: &mut [Lane<S, K, V>])
     ensures board { editor.new.board ≡ editor.old.board }
     ensures publishes { E.publishes publisher.old editor.old.values publisher.new editor.new.values }
     ensures lanes { (i : ℕ) (d : _) → i < length lanes.old → GoesBeside V.replies (slice_index_or lanes.old i d) (slice_index_or lanes.new i d) }
@@ -56,13 +48,7 @@ pub fn serve_lanes<
     V: Answers + Send + Sync,
     E: Publishes<V, R> + Send,
     R: Threads + Wait + Sync,
->(
-    rt: &R,
-    alloc: Global,
-    editor: Editor<V>,
-    publisher: &mut E,
-    lanes: &mut [Lane<S, K, V>],
-)
+>(rt: &R, alloc: Global, editor: Editor<V>, publisher: &mut E, lanes: &mut [Lane<S, K, V>])
     requires few { length lanes.old ≤ 16 }
     requires board { (i : ℕ) (d : _) → i < length lanes.old → (slice_index_or lanes.old i d).board ≡ editor.board }
     ensures { (values : List V) × E.publishes publisher.old editor.values publisher.new values
