@@ -5,7 +5,7 @@ use Rattle.fsm_io.specs.Causes.{Rose}
 use Rattle.fsm_io.specs.Reading.{LinesView, at_start}
 use Rattle.reply_meaning.specs.declared.ending.Ending.{Ending}
 use Rattle.reply_meaning.specs.declared.ending.Ending.TheVariants.{WriteFailed, ReadFailed}
-use Rattle.publish_board.specs.Boards.{Board}
+use Rattle.publish_board.specs.Published.{Board}
 use Rattle.lane_meaning.specs.Lanes.{HasLane}
 use Rattle.lane_session.specs.Running.{HasStopped, IsRest}
 use Rattle.lane_session.specs.declared.session.Stop.{Stop}

@@ -21,6 +21,14 @@ pub trait Publishes<V: Release, R: Wait> {
         ensures publishes { publishes self.old editor.old.values self.new editor.new.values };
 }
 
+/// Publishes values.
+fn publish_by<V: Release, E: Publishes<V, R>, R: Wait>(rt: &R, desk: &mut (Editor<V>, E))
+    ensures board { desk.new.0.board ≡ desk.old.0.board }
+    ensures publishes { E.publishes desk.old.1 desk.old.0.values desk.new.1 desk.new.0.values }
+{
+    desk.1.publish(rt, &mut desk.0);
+}
+
 /// Publishes values while the lines of each lane up to its mark are answered.
 fn work<
     S: Source + Send + Drop,
@@ -28,14 +36,14 @@ fn work<
     V: Answers + Send + Sync,
     E: Publishes<V, R> + Send,
     R: Threads + Wait + Sync,
->(rt: &R, alloc: Global, editor: &mut Editor<V>, publisher: &mut E, lanes: &mut [Lane<S, K, V>])
-    ensures board { editor.new.board ≡ editor.old.board }
-    ensures publishes { E.publishes publisher.old editor.old.values publisher.new editor.new.values }
+>(rt: &R, alloc: Global, desk: &mut (Editor<V>, E), lanes: &mut [Lane<S, K, V>])
+    ensures board { desk.new.0.board ≡ desk.old.0.board }
+    ensures publishes { E.publishes desk.old.1 desk.old.0.values desk.new.1 desk.new.0.values }
     ensures lanes { (i : ℕ) (d : _) → i < length lanes.old → GoesBeside V.replies (slice_index_or lanes.old i d) (slice_index_or lanes.new i d) }
 {
     join_mut(
         rt,
-        &mut || publisher.publish(rt, editor),
+        &mut || publish_by(rt, desk),
         &mut || answer_beside(rt, alloc, lanes),
     );
 }
@@ -48,16 +56,18 @@ pub fn serve_lanes<
     V: Answers + Send + Sync,
     E: Publishes<V, R> + Send,
     R: Threads + Wait + Sync,
->(rt: &R, alloc: Global, editor: Editor<V>, publisher: &mut E, lanes: &mut [Lane<S, K, V>])
+>(rt: &R, alloc: Global, editor: Editor<V>, publisher: E, lanes: &mut [Lane<S, K, V>]) -> E
     requires few { length lanes.old ≤ 16 }
     requires board { (i : ℕ) (d : _) → i < length lanes.old → (slice_index_or lanes.old i d).board ≡ editor.board }
-    ensures { (values : List V) × E.publishes publisher.old editor.values publisher.new values
+    ensures { (values : List V) × E.publishes publisher editor.values result values
         × ((i : ℕ) (d : _) → i < length lanes.old → IsServed V.replies values (slice_index_or lanes.old i d) (slice_index_or lanes.new i d)) }
 {
-    let mut editor = editor;
-    work(rt, alloc, &mut editor, publisher, lanes);
+    let mut desk = (editor, publisher);
+    work(rt, alloc, &mut desk, lanes);
+    let (editor, publisher) = desk;
     let closed = editor.close(rt);
     learn_all(rt, &closed, lanes);
     closed.end(rt);
     answer_rest(rt, alloc, lanes);
+    publisher
 }
