@@ -8,7 +8,7 @@ pub learn_one-requires : goal.learn_one-requires
 learn_one-requires g c =
     let i = c.seats.i in let ys = c.seats.lanes in
     let l : i < length ys = omega arith in
-    ap (λ (x : LaneView g.row.V.Denot). x.board) (get_or_default ys i _ _ l ∙ c.seats.invariant.0 i _ (omega arith)) ∙ c.requires i _ (omega arith)
+    ap (λ (x : LaneView g.row.V.Denot). x.board) (get_or_default ys i _ _ l ∙ c.seats.invariant.0 i _ (omega arith)) ∙ c.requires.board i _ (omega arith)
 
 pub seats-preserved : goal.seats-preserved
 seats-preserved g c =

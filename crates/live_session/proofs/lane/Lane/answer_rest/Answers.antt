@@ -1,4 +1,5 @@
-use Rattle.std.proofs.Common.{◌≡◌, true, refl, arith, rules}
+use Rattle.std.proofs.Common.{◌≡◌, true, Some, refl, arith, rules}
+use Rattle.lane_session.specs.declared.session.Stop.TheVariants.{Marked}
 use Rattle.live_session.proofs.Serving.{ended_same, rest_marked, rest_unmarked}
 use Rattle.live_session.proofs.lane.Lane.answer_rest.Goals as goal
 
@@ -10,9 +11,10 @@ pub returns : goal.returns
 returns g c stop is =
     let told : c.is_marked.result ≡ true = first_of (cc, search rules, grind arith) in
     let a = c.answer_rest-ending.ensures in
-    (rw (← c.self.view_is) (λ is. rest_marked g.V.Replying.replies _ _ (c.is_marked.ensures.0 told) (
+    let marked : c.args.self.now.stop ≡ Some Marked = rw (← c.self.view_is) (c.is_marked.ensures.0 told) in
+    rest_marked g.V.Replying.replies c.args.self.now _ marked (rw (← c.self.view_is) (
       c.answer_rest-ending.result,
       refl,
       record { read = λ e. a.read (ended_same e); write = λ e. a.write (ended_same e); later_input = a.later_input; later_output = a.later_output },
-      λ budget left0 held0 rest. a.answered budget left0 held0 rest,
-    ) stop is)) is
+      a.answered,
+    )) stop is
