@@ -18,20 +18,25 @@ import tempfile
 import measure
 
 MANIFESTS = [
-    ['xfst r.xfst', 'xfst s.xfst', 'lexc Lex l.lexc'],
-    ['lexc Lex l.lexc', 'xfst s.xfst', 'xfst r.xfst', 'alphabet z'],
-    ['xfst r.xfst', 'lexc Lex l.lexc', 'xfst s.xfst', 'require A'],
-    ['xfst r.xfst', 'alphabet z y', 'lexc Lex l.lexc'],
-    ['xfst r.xfst', 'xfst t.xfst'],
+    ['xfst r.xfst', 'xfst s.xfst', 'lexc Lex l.lexc', 'twolc Two g.twolc'],
+    ['lexc Lex l.lexc', 'xfst s.xfst', 'twolc Two g.twolc', 'xfst r.xfst', 'alphabet z'],
+    ['twolc Two g.twolc', 'xfst r.xfst', 'lexc Lex l.lexc', 'xfst s.xfst', 'require A'],
+    ['xfst r.xfst', 'alphabet z y', 'lexc Lex l.lexc', 'twolc Two g.twolc'],
+    ['xfst r.xfst', 'xfst t.xfst', 'twolc A g.twolc'],
     ['lexc Lex l.lexc', 'require Q'],
     ['xfst r.xfst', 'xfts s.xfst'],
 ]
 NAMES = ['A', 'B', 'C', 'D']
-BODIES = ['a b', 'a | b', 'a:b c', 'c*', 'A b', 'B | a', 'C', 'a D', 'Lex', 'Lex .o. a -> b', '? b', '~ a & ? ?', 'a -> c', 'b:0 B', 'E', '{ab} | c']
+BODIES = ['a b', 'a | b', 'a:b c', 'c*', 'A b', 'B | a', 'C', 'a D', 'Lex', 'Lex .o. a -> b', 'Lex .o. Two', 'Two', '? b', '~ a & ? ?', 'a -> c', 'b:0 B', 'E', '{ab} | c']
 FAULTY = ['define A', 'define A b', 'define A [ b ;', 'define A a^256 ;', 'define a b ;', 'A b ;']
 ENTRIES = ['a Next ;', 'ab # ;', 'c:b Next ;', 'b # ;', '# ;', 'abc:c # ;']
 FAULTY_ENTRIES = ['a Nowhere ;', 'a Next', 'a:b:c # ;']
-FILES = ['project', 'r.xfst', 's.xfst', 'l.lexc', 't.xfst']
+ALPHABETS = ['Alphabet a b c a:b c:0 ;', 'Alphabet a b c z a:b a:c 0:b ;', 'Alphabet a:b b c:b ;', 'Alphabet a b ;']
+SETS = ['S = a b ;', 'S = b c ;', 'T = a ;']
+PAIR_NAMES = ['P = a | b: ;', 'P = [ :b ]* c ;', 'Q = P S ;', 'Q = ~ [ a b ] ;']
+RULES = ['"r" a:b => _ c ;', '"r" a:b <=> c _ ; .#. _ .#. ;', '"s" c:0 <= a: _ ;', '"s" 0:b /<= S: _ [ c | P ] ;', '"t" a:c => P _ \\ b ;', '"t" a:b <= _ ;']
+FAULTY_RULES = ['"r" a:b -> _ c ;', '"r" S:b => _ c ;', 'r a:b => _ c ;', '"r" a:b => _ c']
+FILES = ['project', 'r.xfst', 's.xfst', 'l.lexc', 'g.twolc', 't.xfst']
 WORDS = ['', 'a', 'b', 'c', 'ab', 'bc', 'cb', 'abc', 'az', 'zz', 'E']
 
 
@@ -49,6 +54,8 @@ def some_line(random, file):
         return random.choice(random.choice(MANIFESTS))
     if file == 'l.lexc':
         return random.choice(FAULTY_ENTRIES if random.random() < 0.1 else ENTRIES)
+    if file == 'g.twolc':
+        return random.choice(FAULTY_RULES if random.random() < 0.1 else RULES if random.random() < 0.8 else SETS + PAIR_NAMES)
     if random.random() < 0.1:
         return random.choice(FAULTY)
     return 'define %s %s ;' % (random.choice(NAMES), random.choice(BODIES))
@@ -60,6 +67,11 @@ def some_content(random, file):
     elif file == 'l.lexc':
         entries = [some_line(random, file) for _ in range(random.randint(1, 3))]
         lines = ['LEXICON Root'] + entries + ['LEXICON Next', random.choice(ENTRIES[1:2] + ENTRIES[3:])]
+    elif file == 'g.twolc':
+        lines = [random.choice(ALPHABETS)]
+        lines += ['Sets'] + random.sample(SETS, random.randint(1, 2)) if random.random() < 0.6 else []
+        lines += ['Definitions'] + random.sample(PAIR_NAMES, random.randint(1, 2)) if random.random() < 0.6 else []
+        lines += ['Rules'] + [some_line(random, file) for _ in range(random.randint(1, 3))]
     else:
         names = random.sample(NAMES, random.randint(0, 2))
         lines = ['define %s %s ;' % (name, random.choice(BODIES)) for name in names]
@@ -91,7 +103,7 @@ def fault_of(files, edit):
 
 def some_edit(random, files):
     kind = random.choice(['put', 'put', 'splice', 'splice', 'splice', 'drop'] if random.random() < 0.3 else ['put', 'splice'])
-    file = random.choice(FILES if random.random() < 0.3 else ['r.xfst', 's.xfst', 'l.lexc'])
+    file = random.choice(FILES if random.random() < 0.3 else ['r.xfst', 's.xfst', 'l.lexc', 'g.twolc'])
     if kind == 'put':
         return ('put', file, lines_of(some_content(random, file)))
     if kind == 'drop':
@@ -110,21 +122,50 @@ def command_of(edit):
     return 'splice %s %d %d %d\n%s' % (edit[1], edit[2], edit[3], len(edit[4]), joined(edit[4]))
 
 
+def grammar_of(content):
+    """The tokens of a twolc file without fault, each with its section."""
+    found, section = [], None
+    for token in content.split():
+        if token in ('Alphabet', 'Sets', 'Definitions', 'Rules'):
+            section = token
+        else:
+            found.append((section, token))
+    return found
+
+
+def symbols_of(statements):
+    """The symbols that stand in such a file: the sides of its atoms, but for the names of sets and definitions that stand above."""
+    found, named, statement = set(), set(), []
+    for section, token in statements:
+        statement.append(token)
+        if token != ';':
+            continue
+        declared = {statement[0]} if section in ('Sets', 'Definitions') else set()
+        tokens = statement[2:] if declared else statement
+        sides = {side for token in tokens if re.fullmatch(r'\w*:?\w*', token) for side in token.split(':')}
+        found |= sides if section in ('Alphabet', 'Sets') else sides - named
+        named |= declared
+        statement = []
+    return found - {'', '0', '_'}
+
+
 def meaning_of(files):
     """The definitions of files without fault, each a name with its body, whose leaves are resolved, the names in it and whether it uses the
     alphabet; and the alphabet."""
-    found, lexicons, alphabet = {}, {}, set()
+    found, lexicons, grammars, alphabet = {}, {}, {}, set()
     for line in lines_of(files['project']):
         words = line.split()
         if words[0] == 'alphabet':
             alphabet |= set(words[1:])
         elif words[0] == 'lexc':
             lexicons[words[1]] = [line.split() for line in lines_of(files[words[2]])]
+        elif words[0] == 'twolc':
+            grammars[words[1]] = grammar_of(files[words[2]])
         elif words[0] == 'xfst':
             text = ' '.join(lines_of(files[words[1]]))
             for name, body in re.findall(r'define +(\w+) +([^;]*) ;', text):
                 found[name] = re.findall(r'\{\w+\}|->|\.o\.|[A-Za-z]\w*|0|\S', body)
-    names = set(found) | set(lexicons)
+    names = set(found) | set(lexicons) | set(grammars)
     definitions = {}
     for name, tokens in found.items():
         body = [('name' if token in names else 'text', token) for token in tokens]
@@ -140,6 +181,9 @@ def meaning_of(files):
             if words[0] not in ('LEXICON', '#'):
                 alphabet |= set(words[0]) - {':', '0'}
         definitions[name] = (lines, set(), False)
+    for name, statements in grammars.items():
+        alphabet |= symbols_of(statements)
+        definitions[name] = (statements, set(), False)
     return definitions, alphabet
 
 
@@ -190,13 +234,14 @@ class Walk:
 
 def walk(program, edits, seed, folder):
     draw = random.Random(seed)
-    files = {'project': joined(MANIFESTS[0]), 'r.xfst': 'define A a b ;\n', 's.xfst': 'define B A c ;\n', 'l.lexc': 'LEXICON Root\nab # ;\n'}
+    files = {'project': joined(MANIFESTS[0]), 'r.xfst': 'define A a b ;\n', 's.xfst': 'define B A c ;\n', 'l.lexc': 'LEXICON Root\nab # ;\n',
+             'g.twolc': 'Alphabet a b c a:b ;\nRules\n"r" a:b => _ c ;\n'}
     walk = Walk(program, folder)
     walk.write(files)
     accepted = refused = 0
     with subprocess.Popen([program, 'serve', folder], stdin=subprocess.PIPE, stdout=subprocess.PIPE, text=True) as serve:
         first = serve.stdout.readline()
-        if first != 'ok 1 rebuilt A B Lex\n':
+        if first != 'ok 1 rebuilt A B Lex Two\n':
             return 'the first line is %r' % first
         meaning = meaning_of(files)
         for number in range(edits):

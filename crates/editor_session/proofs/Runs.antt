@@ -10,7 +10,7 @@ use Rattle.fsm_io.proofs.Cuts.{raw_lines-within}
 use Rattle.project_meaning.specs.Projects.{Defines}
 use Rattle.project_sources.specs.Edits.{Version}
 use Rattle.project_sources.specs.Faults.{rows_so_far}
-use Rattle.project_sources.specs.Laws.{readers_so_far}
+use Rattle.project_sources.specs.Laws.{all_readers}
 use Rattle.reply_text.specs.Projects.{accepted_line}
 use Rattle.reply_meaning.specs.declared.ending.Ending.{Ending}
 use Rattle.reply_meaning.specs.declared.ending.Ending.TheVariants.{Finished, WriteFailed, ReadFailed, Spent}
@@ -142,12 +142,12 @@ module _ (loaded present next : Version) (budget : ℕ) (left0 left1 left held0 
 
   replies_more : AreRepliesSofar loaded (s.orders ++ a.order ∷ []) (s.replies ++ reply) (s.made ++ option_to_list made) next
   replies_more later rest more h =
-      let inner : AreReplies readers_so_far rows_so_far present (a.order ∷ later) (reply ++ rest) (option_to_list made ++ more) =
-      (reply, rest, made, more, refl, refl, a.is_for present reply made replies, subst (λ (v : Version). AreReplies readers_so_far rows_so_far v later rest more) next_is h) in
+      let inner : AreReplies all_readers rows_so_far present (a.order ∷ later) (reply ++ rest) (option_to_list made ++ more) =
+      (reply, rest, made, more, refl, refl, a.is_for present reply made replies, subst (λ (v : Version). AreReplies all_readers rows_so_far v later rest more) next_is h) in
       let outer = s.are_replies (a.order ∷ later) (reply ++ rest) (option_to_list made ++ more) inner in
-      subst (λ (l : List Order). AreReplies readers_so_far rows_so_far loaded l ((s.replies ++ reply) ++ rest) ((s.made ++ option_to_list made) ++ more)) (sym (append_assoc s.orders (a.order ∷ []) later))
-      (subst (λ (l : List ℕ). AreReplies readers_so_far rows_so_far loaded (s.orders ++ (a.order ∷ later)) l ((s.made ++ option_to_list made) ++ more)) (sym (append_assoc s.replies reply rest))
-      (subst (λ (l : List Version). AreReplies readers_so_far rows_so_far loaded (s.orders ++ (a.order ∷ later)) (s.replies ++ (reply ++ rest)) l) (sym (append_assoc s.made (option_to_list made) more)) outer))
+      subst (λ (l : List Order). AreReplies all_readers rows_so_far loaded l ((s.replies ++ reply) ++ rest) ((s.made ++ option_to_list made) ++ more)) (sym (append_assoc s.orders (a.order ∷ []) later))
+      (subst (λ (l : List ℕ). AreReplies all_readers rows_so_far loaded (s.orders ++ (a.order ∷ later)) l ((s.made ++ option_to_list made) ++ more)) (sym (append_assoc s.replies reply rest))
+      (subst (λ (l : List Version). AreReplies all_readers rows_so_far loaded (s.orders ++ (a.order ∷ later)) (s.replies ++ (reply ++ rest)) l) (sym (append_assoc s.made (option_to_list made) more)) outer))
 
   pub sofar_more : Appends held1 held reply → Sofar loaded next budget left0 left held0 held new
   sofar_more appended = record {

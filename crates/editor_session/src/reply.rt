@@ -7,7 +7,7 @@ ghost use Rattle.fsm_io.specs.Sinks.{WritesAll};
 ghost use Rattle.project_edits.specs.Applied.{edit_of};
 ghost use Rattle.project_sources.specs.Edits.{Version as Meant};
 ghost use Rattle.project_sources.specs.Faults.{rows_so_far};
-ghost use Rattle.project_sources.specs.Laws.{readers_so_far};
+ghost use Rattle.project_sources.specs.Laws.{all_readers};
 ghost use Rattle.project_versions.specs.Versions.{Stands};
 ghost use Rattle.editor_meaning.specs.Editing.{RepliesToEdit};
 ghost use Rattle.reply_meaning.specs.Replies.{RepliesToWord, headed, line_of};
@@ -77,7 +77,7 @@ fn reply_to_error(alloc: Global, error: EditError) -> Reply
 /// The reply to an edit. The version that it makes stands in the place of the one before, which else stays.
 fn reply_to_edit(alloc: Global, version: &mut Version, change: &Edit) -> Reply
     ensures { (present : Meant) → Stands version.old present → (next : Meant) × (new : Option Meant) × Stands version.new next × (next ≡ unwrap_or new present)
-        × RepliesToEdit readers_so_far rows_so_far present (edit_of change.now) (bytes_of result) new }
+        × RepliesToEdit all_readers rows_so_far present (edit_of change.now) (bytes_of result) new }
 {
     match edit(alloc, version, change) {
         Ok(edited) => match accepted(alloc, edited.version.number(), &edited.rebuilt) {

@@ -1,5 +1,5 @@
 -- How a run ends, by what it did, and what follows of its status.
-use Rattle.std.proofs.Common.{◌≡◌, ◌≢◌, ◌⊎◌, ℕ, List, Option, Some, None, Ok, Err, Result, length, refl, sym, ap, subst, ◌∙◌, inl, inr, arith}
+use Rattle.std.proofs.Common.{◌≡◌, ◌≢◌, ◌⊎◌, ℕ, List, Option, Some, None, Ok, Err, IfOk, Result, length, refl, sym, ap, subst, ◌∙◌, inl, inr, arith}
 use Rattle.std.specs.Io.KnownBytes.{Consumes}
 use Rattle.fsm_io.specs.Folders.{Files, Told, IsTold}
 use Rattle.fsm_io.specs.Reading.{LinesView, at_start}
@@ -7,27 +7,37 @@ use Rattle.regex_ast.specs.declared.fault.Fault.{Fault}
 use Rattle.reply_meaning.specs.declared.ending.Ending.{Ending}
 use Rattle.reply_meaning.specs.declared.ending.Ending.TheVariants.{Finished, WriteFailed, ReadFailed, Spent}
 use Rattle.project_meaning.specs.Projects.{Project}
+use Rattle.interlinear.specs.Glosses.{Entry}
+use Rattle.interlinear.specs.Replies.{GlossesLine}
+use Rattle.lookup_answers.specs.declared.direction.Direction.{Direction}
 use Rattle.reply_meaning.specs.Replies.{Replies}
 use Rattle.project_sources.specs.Edits.{Version}
 use Rattle.project_sources.specs.Sources.{Said, project_in}
 use Rattle.project_sources.specs.Faults.{rows_so_far}
-use Rattle.project_sources.specs.Laws.{readers_so_far}
-use Rattle.project_sources.proofs.Once.{one_answer, exact_so_far}
+use Rattle.project_sources.specs.Laws.{all_readers}
+use Rattle.project_sources.proofs.Once.{one_answer, all_exact}
+use Rattle.project_sources.proofs.Glossing.{one_table, some_table}
 use Rattle.project_store.specs.Loaded.{AreNames, IsLoadedFrom, LoadedView}
 use Rattle.reply_text.specs.Projects.{accepted_line, refused_line}
-use Rattle.fsm_program.specs.Ends.{Ends, Asked, for_check, for_look, for_serve, for_help, Loads, Query, no_words, helped, refused, folder_failed, no_memory, checked, answered, served, IsAnswered, IsServed, IsNotLoaded, IsWhyUnread, usage_text, status_of}
+use Rattle.fsm_program.specs.Ends.{Ends, Asked, for_check, for_look, for_help, Loads, Query, no_words, helped, refused, folder_failed, no_memory, checked, answered, IsAnswered, IsNotLoaded, IsWhyUnread, usage_text, status_of, glosses_in, words_in, for_serve, served, IsServed}
 use Rattle.fsm_program.specs.Outside.{Outside, ReadNothing, WroteNothing, Wrote, FolderFailed, IsSaid}
 use Rattle.fsm_program.specs.Files.{IsLoaded, IsLoadError, most_read}
-use Rattle.project_store.specs.Projects.{Reads}
+use Rattle.project_store.specs.Projects.{HasTable, Reads}
 use Rattle.project_sources.specs.Limits.{most_bytes}
 use Rattle.fsm_program.specs.Running.{most_taken}
 use Rattle.fsm_program.specs.Serving.{IsFirstVersion}
 use Rattle.editor_session.specs.Sessions.{HasEdited}
+use Rattle.fsm_program.specs.Tasks.{RepliesToLine}
 use Rattle.fsm_program.specs.declared.load.LoadError.{LoadError}
 use Rattle.fsm_program.specs.declared.words.WordsError.{WordsError}
 use Rattle.fsm_program.specs.declared.words.WordsError.TheVariants as unread
 use Rattle.fsm_program.specs.declared.words.WordsError.TheVariants.{Usage}
 use Rattle.fsm_program.specs.declared.load.LoadError.TheVariants.{Failed, Memory, Refused}
+
+-- what follows of a value follows of it where it is an answer
+pub if_ok : {A E : Type 0} (P Q : A → Type 0) → ((a : A) → P a → Q a) → (r : Result A E) → IfOk r P → IfOk r Q
+if_ok P Q so (Ok a) h = so a h
+if_ok P Q so (Err e) h = tt
 
 pub most_read_is : 1048577 ≡ most_read
 unfolding most_read most_bytes
@@ -61,16 +71,18 @@ ends_unread version asked (unread.Memory memory) before after status (query, is)
 -- the names of a project were written, or there was no memory for them
 pub ends_checked : (version : ℕ) (before after : Outside) (status : ℕ) (loaded : LoadedView) → IsLoaded loaded before.files → ReadNothing before after → (status ≡ 5 → WroteNothing before after)
     → ((said : Said) → IsLoadedFrom said loaded → ((names : List (List ℕ)) × AreNames (project_in said) names × Wrote before after (accepted_line version names) 0 status) ⊎ (status ≡ 5)) → Ends version (Some for_check) before after status
-ends_checked version before after status loaded (said, from, told) unread unwritten written =
+ends_checked version before after status loaded (said, from, told, glosses) unread unwritten written =
     elim (written said from) as (λ _. Ends version (Some for_check) before after status) [
       | inl (names, are, line) ↦ checked (project_in said) names refl told are unread line
       | inr is ↦ no_memory for_check refl tt unread (unwritten is) is
     ]
 
-pub ends_answered : (version : ℕ) (query : Query) (before after : Outside) (status : ℕ) (loaded : LoadedView) (name : List ℕ) → IsLoaded loaded before.files → name ≡ query.net
-    → ((said : Said) → IsLoadedFrom said loaded → IsAnswered (Replies (project_in said) query.direction version name) before after status) → Ends version (Some (for_look query)) before after status
-ends_answered version query before after status loaded name (said, from, told) is answers =
-    answered query (project_in said) refl told (subst (λ (n : List ℕ). IsAnswered (Replies (project_in said) query.direction version n) before after status) is (answers said from))
+pub ends_answered : (version : ℕ) (query : Query) (before after : Outside) (status : ℕ) (loaded : LoadedView) (name : List ℕ) (table : List Entry) → IsLoaded loaded before.files → name ≡ query.net → table ≡ loaded.glosses
+    → ((said : Said) → IsLoadedFrom said loaded → IsAnswered (RepliesToLine query.task (project_in said) table version name) before after status) → Ends version (Some (for_look query)) before after status
+ends_answered version query before after status loaded name table (said, from, told, glosses) is same answers =
+    answered query (project_in said) loaded.glosses refl told glosses
+    (subst (λ (t : List Entry). IsAnswered (RepliesToLine query.task (project_in said) t version query.net) before after status) same
+    (subst (λ (n : List ℕ). IsAnswered (RepliesToLine query.task (project_in said) table version n) before after status) is (answers said from)))
 
 -- the commands were answered from a version on, or there was no memory for the first line
 pub ends_served : (version : ℕ) (before after : Outside) (status : ℕ) (loaded : Version) → Told before.files (λ fs. Reads fs (Ok loaded.project)) × Told before.files (IsFirstVersion loaded)
@@ -85,7 +97,16 @@ ends_served version before after status loaded told nothing either =
 -- files say one thing
 one_told : (files : Option Files) (r q : Result Project Fault) → IsTold files (λ fs. Reads fs r) → Told files (λ fs. Reads fs q) → r ≡ q
 one_told None r q told other = absurd told
-one_told (Some fs) r q told other = one_answer readers_so_far exact_so_far fs rows_so_far r q told other
+one_told (Some fs) r q told other = one_answer all_readers all_exact fs rows_so_far r q told other
+
+one_table_told : (files : Option Files) (a b : List Entry) → IsTold files (λ fs. HasTable fs a) → Told files (λ fs. HasTable fs b) → a ≡ b
+one_table_told None a b told other = absurd told
+one_table_told (Some fs) a b told other = one_table all_readers all_exact fs a b told other
+
+-- those of a project have a table of glosses
+some_told : (files : Option Files) (project : Project) → IsTold files (λ fs. Reads fs (Ok project)) → (table : List Entry) × IsTold files (λ fs. HasTable fs table)
+some_told None project told = absurd told
+some_told (Some fs) project told = some_table all_readers fs rows_so_far project told
 
 same_fault : (a b : Fault) → ◌≡◌ {A = Result Project Fault} (Err a) (Err b) → a ≡ b
 same_fault a b e = cc
@@ -140,7 +161,7 @@ module _ {version : ℕ} {asked : Option Asked} {before after : Outside} {status
   unsaid (folder_failed what is loads rose l h s) e = asks_none asked what e is
   unsaid (no_memory what is loads l h s) e = asks_none asked what e is
   unsaid (checked project names is told are l said) e = asks_none asked for_check e is
-  unsaid (answered query project is told answers) e = asks_none asked (for_look query) e is
+  unsaid (answered query project table is told glosses answers) e = asks_none asked (for_look query) e is
   unsaid (served loaded is told serves) e = asks_none asked for_serve e is
 
   -- help
@@ -151,7 +172,7 @@ module _ {version : ℕ} {asked : Option Asked} {before after : Outside} {status
   help (folder_failed what is loads rose l h s) e = no_help asked what e is loads
   help (no_memory what is loads l h s) e = no_help asked what e is loads
   help (checked project names is told are l said) e = no_help asked for_check e is tt
-  help (answered query project is told answers) e = no_help asked (for_look query) e is tt
+  help (answered query project table is told glosses answers) e = no_help asked (for_look query) e is tt
   help (served loaded is told serves) e = no_help asked for_serve e is tt
 
   -- a project with a fault
@@ -164,7 +185,7 @@ module _ {version : ℕ} {asked : Option Asked} {before after : Outside} {status
   refusal (folder_failed what' is loads' rose l h s) what fault e loads told whole = absurd (whole rose)
   refusal (no_memory what' is loads' l h s) what fault e loads told whole = inr s
   refusal (checked project names is told' are l said) what fault e loads told whole = no_fault fault project (one_told before.files (Err fault) (Ok project) told told')
-  refusal (answered query project is told' answers) what fault e loads told whole = no_fault fault project (one_told before.files (Err fault) (Ok project) told told')
+  refusal (answered query project table is told' glosses answers) what fault e loads told whole = no_fault fault project (one_told before.files (Err fault) (Ok project) told told')
   refusal (served loaded is told' serves) what fault e loads told whole = no_fault fault loaded.project (one_told before.files (Err fault) (Ok loaded.project) told told')
 
   -- a project without, of which the names were asked for
@@ -177,22 +198,32 @@ module _ {version : ℕ} {asked : Option Asked} {before after : Outside} {status
   check (no_memory what' is loads' l h s) project e told whole = inr s
   check (checked project' names is told' are l said) project e told whole =
       inl (names, subst (λ (p : Project). AreNames p names) (sym (same_project project project' (one_told before.files (Ok project) (Ok project') told told'))) are, said)
-  check (answered query project' is told' answers) project e told whole = check_look asked query e is
+  check (answered query project' table is told' glosses answers) project e told whole = check_look asked query e is
   check (served loaded is told' serves) project e told whole = check_serve asked e is
 
   -- a project without, in which lines were looked up
-  pub answer : Ends version asked before after status → (query : Query) (project : Project) → asked ≡ Some (for_look query) → IsTold before.files (λ fs. Reads fs (Ok project)) → (FolderFailed before after → ⊥)
-      → IsAnswered (Replies project query.direction version query.net) before after status ⊎ (status ≡ 5)
-  answer (no_words none l said) query project e told whole = asks_none asked (for_look query) none e
-  answer (helped is l said) query project e told whole = no_help asked (for_look query) is e tt
-  answer (refused what' fault' is loads' told' held l said) query project e told whole = no_fault fault' project (sym (one_told before.files (Ok project) (Err fault') told told'))
-  answer (folder_failed what' is loads' rose l h s) query project e told whole = absurd (whole rose)
-  answer (no_memory what' is loads' l h s) query project e told whole = inr s
-  answer (checked project' names is told' are l said) query project e told whole = check_look asked query is e
-  answer (answered query' project' is told' answers) query project e told whole =
-      inl (subst (λ (p : Project). IsAnswered (Replies p query.direction version query.net) before after status) (sym (same_project project project' (one_told before.files (Ok project) (Ok project') told told')))
-      (subst (λ (q : Query). IsAnswered (Replies project' q.direction version q.net) before after status) (same_query asked query' query is e) answers))
-  answer (served loaded is told' serves) query project e told whole = look_serve asked query e is
+  answer : Ends version asked before after status → (query : Query) (project : Project) (table : List Entry) → asked ≡ Some (for_look query) → IsTold before.files (λ fs. Reads fs (Ok project)) → IsTold before.files (λ fs. HasTable fs table)
+      → (FolderFailed before after → ⊥) → IsAnswered (RepliesToLine query.task project table version query.net) before after status ⊎ (status ≡ 5)
+  answer (no_words none l said) query project table e told glosses whole = asks_none asked (for_look query) none e
+  answer (helped is l said) query project table e told glosses whole = no_help asked (for_look query) is e tt
+  answer (refused what' fault' is loads' told' held l said) query project table e told glosses whole = no_fault fault' project (sym (one_told before.files (Ok project) (Err fault') told told'))
+  answer (folder_failed what' is loads' rose l h s) query project table e told glosses whole = absurd (whole rose)
+  answer (no_memory what' is loads' l h s) query project table e told glosses whole = inr s
+  answer (checked project' names is told' are l said) query project table e told glosses whole = check_look asked query is e
+  answer (answered query' project' table' is told' glosses' answers) query project table e told glosses whole =
+      inl (subst (λ (p : Project). IsAnswered (RepliesToLine query.task p table version query.net) before after status) (sym (same_project project project' (one_told before.files (Ok project) (Ok project') told told')))
+      (subst (λ (t : List Entry). IsAnswered (RepliesToLine query.task project' t version query.net) before after status) (sym (one_table_told before.files table table' glosses glosses'))
+      (subst (λ (q : Query). IsAnswered (RepliesToLine q.task project' table' version q.net) before after status) (same_query asked query' query is e) answers)))
+  answer (served loaded is told' serves) query project table e told glosses whole = look_serve asked query e is
+
+  -- the two tasks of look-ups
+  pub look : Ends version asked before after status → (direction : Direction) (net : List ℕ) (project : Project) → asked ≡ Some (for_look (words_in direction net)) → IsTold before.files (λ fs. Reads fs (Ok project)) → (FolderFailed before after → ⊥)
+      → IsAnswered (Replies project direction version net) before after status ⊎ (status ≡ 5)
+  look ends direction net project e told whole = let some = some_told before.files project told in answer ends (words_in direction net) project some.0 e told some.1 whole
+
+  pub gloss : Ends version asked before after status → (net : List ℕ) (project : Project) (table : List Entry) → asked ≡ Some (for_look (glosses_in net)) → IsTold before.files (λ fs. Reads fs (Ok project)) → IsTold before.files (λ fs. HasTable fs table)
+      → (FolderFailed before after → ⊥) → IsAnswered (GlossesLine project table version net) before after status ⊎ (status ≡ 5)
+  gloss ends net project table e told glosses whole = answer ends (glosses_in net) project table e told glosses whole
 
   -- a project without, whose commands were answered
   pub serve : Ends version asked before after status → (project : Project) → asked ≡ Some for_serve → IsTold before.files (λ fs. Reads fs (Ok project)) → (FolderFailed before after → ⊥)
@@ -203,7 +234,7 @@ module _ {version : ℕ} {asked : Option Asked} {before after : Outside} {status
   serve (folder_failed what' is loads' rose l h s) project e told whole = absurd (whole rose)
   serve (no_memory what' is loads' l h s) project e told whole = inr s
   serve (checked project' names is told' are l said) project e told whole = check_serve asked is e
-  serve (answered query project' is told' answers) project e told whole = look_serve asked query is e
+  serve (answered query project' table is told' glosses answers) project e told whole = look_serve asked query is e
   serve (served loaded is told' serves) project e told whole = inl (loaded, sym (same_project project loaded.project (one_told before.files (Ok project) (Ok loaded.project) told told')), serves)
 
   -- with no failure and bytes left to take, all was done or there was no memory
@@ -219,7 +250,7 @@ module _ {version : ℕ} {asked : Option Asked} {before after : Outside} {status
 
       by : (what : Asked) → asked ≡ Some what → Loads what → (status ≡ 0) ⊎ (status ≡ 5)
       by for_check e loads = elim (check ends project e told whole) as (λ _. (status ≡ 0) ⊎ (status ≡ 5)) [ inl (names, are, said) ↦ inl (said_whole before.output after.output said four written) | inr five ↦ inr five ]
-      by (for_look query) e loads = elim (answer ends query project e told whole) as (λ _. (status ≡ 0) ⊎ (status ≡ 5)) [ inl (ending, s, a) ↦ by_ending ending s | inr five ↦ inr five ]
+      by (for_look query) e loads = elim (let some = some_told before.files project told in answer ends query project some.0 e told some.1 whole) as (λ _. (status ≡ 0) ⊎ (status ≡ 5)) [ inl (ending, s, a) ↦ by_ending ending s | inr five ↦ inr five ]
       by for_serve e loads = elim (serve ends project e told whole) as (λ _. (status ≡ 0) ⊎ (status ≡ 5)) [ inl (loaded, same, (first, (ending, s, a))) ↦ by_ending ending s | inr five ↦ inr five ]
       by for_help e loads = absurd loads
 
@@ -231,7 +262,7 @@ module _ {version : ℕ} {asked : Option Asked} {before after : Outside} {status
   usage_cause (folder_failed what is loads rose l h s) e = absurd (omega (arith, s, e))
   usage_cause (no_memory what is loads l h s) e = absurd (omega (arith, s, e))
   usage_cause (checked project names is told are l said) e = said_other before.output after.output said e (λ z. omega (arith, z)) (λ z. omega (arith, z))
-  usage_cause (answered query project is told (ending, s, a)) e = answered_other ending 1 s e (inl refl)
+  usage_cause (answered query project table is told glosses (ending, s, a)) e = answered_other ending 1 s e (inl refl)
   usage_cause (served loaded is told (first, (ending, s, a))) e = answered_other ending 1 s e (inl refl)
 
   -- 2 for a project with a fault
@@ -242,7 +273,7 @@ module _ {version : ℕ} {asked : Option Asked} {before after : Outside} {status
   fault_cause (folder_failed what is loads rose l h s) e = absurd (omega (arith, s, e))
   fault_cause (no_memory what is loads l h s) e = absurd (omega (arith, s, e))
   fault_cause (checked project names is told are l said) e = said_other before.output after.output said e (λ z. omega (arith, z)) (λ z. omega (arith, z))
-  fault_cause (answered query project is told (ending, s, a)) e = answered_other ending 2 s e (inr refl)
+  fault_cause (answered query project table is told glosses (ending, s, a)) e = answered_other ending 2 s e (inr refl)
   fault_cause (served loaded is told (first, (ending, s, a))) e = answered_other ending 2 s e (inr refl)
 
   -- and 6 where so many bytes were taken
@@ -253,10 +284,10 @@ module _ {version : ℕ} {asked : Option Asked} {before after : Outside} {status
   spent_cause (folder_failed what is loads rose l h s) e = absurd (omega (arith, s, e))
   spent_cause (no_memory what is loads l h s) e = absurd (omega (arith, s, e))
   spent_cause (checked project names is told are l said) e = said_other before.output after.output said e (λ z. omega (arith, z)) (λ z. omega (arith, z))
-  spent_cause (answered query project is told (Spent, s, a)) e = (a.taken, a.consumed, a.spends refl)
-  spent_cause (answered query project is told (Finished, s, a)) e = absurd (omega (arith, s, e))
-  spent_cause (answered query project is told (WriteFailed, s, a)) e = absurd (omega (arith, s, e))
-  spent_cause (answered query project is told (ReadFailed, s, a)) e = absurd (omega (arith, s, e))
+  spent_cause (answered query project table is told glosses (Spent, s, a)) e = (a.taken, a.consumed, a.spends refl)
+  spent_cause (answered query project table is told glosses (Finished, s, a)) e = absurd (omega (arith, s, e))
+  spent_cause (answered query project table is told glosses (WriteFailed, s, a)) e = absurd (omega (arith, s, e))
+  spent_cause (answered query project table is told glosses (ReadFailed, s, a)) e = absurd (omega (arith, s, e))
   spent_cause (served loaded is told (first, (Spent, s, a))) e = (a.taken, a.consumed, a.spends refl)
   spent_cause (served loaded is told (first, (Finished, s, a))) e = absurd (omega (arith, s, e))
   spent_cause (served loaded is told (first, (WriteFailed, s, a))) e = absurd (omega (arith, s, e))

@@ -4,4 +4,5 @@ pub mod Loading
 pub mod Gathering
 pub mod Runs
 pub mod Sending
+pub mod Tasks
 pub mod Unread

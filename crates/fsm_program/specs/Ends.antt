@@ -10,16 +10,20 @@ use Rattle.fsm_base.specs.Normal.{nfc_of}
 use Rattle.project_meaning.specs.Projects.{Project}
 use Rattle.project_sources.specs.Edits.{Version}
 use Rattle.editor_session.specs.Sessions.{HasEdited}
+use Rattle.interlinear.specs.Glosses.{Entry}
 use Rattle.lookup_answers.specs.declared.direction.Direction.{Direction}
 use Rattle.lookup_answers.specs.declared.direction.Direction.TheVariants.{Up, Down}
-use Rattle.reply_meaning.specs.Replies.{Replies, line_of}
+use Rattle.reply_meaning.specs.Replies.{line_of}
 use Rattle.reply_meaning.specs.Transcripts.{HasAnswered, WithoutState}
 use Rattle.project_store.specs.Loaded.{AreNames}
 use Rattle.reply_text.specs.Projects.{accepted_line, refused_line}
-use Rattle.project_store.specs.Projects.{Reads}
+use Rattle.project_store.specs.Projects.{HasTable, Reads}
 use Rattle.fsm_program.specs.Outside.{Outside, ReadNothing, WroteNothing, Wrote, FolderFailed, IsSaid}
+use Rattle.fsm_program.specs.Tasks.{RepliesToLine}
 use Rattle.fsm_program.specs.declared.load.LoadError.{LoadError}
 use Rattle.fsm_program.specs.declared.load.LoadError.TheVariants.{Failed, Memory, Refused}
+use Rattle.fsm_program.specs.declared.look_up.Task.{Task}
+use Rattle.fsm_program.specs.declared.look_up.Task.TheVariants.{Words, Glosses}
 use Rattle.fsm_program.specs.declared.words.Command.{Command}
 use Rattle.fsm_program.specs.declared.words.Command.TheVariants as commands
 use Rattle.fsm_program.specs.declared.words.WordsError.{WordsError}
@@ -27,10 +31,17 @@ use Rattle.fsm_program.specs.declared.words.WordsError.TheVariants as unread
 use Rattle.fsm_program.specs.Running.{most_taken}
 use Rattle.fsm_program.specs.Serving.{IsFirstVersion}
 
--- what is looked up: in which direction, and in which name, in Normalization Form C
+-- what is done with the lines of the input, and in which name they are looked up, in Normalization Form C
 pub record Query : Type 0 where
-  pub direction : Direction
+  pub task : Task
   pub net : List ℕ
+
+-- lines are words, or texts that are glossed
+abbrev pub words_in : Direction → List ℕ → Query
+words_in direction net = record { task = Words direction; net = net }
+
+abbrev pub glosses_in : List ℕ → Query
+glosses_in net = record { task = Glosses; net = net }
 
 -- what the words ask for
 pub data Asked : Type 0 where
@@ -39,26 +50,31 @@ pub data Asked : Type 0 where
   for_serve : Asked
   for_help : Asked
 
--- the direction of a command
-abbrev pub direction_of : List ℕ → Option Direction
-direction_of command = if bytes_eq command (codes "up") then Some Up else if bytes_eq command (codes "down") then Some Down else None
+-- what a command does with the lines
+abbrev pub task_of : List ℕ → Option Task
+task_of command =
+    if bytes_eq command (codes "up") then Some (Words Up)
+    else if bytes_eq command (codes "down") then Some (Words Down)
+    else if bytes_eq command (codes "gloss") then Some Glosses
+    else None
 
 -- `help`, `-h` or `--help`
 abbrev pub is_help : List ℕ → Bool
 is_help word = bytes_eq word (codes "help") || (bytes_eq word (codes "-h") || bytes_eq word (codes "--help"))
 
--- `check DIR`, `up DIR NET`, `down DIR NET`, `serve DIR` or `help`; other words are in no form
+-- `check DIR`, `up DIR NET`, `down DIR NET`, `gloss DIR NET`, `serve DIR` or `help`; other words are in no form
 abbrev pub asked_of : List (List ℕ) → Option Asked
 asked_of (word ∷ []) = if is_help word then Some for_help else None
 asked_of (command ∷ dir ∷ []) = if bytes_eq command (codes "check") then Some for_check else if bytes_eq command (codes "serve") then Some for_serve else None
-asked_of (command ∷ dir ∷ net ∷ []) = option_map (λ direction. for_look (record { direction = direction; net = nfc_of net })) (direction_of command)
+asked_of (command ∷ dir ∷ net ∷ []) = option_map (λ task. for_look (record { task = task; net = nfc_of net })) (task_of command)
 asked_of _ = None
 
 -- what a command asks for
 abbrev pub asked_by : Command → Asked
 asked_by commands.Check = for_check
-asked_by (commands.Up net) = for_look (record { direction = Up; net = net })
-asked_by (commands.Down net) = for_look (record { direction = Down; net = net })
+asked_by (commands.Up net) = for_look (words_in Up net)
+asked_by (commands.Down net) = for_look (words_in Down net)
+asked_by (commands.Gloss net) = for_look (glosses_in net)
 asked_by commands.Serve = for_serve
 asked_by commands.Help = for_help
 
@@ -75,7 +91,7 @@ Loads for_serve = Unit {0}
 Loads for_help = ⊥
 
 abbrev pub usage_text : List ℕ
-usage_text = line_of (codes "check DIR") ++ line_of (codes "up DIR NET") ++ line_of (codes "down DIR NET") ++ line_of (codes "serve DIR") ++ line_of (codes "help")
+usage_text = line_of (codes "check DIR") ++ line_of (codes "up DIR NET") ++ line_of (codes "down DIR NET") ++ line_of (codes "gloss DIR NET") ++ line_of (codes "serve DIR") ++ line_of (codes "help")
 
 abbrev pub status_of : Ending → ℕ
 status_of Finished = 0
@@ -104,8 +120,8 @@ pub data Ends (version : ℕ) (asked : Option Asked) (before after : Outside) (s
   no_memory : (what : Asked) → asked ≡ Some what → Loads what → ReadNothing before after → WroteNothing before after → status ≡ 5 → Ends version asked before after status
   checked : (project : Project) (names : List (List ℕ)) → asked ≡ Some for_check → Told before.files (λ files. Reads files (Ok project)) → AreNames project names → ReadNothing before after
       → Wrote before after (accepted_line version names) 0 status → Ends version asked before after status
-  answered : (query : Query) (project : Project) → asked ≡ Some (for_look query) → Told before.files (λ files. Reads files (Ok project))
-      → IsAnswered (Replies project query.direction version query.net) before after status → Ends version asked before after status
+  answered : (query : Query) (project : Project) (table : List Entry) → asked ≡ Some (for_look query) → Told before.files (λ files. Reads files (Ok project)) → Told before.files (λ files. HasTable files table)
+      → IsAnswered (RepliesToLine query.task project table version query.net) before after status → Ends version asked before after status
   served : (loaded : Version) → asked ≡ Some for_serve → Told before.files (λ files. Reads files (Ok loaded.project)) → IsServed loaded before after status → Ends version asked before after status
 
 -- how a run ends whose project isn't loaded

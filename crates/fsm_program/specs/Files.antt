@@ -8,7 +8,7 @@ use Rattle.project_sources.specs.Sources.{Said, project_in}
 use Rattle.project_sources.specs.Limits.{most_bytes}
 use Rattle.project_model.specs.Answers.{IsManifestFile}
 use Rattle.project_store.specs.Loaded.{LoadedView, IsLoadedFrom}
-use Rattle.project_store.specs.Projects.{Reads}
+use Rattle.project_store.specs.Projects.{HasTable, Reads}
 use Rattle.project_store.specs.declared.store_error.StoreError.{StoreError}
 use Rattle.project_store.specs.declared.store_error.StoreError.TheVariants as store
 use Rattle.fsm_program.specs.declared.load.LoadError.{LoadError}
@@ -60,6 +60,7 @@ abbrev pub load_error : StoreError → LoadError
 load_error (store.Memory refused) = Memory refused
 load_error (store.Refused fault) = Refused fault
 
--- what was loaded is the project that the files are
+-- what was loaded is the project that the files are, with their glosses
 abbrev pub IsLoaded : LoadedView → Option Files → Type 0
-IsLoaded loaded files = (said : Said) × IsLoadedFrom said loaded × Told files (λ files. Reads files (Ok (project_in said)))
+IsLoaded loaded files =
+    (said : Said) × IsLoadedFrom said loaded × Told files (λ files. Reads files (Ok (project_in said))) × Told files (λ files. HasTable files loaded.glosses)

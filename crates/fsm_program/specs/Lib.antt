@@ -1,6 +1,7 @@
 pub mod Sending
 pub mod Running
 pub mod Steps
+pub mod Tasks
 pub mod Files
 pub mod Gathered
 pub mod Outside

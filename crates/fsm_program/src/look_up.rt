@@ -4,10 +4,11 @@ ghost use Rattle.fsm_io.specs.Causes.{HasCause};
 ghost use Rattle.fsm_io.specs.Lines.{most_line};
 ghost use Rattle.fsm_io.specs.Sinks.{Gathers};
 ghost use Rattle.project_meaning.specs.Projects.{Project};
-ghost use Rattle.reply_meaning.specs.Replies.{Replies, RepliesToWord, headed};
+ghost use Rattle.reply_meaning.specs.Replies.{headed};
 ghost use Rattle.reply_text.specs.Heads.{head_word};
 ghost use Rattle.project_store.specs.Networks.{Shows};
 ghost use Rattle.fsm_program.specs.Sending.{Sends};
+ghost use Rattle.fsm_program.specs.Tasks.{RepliesToLine, RepliesToText};
 
 use fsm_base::nfc;
 use fsm_io::{Failed, Outbox, Sink};
@@ -18,13 +19,22 @@ use reply_text::{Head, short};
 use std::alloc::{AllocError, Global};
 use std::str;
 
-/// What lines are looked up in: a name's network, one way or the other, at a version of the project.
+/// What is done with each line.
+#[derive(Clone, Copy, Debug, PartialEq, Eq)]
+pub enum Task {
+    /// It is a word, of which the words in this direction are told.
+    Words(Direction),
+    /// It is a text whose words are glossed.
+    Glosses,
+}
+
+/// What lines are looked up in: a name's network, and what is done with each, at a version of the project.
 #[derive(Drop)]
 pub struct LookUp {
     /// The name, and its network if the project defines it.
     pub network: Network,
-    /// Which words a look-up gives.
-    pub direction: Direction,
+    /// What is done with each line.
+    pub task: Task,
     /// The version's number, which every reply names.
     pub version: u64,
 }
@@ -45,14 +55,18 @@ impl LookUp {
         outbox.put(output, &buf[..end])
     }
 
-    /// The reply to a word, which is put into Normalization Form C first.
-    fn reply_to_word(&self, alloc: Global, word: &str) -> Result<Vec<u8>, AllocError>
-        requires { length word.now ≤ most_line }
-        ensures { (project : Project) → Shows self.now.network project → IfOk result (λ bytes. RepliesToWord project self.now.direction self.now.version self.now.network.name (nfc_of word.now) bytes.items) }
+    /// The reply to the text of a line, which is put into Normalization Form C first.
+    fn reply_to_text(&self, alloc: Global, text: &str) -> Result<Vec<u8>, AllocError>
+        requires { length text.now ≤ most_line }
+        ensures { (project : Project) → Shows self.now.network project → IfOk result (λ bytes. RepliesToText self.now.task project self.now.network.glosses self.now.version self.now.network.name (nfc_of text.now) bytes.items) }
     {
-        let word = nfc(alloc, word)?;
-        self.network
-            .reply_to(alloc, self.direction, self.version, word.as_str())
+        let text = nfc(alloc, text)?;
+        match self.task {
+            Task::Words(direction) => self
+                .network
+                .reply_to(alloc, direction, self.version, text.as_str()),
+            Task::Glosses => self.network.gloss(alloc, self.version, text.as_str()),
+        }
     }
 
     /// Gathers the reply to a line that isn't long.
@@ -65,11 +79,11 @@ impl LookUp {
     ) -> Result<(), Failed>
         requires { length line.now ≤ most_line }
         ensures sends { (project : Project) → Shows self.now.network project
-            → Sends (Replies project self.now.direction self.now.version self.now.network.name (Some line.now)) (O.held output.old) (O.held output.new) outbox.old outbox.new result }
+            → Sends (RepliesToLine self.now.task project self.now.network.glosses self.now.version self.now.network.name (Some line.now)) (O.held output.old) (O.held output.new) outbox.old outbox.new result }
         ensures cause { HasCause (O.faults output.old) (O.faults output.new) result }
     {
         match str::from_utf8(without_return(line)) {
-            Ok(word) => match self.reply_to_word(alloc, word) {
+            Ok(text) => match self.reply_to_text(alloc, text) {
                 Ok(bytes) => outbox.put(output, &bytes),
                 Err(_) => self.put_short(Head::Memory, outbox, output),
             },

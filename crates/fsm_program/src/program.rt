@@ -11,9 +11,9 @@ ghost use Rattle.reply_meaning.specs.Transcripts.{HasAnswered, WithoutState, fir
 ghost use Rattle.project_sources.specs.Sources.{Said, project_in};
 ghost use Rattle.project_store.specs.Loaded.{AreNames, IsLoadedFrom};
 ghost use Rattle.reply_text.specs.Projects.{accepted_line, refused_line};
-ghost use Rattle.fsm_program.specs.Ends.{Asked, Ends, IsNotLoaded, IsWhyUnread, Loads, Query, asked_by, asked_of, for_check, for_help, for_look, for_serve, status_of, usage_text};
+ghost use Rattle.fsm_program.specs.Ends.{Asked, Ends, IsNotLoaded, IsWhyUnread, Loads, Query, asked_by, asked_of, for_check, for_help, for_look, glosses_in, status_of, usage_text, words_in, for_serve};
 ghost use Rattle.fsm_program.specs.Files.{AskedForFiles};
-ghost use Rattle.project_store.specs.Projects.{Reads};
+ghost use Rattle.project_store.specs.Projects.{HasTable, Reads};
 ghost use Rattle.project_store.specs.Networks.{Shows};
 ghost use Rattle.fsm_program.specs.Outside.{IsSaid, outside};
 ghost use Rattle.fsm_program.specs.Running.{most_taken};
@@ -21,9 +21,12 @@ ghost use Rattle.fsm_program.specs.Serving.{IsFirstVersion};
 ghost use Rattle.editor_session.specs.Sessions.{HasEdited};
 ghost use Rattle.project_sources.specs.Edits.{Version as MeantVersion};
 ghost use Rattle.project_versions.specs.Versions.{Stands};
+ghost use Rattle.fsm_program.specs.Tasks.{RepliesToLine};
+ghost use Rattle.interlinear.specs.Glosses.{Entry};
+ghost use Rattle.interlinear.specs.Replies.{GlossesLine};
 
 use crate::load::{LoadError, load, load_version};
-use crate::look_up::LookUp;
+use crate::look_up::{LookUp, Task};
 use crate::session::Session;
 use crate::words::{Command, WordsError, read_words};
 use editor_session::edit_session;
@@ -38,7 +41,7 @@ use reply_text::{accepted, refused};
 use std::alloc::{AllocError, Global};
 
 /// What is written for help, and where the words are in no form.
-const USAGE: &[u8] = b"check DIR\nup DIR NET\ndown DIR NET\nserve DIR\nhelp\n";
+const USAGE: &[u8] = b"check DIR\nup DIR NET\ndown DIR NET\ngloss DIR NET\nserve DIR\nhelp\n";
 
 /// The number of the version that is loaded.
 const FIRST_VERSION: u64 = 1;
@@ -155,7 +158,7 @@ fn answered<I: Source, O: Sink>(
     requires empty { session.outbox ≡ [] }
     ensures answered { (project : Meant) → Shows session.look_up.network project
         → (ending : Ending) × (result ≡ status_of ending)
-        × HasAnswered (WithoutState (Replies project session.look_up.direction session.look_up.version session.look_up.network.name)) tt most_taken (I.left input.old) (I.left input.new) (O.held output.old) (O.held output.new) ending }
+        × HasAnswered (WithoutState (RepliesToLine session.look_up.task project session.look_up.network.glosses session.look_up.version session.look_up.network.name)) tt most_taken (I.left input.old) (I.left input.new) (O.held output.old) (O.held output.new) ending }
     ensures read { result ≡ 3 → Rose (I.faults input.old) (I.faults input.new) }
     ensures write { result ≡ 4 → Rose (O.faults output.old) (O.faults output.new) }
     ensures status { (result ≢ 1) × (result ≢ 2) × (result ≢ 5) }
@@ -167,13 +170,13 @@ fn answered<I: Source, O: Sink>(
 fn look_up<F: Folder, I: Source, O: Sink>(
     alloc: Global,
     version: u64,
-    direction: Direction,
+    task: Task,
     net: Text,
     folder: &mut F,
     input: &mut I,
     output: &mut O,
 ) -> u8
-    ensures ends { Ends version (Some (for_look (record { direction = direction; net = net }))) (outside (F.files folder.old) (F.faults folder.old) (I.left input.old) (I.faults input.old) (O.held output.old) (O.faults output.old)) (outside (F.files folder.new) (F.faults folder.new) (I.left input.new) (I.faults input.new) (O.held output.new) (O.faults output.new)) result }
+    ensures ends { Ends version (Some (for_look (record { task = task; net = net }))) (outside (F.files folder.old) (F.faults folder.old) (I.left input.old) (I.faults input.old) (O.held output.old) (O.faults output.old)) (outside (F.files folder.new) (F.faults folder.new) (I.left input.new) (I.faults input.new) (O.held output.new) (O.faults output.new)) result }
     ensures unread { (result ≡ 1) ⊎ (result ≡ 2) ⊎ (result ≡ 5) → input.new ≡ input.old }
     ensures unwritten { result ≡ 5 → output.new ≡ output.old }
     ensures read { result ≡ 3 → Rose (F.faults folder.old) (F.faults folder.new) ⊎ Rose (I.faults input.old) (I.faults input.new) }
@@ -194,7 +197,7 @@ fn look_up<F: Folder, I: Source, O: Sink>(
         Ok(network) => {
             let look_up = LookUp {
                 network,
-                direction,
+                task,
                 version,
             };
             let session = Session {
@@ -274,16 +277,17 @@ fn obey<F: Folder, I: Source, O: Sink>(
 {
     match command {
         Command::Check => check(alloc, version, folder, output),
-        Command::Up { net } => look_up(alloc, version, Direction::Up, net, folder, input, output),
-        Command::Down { net } => look_up(
-            alloc,
-            version,
-            Direction::Down,
-            net,
-            folder,
-            input,
-            output,
-        ),
+        Command::Up { net } => {
+            let task = Task::Words(Direction::Up);
+            look_up(alloc, version, task, net, folder, input, output)
+        }
+        Command::Down { net } => {
+            let task = Task::Words(Direction::Down);
+            look_up(alloc, version, task, net, folder, input, output)
+        }
+        Command::Gloss { net } => {
+            look_up(alloc, version, Task::Glosses, net, folder, input, output)
+        }
         Command::Serve => serve(alloc, version, folder, input, output),
         Command::Help => said(output, USAGE, 0),
     }
@@ -319,6 +323,8 @@ fn ended<F: Folder, I: Source, O: Sink>(
 /// - `up DIR NET` looks up each line of the input in the name NET of the folder's project, and writes
 ///   the reply with its upper words to the output.
 /// - `down DIR NET` does the same with its lower words.
+/// - `gloss DIR NET` looks up the words of each line of the input as `up` does, and writes them with their analyses and
+///   glosses in columns.
 /// - `serve DIR` writes `ok 1 rebuilt` with the names of the folder's project, and answers the commands of the input, which look up
 ///   words and edit the project's files.
 /// - `help`, `-h` and `--help` write these forms.
@@ -348,8 +354,10 @@ pub fn run<F: Folder, I: Source, O: Sink>(
         → IsSaid (O.held output.old) (O.held output.new) (refused_line fault) 2 result ⊎ (result ≡ 5) }
     ensures checked { (project : Meant) → asked_of (map string_bytes words.now) ≡ Some for_check → IsTold (F.files folder.old) (λ files. Reads files (Ok project)) → ¬ (Rose (F.faults folder.old) (F.faults folder.new))
         → ((names : List (List ℕ)) × AreNames project names × IsSaid (O.held output.old) (O.held output.new) (accepted_line first_version names) 0 result) ⊎ (result ≡ 5) }
-    ensures answered { (query : Query) (project : Meant) → asked_of (map string_bytes words.now) ≡ Some (for_look query) → IsTold (F.files folder.old) (λ files. Reads files (Ok project)) → ¬ (Rose (F.faults folder.old) (F.faults folder.new))
-        → ((ending : Ending) × (result ≡ status_of ending) × HasAnswered (WithoutState (Replies project query.direction first_version query.net)) tt most_taken (I.left input.old) (I.left input.new) (O.held output.old) (O.held output.new) ending) ⊎ (result ≡ 5) }
+    ensures answered { (direction : Direction) (net : List ℕ) (project : Meant) → asked_of (map string_bytes words.now) ≡ Some (for_look (words_in direction net)) → IsTold (F.files folder.old) (λ files. Reads files (Ok project)) → ¬ (Rose (F.faults folder.old) (F.faults folder.new))
+        → ((ending : Ending) × (result ≡ status_of ending) × HasAnswered (WithoutState (Replies project direction first_version net)) tt most_taken (I.left input.old) (I.left input.new) (O.held output.old) (O.held output.new) ending) ⊎ (result ≡ 5) }
+    ensures glossed { (net : List ℕ) (project : Meant) (table : List Entry) → asked_of (map string_bytes words.now) ≡ Some (for_look (glosses_in net)) → IsTold (F.files folder.old) (λ files. Reads files (Ok project)) → IsTold (F.files folder.old) (λ files. HasTable files table) → ¬ (Rose (F.faults folder.old) (F.faults folder.new))
+        → ((ending : Ending) × (result ≡ status_of ending) × HasAnswered (WithoutState (GlossesLine project table first_version net)) tt most_taken (I.left input.old) (I.left input.new) (O.held output.old) (O.held output.new) ending) ⊎ (result ≡ 5) }
     ensures served { (project : Meant) → asked_of (map string_bytes words.now) ≡ Some for_serve → IsTold (F.files folder.old) (λ files. Reads files (Ok project)) → ¬ (Rose (F.faults folder.old) (F.faults folder.new))
         → ((loaded : MeantVersion) × (loaded.project ≡ project) × (Told (F.files folder.old) (IsFirstVersion loaded)
         × ((ending : Ending) × (result ≡ status_of ending) × HasEdited loaded most_taken (I.left input.old) (I.left input.new) (O.held output.old) (O.held output.new) ending))) ⊎ (result ≡ 5) }

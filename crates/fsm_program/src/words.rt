@@ -2,8 +2,9 @@ ghost use Rattle.std.specs.Prelude.{◌≡◌, Some, map, IfOk, MatchOption, Mat
 ghost use Rattle.std.specs.Option.{option_map};
 ghost use Rattle.std.specs.String.{string_bytes};
 ghost use Rattle.fsm_base.specs.Normal.{nfc_of};
-ghost use Rattle.fsm_program.specs.Ends.{IsWhyUnread, asked_by, asked_of, direction_of, for_look, is_help};
+ghost use Rattle.fsm_program.specs.Ends.{IsWhyUnread, asked_by, asked_of, for_look, is_help, task_of};
 
+use crate::look_up::Task;
 use fsm_base::{Text, nfc};
 use lookup_answers::Direction;
 use std::alloc::{AllocError, Global};
@@ -21,6 +22,11 @@ pub enum Command {
     },
     /// `down DIR NET`: the lower words of each line of the input.
     Down {
+        /// The name that is looked up in, in Normalization Form C.
+        net: Text,
+    },
+    /// `gloss DIR NET`: the words of each line of the input with their analyses and glosses.
+    Gloss {
         /// The name that is looked up in, in Normalization Form C.
         net: Text,
     },
@@ -59,30 +65,32 @@ fn is_help(word: &str) -> bool
     word == "help" || word == "-h" || word == "--help"
 }
 
-/// The direction of a command.
-fn direction_of(command: &str) -> Option<Direction>
-    ensures { result ≡ direction_of command.now }
+/// What a command does with the lines of the input.
+fn task_of(command: &str) -> Option<Task>
+    ensures { result ≡ task_of command.now }
 {
     match command {
-        "up" => Some(Direction::Up),
-        "down" => Some(Direction::Down),
+        "up" => Some(Task::Words(Direction::Up)),
+        "down" => Some(Task::Words(Direction::Down)),
+        "gloss" => Some(Task::Glosses),
         _ => None,
     }
 }
 
 /// A look-up in a name, which is put into Normalization Form C.
-fn look_up(alloc: Global, direction: Direction, net: &str) -> Result<Command, AllocError>
-    ensures { IfOk result (λ command. asked_by command ≡ for_look (record { direction = direction; net = nfc_of net.now })) }
+fn look_up(alloc: Global, task: Task, net: &str) -> Result<Command, AllocError>
+    ensures { IfOk result (λ command. asked_by command ≡ for_look (record { task = task; net = nfc_of net.now })) }
 {
     let net = nfc(alloc, net)?;
-    match direction {
-        Direction::Up => Ok(Command::Up { net }),
-        Direction::Down => Ok(Command::Down { net }),
+    match task {
+        Task::Words(Direction::Up) => Ok(Command::Up { net }),
+        Task::Words(Direction::Down) => Ok(Command::Down { net }),
+        Task::Glosses => Ok(Command::Gloss { net }),
     }
 }
 
 /// Reads the words of a command line, of which the first is the command: `check DIR`, `up DIR NET`, `down DIR NET`,
-/// `serve DIR`, `help`, `-h` or `--help`.
+/// `gloss DIR NET`, `serve DIR`, `help`, `-h` or `--help`.
 ///
 /// # Errors
 ///
@@ -94,8 +102,8 @@ pub fn read_words(alloc: Global, words: &[String]) -> Result<Command, WordsError
         [word] if is_help(word.as_str()) => Ok(Command::Help),
         [command, _] if command.as_str() == "check" => Ok(Command::Check),
         [command, _] if command.as_str() == "serve" => Ok(Command::Serve),
-        [command, _, net] => match direction_of(command.as_str()) {
-            Some(direction) => Ok(look_up(alloc, direction, net.as_str())?),
+        [command, _, net] => match task_of(command.as_str()) {
+            Some(task) => Ok(look_up(alloc, task, net.as_str())?),
             None => Err(WordsError::Usage),
         },
         _ => Err(WordsError::Usage),

@@ -7,7 +7,7 @@ use Rattle.std.specs.List.{flat_map}
 use Rattle.expr_leaves.specs.Leaves.{leaves_in, listed}
 use Rattle.expr_leaves.specs.Mapped.{mapped}
 use Rattle.grammar_resolution.specs.Leaves.{pairs_behind}
-use Rattle.grammar_resolution.specs.Plain.{pair_of, part_of}
+use Rattle.grammar_pairs.specs.Plain.{pair_of, part_of}
 use Rattle.name_resolution.proofs.Listed.{listed_is}
 use Rattle.name_resolution.proofs.Mapped.{mapped_listed}
 use Rattle.project_meaning.specs.Trees.{Part}

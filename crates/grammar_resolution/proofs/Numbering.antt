@@ -2,7 +2,7 @@
 use Rattle.std.proofs.Common.{◌≡◌, ℕ, List, [], ◌∷◌, map, refl, sym, ◌∙◌}
 use Rattle.std.proofs.lemmas.Simd.{map-map}
 use Rattle.expr_leaves.specs.Mapped.{mapped, mapped_contexts}
-use Rattle.grammar_resolution.specs.Mapped.{mapped_definition, mapped_pair, mapped_part, mapped_rule, mapped_set, mapped_side}
+use Rattle.grammar_pairs.specs.Mapped.{mapped_definition, mapped_pair, mapped_part, mapped_rule, mapped_set, mapped_side}
 use Rattle.grammar_resolution.specs.Numbered.{IsResolvedByNumber}
 use Rattle.name_resolution.proofs.Mapped.{contexts_twice, mapped_twice}
 use Rattle.name_resolution.specs.Numbered.{numbered}

@@ -1,8 +1,9 @@
 -- Pairs, and expressions over them, with their leaves replaced.
 use Rattle.std.proofs.Common.{◌≡◌, refl, sym, ap, ◌∙◌}
 use Rattle.expr_leaves.specs.Mapped.{mapped, mapped_contexts}
-use Rattle.grammar_resolution.specs.Mapped.{mapped_definition, mapped_pair, mapped_part, mapped_rule, mapped_side, part_by, side_by}
-use Rattle.grammar_resolution.specs.Plain.{definition_of, pair_of, part_of, rule_of, side_of}
+use Rattle.grammar_pairs.specs.Mapped.{mapped_definition, mapped_pair, mapped_part, mapped_rule, mapped_side}
+use Rattle.grammar_resolution.specs.Parts.{part_by, side_by}
+use Rattle.grammar_pairs.specs.Plain.{definition_of, pair_of, part_of, rule_of, side_of}
 use Rattle.name_resolution.proofs.Mapped.{contexts_twice, mapped_twice}
 use Rattle.project_meaning.specs.Trees.{pair}
 use Rattle.regex_ast.specs.Terms.{Contexts, Term, contexts_of, term}

@@ -3,7 +3,7 @@ use Rattle.std.specs.Prelude.{◌≡◌, ◌++◌, List, [], ◌∷◌, map}
 use Rattle.std.specs.Borrow.{Bor}
 use Rattle.std.specs.List.{flat_map}
 use Rattle.expr_leaves.specs.Leaves.{listed, listed_contexts}
-use Rattle.grammar_resolution.specs.Plain.{pair_of}
+use Rattle.grammar_pairs.specs.Plain.{pair_of}
 use Rattle.project_meaning.specs.Leaves.{grammar_symbols, resolved_grammar, symbol_in, symbol_of}
 use Rattle.project_meaning.specs.Trees.{Side, nothing, anything, one, member, Pair, Part, pair, called, PairDefinition, Rule, Grammar}
 use Rattle.regex_ast.specs.declared.expr.Raw.{Raw}

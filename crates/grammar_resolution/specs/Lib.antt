@@ -1,4 +1,4 @@
+pub mod Lines
+pub mod Parts
 pub mod Leaves
-pub mod Mapped
 pub mod Numbered
-pub mod Plain

@@ -1,6 +1,6 @@
 -- Grammars by the numbers of their symbols in a table.
 use Rattle.std.specs.Prelude.{◌≡◌, ℕ, List}
-use Rattle.grammar_resolution.specs.Mapped.{mapped_grammar}
+use Rattle.grammar_pairs.specs.Mapped.{mapped_grammar}
 use Rattle.name_resolution.specs.Numbered.{numbered}
 use Rattle.name_resolution.specs.Resolved.{letter_of}
 use Rattle.project_meaning.specs.Leaves.{resolved_grammar}

@@ -2,7 +2,7 @@ ghost use Rattle.std.specs.Prelude.{◌≡◌, ◌++◌, IfOk, OnOk, map};
 ghost use Rattle.std.specs.List.{flat_map};
 ghost use Rattle.expr_leaves.specs.Leaves.{seen};
 ghost use Rattle.grammar_resolution.specs.Leaves.{leaves_in, leaves_in_pair, leaves_in_side, pairs_behind};
-ghost use Rattle.grammar_resolution.specs.Plain.{grammar_of, pair_of, set_of, side_of};
+ghost use Rattle.grammar_pairs.specs.Plain.{grammar_of, pair_of, set_of, side_of};
 
 use crate::pairs::pairs_below;
 use regex_ast::{Grammar, PairAtom, PairSide, SetOf};

@@ -4,7 +4,7 @@
 //! - [`grammar_leaves`]: the leaves that stand in a grammar. [`pairs_below`]: the pairs in its definitions and rules.
 //! - [`is_resolved_by_number`], [`symbols_are_of_leaves`]: laws, which the contracts of the crates above cite.
 //!
-//! Read `specs/Plain.antt`, `specs/Mapped.antt` and `specs/Leaves.antt`.
+//! Read `specs/Plain.antt` and `specs/Mapped.antt` of grammar_pairs, then `specs/Leaves.antt`.
 #![tactic(auto)]
 
 mod laws;

@@ -3,7 +3,7 @@ ghost use Rattle.std.specs.List.{flat_map};
 ghost use Rattle.expr_leaves.specs.Leaves.{listed, listed_contexts, seen};
 ghost use Rattle.expr_leaves.specs.Mapped.{mapped, mapped_contexts};
 ghost use Rattle.grammar_resolution.specs.Leaves.{pairs_behind, pairs_below, pairs_in_definition, pairs_in_part, pairs_in_rule};
-ghost use Rattle.grammar_resolution.specs.Plain.{definition_of, grammar_of, part_of, rule_of};
+ghost use Rattle.grammar_pairs.specs.Plain.{definition_of, grammar_of, part_of, rule_of};
 ghost use Rattle.regex_ast.specs.Terms.{contexts_of, term};
 
 use expr_leaves::leaves;

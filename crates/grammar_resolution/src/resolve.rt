@@ -1,6 +1,8 @@
 ghost use Rattle.std.specs.Prelude.{◌≡◌, IfOk, map};
-ghost use Rattle.grammar_resolution.specs.Mapped.{mapped_definition, mapped_grammar, mapped_pair, mapped_rule, mapped_set, part_by, side_by};
-ghost use Rattle.grammar_resolution.specs.Plain.{definition_of, grammar_of, lines_of, pair_of, rule_of, set_of};
+ghost use Rattle.grammar_pairs.specs.Mapped.{mapped_definition, mapped_grammar, mapped_pair, mapped_rule, mapped_set};
+ghost use Rattle.grammar_resolution.specs.Parts.{part_by, side_by};
+ghost use Rattle.grammar_pairs.specs.Plain.{definition_of, grammar_of, pair_of, rule_of, set_of};
+ghost use Rattle.grammar_resolution.specs.Lines.{lines_of};
 ghost use Rattle.name_resolution.specs.Resolved.{letter_of};
 
 use expr_mapping::{LeafMap, map_contexts, map_leaves};

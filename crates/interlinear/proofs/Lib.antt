@@ -1,2 +1,4 @@
 pub mod Keys
+pub mod One
+pub mod Pieces
 pub mod Rows

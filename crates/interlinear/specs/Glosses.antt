@@ -65,6 +65,10 @@ with_lines entries number (line ∷ lines) = or_fault number (with_line entries 
 abbrev pub table_of : List ℕ → Result (List Entry) FaultAt
 table_of text = with_lines [] 1 (lines_of text)
 
+-- a text says this as a file of glosses: its table, or its first fault
+abbrev pub SaysTable : List ℕ → Result (List Entry) FaultAt → Type 0
+SaysTable text answer = table_of text ≡ answer
+
 -- a table as it is read: the entries of these lines, or their first fault, or want of memory
 abbrev pub AreRead : List (List ℕ) → Result (List Entry) ReadError → Type 0
 AreRead lines (Ok table) = with_lines [] 1 lines ≡ Ok table

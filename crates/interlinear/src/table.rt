@@ -73,6 +73,16 @@ fn entry_of(alloc: Global, line: &str) -> Result<Option<(Vec<char>, Text)>, Allo
 }
 
 impl GlossTable {
+    /// The table without entries.
+    pub fn empty(alloc: Global) -> GlossTable
+        ensures { result ≡ [] }
+    {
+        GlossTable {
+            glosses: IndexMap::new(alloc),
+            longest: 0,
+        }
+    }
+
     /// Adds an entry, unless its key is there. Answers whether it did.
     fn add(&mut self, key: Vec<char>, gloss: Text) -> Result<bool, AllocError>
         requires { 0 < length key.items }
@@ -107,10 +117,7 @@ impl GlossTable {
         requires { length lines.now < 2 ^ 32 }
         ensures { AreRead lines.now result }
     {
-        let mut table = GlossTable {
-            glosses: IndexMap::new(alloc),
-            longest: 0,
-        };
+        let mut table = GlossTable::empty(alloc);
         let mut number = 0;
         'lines: for line in lines {
             number += 1;

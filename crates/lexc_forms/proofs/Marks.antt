@@ -1,5 +1,5 @@
 -- A flag begins and ends with `@` and has no other, so at most one front of a text is a flag.
-use Rattle.std.proofs.Common.{◌≡◌, ◌≢◌, ◌+◌, ◌<◌, ◌≤◌, ◌/◌, ◌%◌, ◌==◌, nat_lt, ℕ, zero, suc, Bool, cond, true, false, ◌||◌, List, [], ◌∷◌, ◌++◌, All, length, take, drop, Option, None, Some, refl, sym, ap, subst, ◌∙◌, arith, length-append, append_assoc}
+use Rattle.std.proofs.Common.{◌≡◌, ◌≢◌, ◌+◌, ◌<◌, ◌≤◌, ◌/◌, ◌%◌, ◌==◌, nat_lt, ℕ, zero, suc, Bool, cond, true, false, List, [], ◌∷◌, ◌++◌, length, take, drop, Some, refl, sym, ap, subst, ◌∙◌, arith, length-append, append_assoc}
 use Rattle.std.specs.List.{list_any, position}
 use Rattle.std.specs.Char.{encode_utf8}
 use Rattle.std.specs.Str.{encode_utf8_all}
@@ -14,7 +14,7 @@ use Rattle.flag_texts.specs.Reading.{HasNo, IsFlagOf}
 use Rattle.flag_texts.proofs.Shapes.{no_between}
 use Rattle.lexc_forms.specs.Letters.{is_mark}
 use Rattle.lexc_forms.specs.Fronts.{IsMarked, IsOnlyMarked, HasNoMarked, HasNoFlag, IsFlagFront}
-use Rattle.lexc_forms.proofs.Positions.{FirstAt, first_at, none_passes, none_in_front, one_first, any_inside, or_none}
+use Rattle.lexc_forms.proofs.Positions.{FirstAt, first_at, none_in_front, one_first, any_inside, or_none}
 
 abbrev apart : ℕ → Type 0
 apart b = b ≢ 64

@@ -1,5 +1,5 @@
 -- How letters are cut, place by place.
-use Rattle.std.proofs.Common.{◌≡◌, ◌<◌, ◌≤◌, ◌==◌, ℕ, zero, suc, Bool, true, false, List, [], ◌∷◌, ◌++◌, length, map, take, drop, Option, None, Some, Contains, refl, sym, ap, subst, ◌∙◌, arith, append_assoc, append-nil}
+use Rattle.std.proofs.Common.{◌≡◌, ◌<◌, ◌≤◌, ℕ, Bool, true, false, List, [], ◌∷◌, ◌++◌, length, take, drop, Option, None, Some, Contains, sym, ap, subst, ◌∙◌, arith, append_assoc, append-nil}
 use Rattle.std.proofs.lemmas.List.{drop-map}
 use Rattle.std.specs.Bool.{if◌then◌else◌}
 use Rattle.std.specs.Str.{encode_utf8_all}
@@ -7,7 +7,7 @@ use Rattle.regex_ast.specs.Flags.{IsFlag, valued, plain}
 use Rattle.regex_ast.specs.declared.expr.Raw.{Raw}
 use Rattle.regex_ast.specs.declared.lexc.FlagOp.{FlagOp}
 use Rattle.regex_ast.specs.declared.lexc.Piece.{Piece}
-use Rattle.regex_ast.specs.declared.lexc.Piece.TheVariants.{Symbol, Flag}
+use Rattle.regex_ast.specs.declared.lexc.Piece.TheVariants.{Flag}
 use Rattle.flag_texts.specs.Reading.{IsFlagOf, MayHave, letter_of, ending_of}
 use Rattle.lexc_forms.specs.declared.letters.Letter.{Letter}
 use Rattle.lexc_forms.specs.Letters.{character_of, characters_of}

@@ -4,9 +4,8 @@
 use Rattle.std.specs.Prelude.{◌≡◌, ◌<◌, ◌≤◌, ◌==◌, ◌⊎◌, ◌++◌, ℕ, Bool, false, List, [], ◌∷◌, length, take, drop, Contains, if◌then◌else◌}
 use Rattle.std.specs.List.{list_any}
 use Rattle.std.specs.Str.{encode_utf8_all}
-use Rattle.regex_ast.specs.Flags.{IsFlag}
 use Rattle.regex_ast.specs.declared.expr.Raw.{Raw}
-use Rattle.regex_ast.specs.declared.expr.Raw.TheVariants.{Run, Quoted}
+use Rattle.regex_ast.specs.declared.expr.Raw.TheVariants.{Quoted}
 use Rattle.regex_ast.specs.declared.lexc.FlagOp.{FlagOp}
 use Rattle.regex_ast.specs.declared.lexc.Piece.{Piece}
 use Rattle.regex_ast.specs.declared.lexc.Piece.TheVariants.{Symbol, Flag}

@@ -1,5 +1,5 @@
 -- Declared symbols as they are kept.
-use Rattle.std.specs.Prelude.{ℕ, ◌<◌, ◌≤◌, List, length, All, Vec}
+use Rattle.std.specs.Prelude.{◌≡◌, ℕ, ◌<◌, ◌≤◌, ◌∷◌, Bool, true, List, length, slice_index_or, All, Vec}
 use Rattle.std.specs.Global.{Global}
 
 abbrev pub kept : Vec ℕ Global → List ℕ
@@ -11,3 +11,10 @@ IsWithin most symbol = (0 < length symbol) × (length symbol ≤ most)
 
 abbrev pub AreWithin : ℕ → List (List ℕ) → Type 0
 AreWithin most symbols = All (IsWithin most) symbols
+
+-- the first character of the symbol is marked where it has a place
+abbrev pub IsMarkedFor : List Bool → List ℕ → Type 0
+IsMarkedFor marks symbol = (first : ℕ) (others : List ℕ) → symbol ≡ first ∷ others → slice_index_or marks first true ≡ true
+
+abbrev pub AreMarked : List Bool → List (List ℕ) → Type 0
+AreMarked marks symbols = All (IsMarkedFor marks) symbols

@@ -2,7 +2,7 @@
 use Rattle.std.proofs.Common.{◌≡◌, ◌++◌, ◌||◌, Bool, true, false, List, [], ◌∷◌, All, Contains, IsTrue, map, refl, sym, ap, subst, ◌∙◌, inl, inr}
 use Rattle.std.specs.List.{flat_map, list_any}
 use Rattle.std.proofs.lemmas.List.{map-append}
-use Rattle.std.proofs.lemmas.List.Elements.{All-nil, All-cons, All-head, All-append, All-map, All-contains, All-contains_itself, All-weaker, Contains-append_cases}
+use Rattle.std.proofs.lemmas.List.Elements.{All-nil, All-cons, All-head, All-append, All-map, All-contains, All-weaker}
 use Rattle.word_relations.proofs.Members.{Contains-nil_cases, Contains-cons_cases, Contains-head, Contains-map}
 use Rattle.fsm_base.specs.declared.letters.Sym.{Sym as Symbol}
 use Rattle.regex_ast.specs.declared.expr.Atom.{Atom}
@@ -12,12 +12,13 @@ use Rattle.expr_kinds.specs.Built.{IsBuiltBy}
 use Rattle.expr_kinds.specs.Kinds.{Fits}
 use Rattle.expr_leaves.specs.Alphabet.{uses_alphabet}
 use Rattle.expr_leaves.specs.Leaves.{leaves_in}
+use Rattle.grammar_resolution.specs.Leaves.{leaves_in as leaves_in_grammar}
 use Rattle.project_meaning.specs.Trees.{Piece, letter, flag, Form, sides, pairs, Entry, Lexicon, Body, xfst, lexc, twolc}
 use Rattle.project_meaning.specs.Leaves.{expressions_in, expressions_of, forms_in}
 use Rattle.project_meaning.specs.Lexicons.{letters_of}
 use Rattle.project_meaning.proofs.Places.{in_front, in_back, in_flat}
 use Rattle.project_sources.specs.Built.{PieceIsBuiltBy, FormIsBuiltBy, LexiconIsBuiltBy, BodyIsBuiltBy}
-use Rattle.project_model.specs.Bodies.{BodyFitsBy, IsFormed}
+use Rattle.project_definitions.specs.Bodies.{BodyFitsBy, IsFormed}
 use Rattle.network_expr.specs.Built.{IsBuiltOver}
 use Rattle.network_expr.specs.Parts.{is_leaf_of, kinds}
 use Rattle.network_expr.specs.declared.parts.Part.{Part}
@@ -27,22 +28,8 @@ use Rattle.lexicon_resolution.specs.declared.place.Place.TheVariants.{InExpressi
 use Rattle.network_build.specs.Made.{IsReady, leaf_at}
 use Rattle.network_build.specs.Networks.{body_leaves, body_uses_alphabet, form_leaves}
 use Rattle.network_build.proofs.Built.{built_alone, built_by, leaves_pass}
-
--- what holds of each element, where that may be known to be one
-all_within : {X : Type 0} (P Q : X → Type 0) (xs : List X) → ((x : X) → Contains xs x → P x → Q x) → All P xs → All Q xs
-all_within P Q xs goes h = All-weaker (Contains xs) Q (λ x at. goes x at (All-contains P xs x h at)) xs (All-contains_itself xs)
-
-all_flat : {X Y : Type 0} (f : X → List Y) (P : Y → Type 0) (xs : List X) → ((x : X) → Contains xs x → All P (f x)) → All P (flat_map f xs)
-all_flat f P [] h = All-nil P
-all_flat f P (x ∷ xs) h = All-append P (f x) (flat_map f xs) (h x (Contains-head x xs)) (all_flat f P xs (λ y at. h y (in_back (x ∷ []) xs y at)))
-
-flat_cases : {X Y : Type 0} (f : X → List Y) (xs : List X) (y : Y) → Contains (flat_map f xs) y → (x : X) × Contains xs x × Contains (f x) y
-flat_cases f [] y at = absurd (Contains-nil_cases y at)
-flat_cases {X = X} f (x ∷ xs) y at =
-    elim (Contains-append_cases (f x) (flat_map f xs) y at) as (λ _. (z : X) × Contains (x ∷ xs) z × Contains (f z) y) [
-      | inl here ↦ (x, Contains-head x xs, here)
-      | inr there ↦ (let (z, among, gives) = flat_cases f xs y there in (z, in_back (x ∷ []) xs z among, gives))
-    ]
+use Rattle.network_build.proofs.Grammars.{grammar_by, grammar_passes}
+use Rattle.network_build.proofs.Lists.{all_flat, all_within, flat_cases}
 
 -- the form of an entry of a lexicon is one of the forms
 form_among : (lexicons : List (Lexicon Atom)) (lexicon : Lexicon Atom) (entry : Entry Atom) → Contains lexicons lexicon → Contains lexicon.entries entry → Contains (forms_in lexicons) entry.form
@@ -65,7 +52,7 @@ module _ (is_leaf is_letter : Atom → Bool) where
   expressions_built (lexc lexicons) h =
       all_flat expressions_in (IsBuiltBy is_leaf is_letter) (forms_in lexicons)
       (λ form at. form_built form (All-contains (FormIsBuiltBy is_leaf is_letter) (forms_in lexicons) form (forms_built lexicons h) at))
-  expressions_built (twolc grammar) h = absurd h
+  expressions_built (twolc grammar) h = All-nil (IsBuiltBy is_leaf is_letter)
 
   module _ (fewer : (a : Atom) → IsTrue (is_letter a) → IsTrue (is_leaf a)) where
     -- the leaves that pass
@@ -88,7 +75,7 @@ module _ (is_leaf is_letter : Atom → Bool) where
     body_passes (xfst e) h = leaves_pass is_leaf e (built_alone is_leaf is_letter fewer e h)
     body_passes (lexc lexicons) h =
         all_flat form_leaves Passes (forms_in lexicons) (λ form at. form_passes form (All-contains (FormIsBuiltBy is_leaf is_letter) (forms_in lexicons) form (forms_built lexicons h) at))
-    body_passes (twolc grammar) h = absurd h
+    body_passes (twolc grammar) h = All-weaker (λ a. IsTrue (is_letter a)) Passes fewer (leaves_in_grammar grammar) (grammar_passes is_letter grammar h)
 
 -- the leaves of an expression of a form are leaves of the form, and those of an expression of a body are leaves of the body
 form_has : (form : Form Atom) (e : Term Atom) → Contains (expressions_in form) e → (a : Atom) → Contains (leaves_in e) a → Contains (form_leaves form) a
@@ -167,7 +154,7 @@ module _ (parts : List Part) (alphabet other : List Symbol) where
           form_ready entry.form (λ a at. go a (in_flat form_leaves (forms_in lexicons) entry.form a held at)) (λ e at. over e (in_flat expressions_in (forms_in lexicons) entry.form e held at))
           (λ e at. All-contains (Fits (kinds parts)) (expressions_of (lexc lexicons)) e fit (in_flat expressions_in (forms_in lexicons) entry.form e held at)) each)
           built
-  body_ready (twolc grammar) go over formed fit h = absurd h
+  body_ready (twolc grammar) go over formed fit h = (grammar_by (is_symbol_of alphabet) (is_symbol_of other) grammar go h, formed)
 
 -- a body that is built is so by any tests that its leaves pass, where those in braces and on sides pass the second
 module _ (spells letter_passes passes held : Atom → Bool) where
@@ -206,7 +193,7 @@ module _ (spells letter_passes passes held : Atom → Bool) where
             λ a at. two a (in_flat form_leaves (forms_in lexicons) entry.form a held_form at),
           ) each)
           built
-  body_by (twolc grammar) h go = absurd h
+  body_by (twolc grammar) h (one, two) = grammar_by letter_passes held grammar two h
 
 -- the leaves that stand in lexicons are those at their places
 flat_mapped : {X Y Z : Type 0} (f : Y → Z) (g : X → List Y) (h : X → List Z) → ((x : X) → map f (g x) ≡ h x) → (xs : List X) → map f (flat_map g xs) ≡ flat_map h xs

@@ -48,7 +48,7 @@ module _ {A : Type 0} (spells : A → Bool) where
     links_pass (and e links) h = All-append Passes (leaves_in e) (leaves_in_links links) (leaves_pass e h.0) (links_pass links h.1)
     links_pass (less e links) h = All-append Passes (leaves_in e) (leaves_in_links links) (leaves_pass e h.0) (links_pass links h.1)
 
-    contexts_pass : (contexts : Contexts A) → ContextsAreBuilt spells contexts → All Passes (leaves_in_contexts contexts)
+    pub contexts_pass : (contexts : Contexts A) → ContextsAreBuilt spells contexts → All Passes (leaves_in_contexts contexts)
     contexts_pass no_context h = All-nil Passes
     contexts_pass (between l r contexts) h =
         let both = All-append Passes (leaves_in l) (leaves_in r) (leaves_pass l h.0) (leaves_pass r h.1) in
@@ -125,7 +125,7 @@ module _ {A : Type 0} (spells letter passes held : A → Bool) where
     links_by (and e links) h s = both (leaves_in e) (leaves_in_links links) (built_by e h.0) (links_by links h.1) s
     links_by (less e links) h s = both (leaves_in e) (leaves_in_links links) (built_by e h.0) (links_by links h.1) s
 
-    contexts_by : (contexts : Contexts A) → ContextsAreBuiltWith spells letter AnyCentre contexts → Both (leaves_in_contexts contexts) → ContextsAreBuiltWith passes held AnyCentre contexts
+    pub contexts_by : (contexts : Contexts A) → ContextsAreBuiltWith spells letter AnyCentre contexts → Both (leaves_in_contexts contexts) → ContextsAreBuiltWith passes held AnyCentre contexts
     contexts_by no_context h s = tt
     contexts_by (between l r contexts) h s =
         let sides = both (leaves_in l) (leaves_in r) (built_by l h.0) (built_by r h.1) in

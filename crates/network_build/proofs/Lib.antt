@@ -1,6 +1,9 @@
 pub mod Bodies
 pub mod Built
 mod Free
+pub mod Grammars
+mod Held
+mod Lists
 mod Ones
 mod Sounds
 mod Uses

@@ -1,10 +1,7 @@
 -- A body is built over its alphabet and over its own symbols, and which symbols its network has.
-use Rattle.std.proofs.Common.{◌≡◌, ◌↔◌, ◌⊎◌, ◌==◌, ◌||◌, ℕ, Bool, true, false, List, [], ◌∷◌, All, Contains, IsTrue, Result, Ok, Err, IfOk, refl, sym, subst, ap, ◌∙◌, inl, inr, eq-eqb}
-use Rattle.std.proofs.lemmas.Bool.{eqb-true}
+use Rattle.std.proofs.Common.{◌≡◌, ◌↔◌, ◌⊎◌, ℕ, false, List, [], All, Contains, IsTrue, Result, Ok, Err, IfOk, refl, sym, subst, ap, ◌∙◌, inl, inr}
 use Rattle.std.proofs.lemmas.List.Elements.{All-nil, All-head, All-contains, All-contains_itself, All-weaker}
-use Rattle.std.proofs.lemmas.Map.Views.{Contains-from_any}
 use Rattle.std.specs.Borrow.{Bor}
-use Rattle.std.specs.List.{list_any}
 use Rattle.fsm_base.specs.Alphabet.{symbols_of}
 use Rattle.fsm_base.specs.declared.letters.Bound.{Bound}
 use Rattle.fsm_base.specs.declared.letters.Bound.TheVariants.{Inner, Edge}
@@ -12,13 +9,14 @@ use Rattle.fsm_base.specs.declared.letters.Sym.{Sym as Symbol}
 use Rattle.fsm_base.specs.declared.letters.Pair.{Pair}
 use Rattle.word_relations.specs.Relations.{AreSame}
 use Rattle.word_relations.specs.Words.{IsDistinct}
-use Rattle.word_relations.proofs.Members.{Contains-cons_cases, Contains-nil_cases, Contains-head, Contains-tail, Contains-map, Contains-map_cases}
+use Rattle.word_relations.proofs.Members.{Contains-cons_cases, Contains-head, Contains-tail, Contains-map, Contains-map_cases}
 use Rattle.fsa.specs.Automaton.{Automaton, UsesLetter}
 use Rattle.fsa.specs.Language.{Accepts}
 use Rattle.fst_relation.specs.Relation.{IsRelated}
 use Rattle.lookup.specs.Answering.{IsOverAlphabet}
 use Rattle.regex_ast.specs.declared.expr.Atom.{Atom}
 use Rattle.regex_ast.specs.declared.expr.Atom.TheVariants.{Sym, Name}
+use Rattle.regex_ast.specs.declared.twolc.Grammar.{Grammar as GrammarOf}
 use Rattle.regex_ast.specs.Terms.{Term}
 use Rattle.expr_kinds.specs.Atoms.{is_symbol_of}
 use Rattle.expr_kinds.specs.Built.{IsBuiltBy}
@@ -28,11 +26,13 @@ use Rattle.expr_leaves.specs.Alphabet.{uses_alphabet}
 use Rattle.expr_leaves.specs.Leaves.{seen}
 use Rattle.expr_spelling.proofs.Alphabets.{alphabet_free}
 use Rattle.lexicon_spelling.proofs.Alphabets.{lexicons_free}
+use Rattle.grammar_pairs.specs.Laws.{HasLeaves}
+use Rattle.grammar_pairs.specs.Plain.{grammar_of}
 use Rattle.project_meaning.specs.Trees.{Lexicon, Body, xfst, lexc, twolc}
 use Rattle.project_meaning.specs.Leaves.{expressions_of}
 use Rattle.project_meaning.specs.Lexicons.{LexiconsRelate}
 use Rattle.project_sources.specs.Built.{BodyIsBuiltBy}
-use Rattle.project_model.specs.Bodies.{BodyFitsBy, IsFormed}
+use Rattle.project_definitions.specs.Bodies.{BodyFitsBy, IsFormed}
 use Rattle.network_algebra.specs.Networks.{IsNetwork, PairsOf, UsesSymbols, all_letters, kind_of_network}
 use Rattle.network_algebra.specs.declared.network.Network.{Network}
 use Rattle.network_algebra.specs.declared.network.Network.TheVariants.{Words, Pairs}
@@ -40,35 +40,17 @@ use Rattle.network_rules.specs.Rules.{IsFilled}
 use Rattle.network_expr.specs.Built.{IsBuiltOver, IsMeant}
 use Rattle.network_expr.specs.Parts.{IsGround, is_leaf_of, kinds, stands}
 use Rattle.network_expr.specs.declared.parts.Part.{Part}
+use Rattle.network_grammars.specs.Meaning.{IsNetworkOf as GrammarHasNetwork, IsOverSymbols}
 use Rattle.network_lexicons.specs.Plain.{symbol_in}
 use Rattle.network_centres.proofs.Filled.{filled_built}
 use Rattle.network_centres.proofs.Seen.{filled_over}
 use Rattle.network_build.specs.Made.{IsMade, IsReady}
-use Rattle.network_build.specs.Networks.{BodyHasEmptyCentre, BodyRelates, IsNetworkOf, MayUse, PartsUse, UsesSymbol, body_leaves, body_uses_alphabet}
+use Rattle.network_build.specs.Networks.{BodyHasEmptyCentre, IsNetworkOf, IsRelationOf, MayUse, PartsUse, UsesSymbol, body_leaves, body_uses_alphabet}
 use Rattle.network_build.proofs.Bodies.{body_has, body_passes, body_ready, none_uses_it}
 use Rattle.network_build.proofs.Built.{built_by}
 use Rattle.network_build.proofs.Free.{no_centres}
-
-same_number : (a b : Symbol) → (b.0 == a.0) ≡ true → a ≡ b
-same_number a b e = ap (λ (n : ℕ). record { 0 = n }) (sym (eqb-true b.0 a.0 e))
-
--- a symbol passes just where it stands in the alphabet; a name never does
-symbol_held : (alphabet : List Symbol) (s : Symbol) → IsTrue (is_symbol_of alphabet (Sym s)) → Contains alphabet s
-symbol_held alphabet s h = Contains-from_any {eq = λ (q t : Symbol). t.0 == q.0} same_number s alphabet h
-
-symbol_passes : (alphabet : List Symbol) (s : Symbol) → Contains alphabet s → IsTrue (is_symbol_of alphabet (Sym s))
-symbol_passes [] s at = absurd (Contains-nil_cases s at)
-symbol_passes (t ∷ alphabet) s at = elim (Contains-cons_cases t alphabet s at) as (λ _. IsTrue (is_symbol_of (t ∷ alphabet) (Sym s))) [
-  | inl is ↦ either (t.0 == s.0) (list_any (λ x. x.0 == s.0) alphabet) (inl (eq-eqb t.0 s.0 (ap (λ (x : Symbol). x.0) is)))
-  | inr rest ↦ either (t.0 == s.0) (list_any (λ x. x.0 == s.0) alphabet) (inr (symbol_passes alphabet s rest))
-]
-  where
-    either : (a b : Bool) → (a ≡ true) ⊎ (b ≡ true) → (a || b) ≡ true
-    either true b h = refl
-    either false b h = elim h as (λ _. b ≡ true) [ inl isnt ↦ (let never : false ≡ true = isnt in cc) | inr is ↦ is ]
-
-never : IsTrue false → ⊥
-never e = cc
+use Rattle.network_build.proofs.Grammars.{grammar_over}
+use Rattle.network_build.proofs.Held.{never, symbol_held, symbol_passes}
 
 -- what may stand in braces may stand by itself
 letter_is_leaf : (parts : List Part) (alphabet : List Symbol) (a : Atom) → IsTrue (is_symbol_of alphabet a) → IsTrue (is_leaf_of parts alphabet a)
@@ -161,26 +143,30 @@ pub ready_over_alphabet : (parts : List Part) (alphabet : List Symbol) (body : B
 ready_over_alphabet parts alphabet body filled formed fits built =
     body_ready parts alphabet alphabet body (λ a at h. h) (λ e among h. filled_over parts alphabet e h (λ empty. filled (e, among, empty))) formed fits built
 
+-- one relation more that is the same
+same_too : {R S T : List Symbol → List Symbol → Type 0} → AreSame R S → AreSame S T → AreSame R T
+same_too first second u w = (λ r. (second u w).0 ((first u w).0 r), λ r. (first u w).1 ((second u w).1 r))
+
 -- a body that doesn't use the alphabet relates the same over every one
-pub body_free : (parts : List Part) (alphabet other : List Symbol) (body : Body Atom) → body_uses_alphabet body ≡ false → AreSame (BodyRelates parts alphabet body) (BodyRelates parts other body)
-body_free parts alphabet other (xfst e) free =
-    (alphabet_free (stands parts) alphabet other e (All-head (λ (f : Term Atom). uses_alphabet f ≡ false) e [] (none_uses_it (xfst e) free))).1
-body_free parts alphabet other (lexc lexicons) free = lexicons_free symbol_in (stands parts) alphabet other lexicons (none_uses_it (lexc lexicons) free)
-body_free parts alphabet other (twolc grammar) free = λ u w. (λ r. r, λ r. r)
+pub body_free : (parts : List Part) (alphabet other : List Symbol) (body : Body Atom) → body_uses_alphabet body ≡ false → (R : List Symbol → List Symbol → Type 0) → IsRelationOf parts alphabet body R → IsRelationOf parts other body R
+body_free parts alphabet other (xfst e) free R is =
+    same_too is (alphabet_free (stands parts) alphabet other e (All-head (λ (f : Term Atom). uses_alphabet f ≡ false) e [] (none_uses_it (xfst e) free))).1
+body_free parts alphabet other (lexc lexicons) free R is = same_too is (lexicons_free symbol_in (stands parts) alphabet other lexicons (none_uses_it (lexc lexicons) free))
+body_free parts alphabet other (twolc grammar) free R is = is
 
 -- the network over given symbols of the alphabet, where the body relates the same over both
 pub network_made : {E : Type 0} (parts : List Part) (alphabet given : List Symbol) (body : Body Atom) (r : Result Network E) → ((s : Symbol) → Contains given s → Contains alphabet s)
-    → ((s : Symbol) → Contains given s → MayUse parts alphabet body s) → AreSame (BodyRelates parts given body) (BodyRelates parts alphabet body)
+    → ((s : Symbol) → Contains given s → MayUse parts alphabet body s) → ((R : List Symbol → List Symbol → Type 0) → IsRelationOf parts given body R → IsRelationOf parts alphabet body R)
     → IfOk r (IsMade parts given body) → IfOk r (IsNetworkOf parts alphabet body)
 network_made parts alphabet given body (Err error) within may same made = made
 network_made parts alphabet given body (Ok n) within may same made = record {
   kind = made.kind;
-  relation = λ u w. (λ r. (same u w).0 ((made.relation u w).0 r), λ r. (made.relation u w).1 ((same u w).1 r));
+  relation = same (PairsOf n) made.relation;
   symbols = λ s used. may s (network_has given n made.over s used);
   over = network_within alphabet n (λ s used. within s (network_has given n made.over s used));
 }
 
--- what is made of an expression, and of lexicons
+-- what is made of an expression, of lexicons and of a grammar
 pub expression_made : {E : Type 0} (parts : List Part) (symbols : List Symbol) (e : Term Atom) (r : Result Network E) → IfOk r (IsNetwork symbols) → IfOk r (IsMeant parts symbols e) → IfOk r (IsMade parts symbols (xfst e))
 expression_made parts symbols e (Err error) over meant = over
 expression_made parts symbols e (Ok n) over meant = record { over = over; kind = meant.kind_is; relation = meant.pairs }
@@ -189,6 +175,15 @@ pub lexicons_made : {E : Type 0} (parts : List Part) (symbols : List Symbol) (le
     → IfOk r (λ n. AreSame (PairsOf n) (LexiconsRelate symbol_in (stands parts) symbols lexicons)) → IfOk r (IsMade parts symbols (lexc lexicons))
 lexicons_made parts symbols lexicons (Err error) over kind relation = over
 lexicons_made parts symbols lexicons (Ok n) over kind relation = record { over = over; kind = kind; relation = relation }
+
+pub grammar_made : {E : Type 0} (parts : List Part) (symbols : List Symbol) (g : GrammarOf Atom) (r : Result Network E) → HasLeaves (is_symbol_of symbols) (grammar_of g)
+    → IfOk r (λ n. (given : List Symbol) → IsOverSymbols given g → IsNetwork given n) → IfOk r (λ n. kind_of_network n ≡ Relation) → IfOk r (GrammarHasNetwork g) → IfOk r (IsMade parts symbols (twolc (grammar_of g)))
+grammar_made parts symbols g (Err error) has over kind meaning = over
+grammar_made parts symbols g (Ok n) has over kind meaning = record {
+  over = over symbols (grammar_over symbols g has);
+  kind = kind;
+  relation = λ named lettered held. meaning named lettered (grammar_over (symbols_of named) g held);
+}
 
 -- an automaton of the same language, with no other letters
 pub same_relation : (m n : Automaton Pair) (R : List Symbol → List Symbol → Type 0) → ((w : List Pair) → Accepts n w ↔ Accepts m w) → AreSame (IsRelated m) R → AreSame (IsRelated n) R

@@ -1,8 +1,8 @@
 ghost use Rattle.std.specs.Prelude.{◌≡◌, IfOk, false, true};
 ghost use Rattle.expr_kinds.specs.Atoms.{is_symbol_of};
 ghost use Rattle.network_expr.specs.Parts.{IsGround, is_leaf_of, kinds};
-ghost use Rattle.project_model.specs.Bodies.{BodyFitsBy, IsFormed};
-ghost use Rattle.project_model.specs.Plain.{body_of};
+ghost use Rattle.project_definitions.specs.Bodies.{BodyFitsBy, IsFormed};
+ghost use Rattle.project_definitions.specs.Plain.{body_of};
 ghost use Rattle.project_sources.specs.Built.{BodyIsBuiltBy};
 ghost use Rattle.network_build.specs.Made.{IsMade, IsReady};
 ghost use Rattle.network_build.specs.Networks.{BodyHasEmptyCentre, IsNetworkOf, body_uses_alphabet};
@@ -12,8 +12,9 @@ use crate::symbols::symbols_among;
 use fsm_base::Sym;
 use network_algebra::Network;
 use network_expr::{Part, network_of};
+use network_grammars::network_of_grammar;
 use network_lexicons::network_of_lexicons;
-use project_model::Body;
+use project_definitions::Body;
 use regex_ast::Atom;
 use std::alloc::{AllocError, Global};
 
@@ -92,5 +93,6 @@ fn network_of_ready(
     match body {
         Body::Xfst(expr) => network_of(alloc, symbols, parts, expr),
         Body::Lexc(lexicons) => network_of_lexicons(alloc, symbols, parts, lexicons),
+        Body::Twolc(grammar) => network_of_grammar(alloc, grammar),
     }
 }

@@ -5,17 +5,18 @@ ghost use Rattle.lexicon_resolution.specs.Places.{behind};
 ghost use Rattle.lexicon_resolution.specs.Plain.{lexicon_of};
 ghost use Rattle.project_meaning.specs.Leaves.{expressions_of, forms_in};
 ghost use Rattle.network_centres.specs.Centres.{terms_seen};
-ghost use Rattle.project_model.specs.Plain.{body_of};
+ghost use Rattle.project_definitions.specs.Plain.{body_of};
 ghost use Rattle.network_build.specs.Networks.{body_leaves, form_leaves};
 ghost use Rattle.network_build.specs.Made.{leaf_at};
 
 use expr_leaves::leaves;
+use grammar_resolution::grammar_leaves;
 use lexicon_resolution::{Place, expressions, places};
-use project_model::Body;
+use project_definitions::Body;
 use regex_ast::{Atom, Expr, Lexicon};
 use std::alloc::{AllocError, Global};
 
-/// The expressions in what a name stands for, in the order of their places.
+/// The expressions in what a name stands for, in the order of their places. A grammar has expressions over pairs, and none of these.
 pub fn body_expressions(alloc: Global, body: &Body<Atom>) -> Result<Vec<&Expr<Atom>>, AllocError>
     ensures { IfOk result (λ found. terms_seen found.items ≡ expressions_of (body_of body.now)) }
 {
@@ -26,17 +27,19 @@ pub fn body_expressions(alloc: Global, body: &Body<Atom>) -> Result<Vec<&Expr<At
             Ok(found)
         }
         Body::Lexc(lexicons) => expressions(alloc, lexicons),
+        Body::Twolc(_) => Ok(Vec::new(alloc)),
     }
 }
 
-/// The leaves that stand in what a name stands for: in its expressions and on the sides of its entries, in the order of
-/// their places.
+/// The leaves that stand in what a name stands for: in its expressions, on the sides of its entries or in its grammar, in the order
+/// of their places.
 pub fn body_leaves(alloc: Global, body: &Body<Atom>) -> Result<Vec<&Atom>, AllocError>
     ensures { IfOk result (λ found. seen found.items ≡ body_leaves (body_of body.now)) }
 {
     match body {
         Body::Xfst(expr) => leaves(alloc, expr),
         Body::Lexc(lexicons) => lexicon_leaves(alloc, lexicons),
+        Body::Twolc(grammar) => grammar_leaves(alloc, grammar),
     }
 }
 

@@ -1,6 +1,5 @@
 -- Faults of a line behind others, and of lines one after another.
-use Rattle.std.proofs.Common.{◌≡◌, ◌+◌, ◌<◌, ℕ, true, false, List, [], ◌∷◌, ◌++◌, length, map, take, drop, get_or, refl, sym, ap, subst, ◌∙◌, inl, inr}
-use Rattle.std.specs.Prelude.{IsTrue}
+use Rattle.std.proofs.Common.{◌≡◌, ◌+◌, ◌<◌, ℕ, List, [], ◌∷◌, ◌++◌, length, map, take, drop, get_or, refl, sym, ap, subst, ◌∙◌, inl, inr}
 use Rattle.std.proofs.lemmas.List.{map-append, take-append-drop, take_more}
 use Rattle.std.proofs.lemmas.Grind.{flat_map-append}
 use Rattle.word_relations.proofs.Behind.{left_behind}
@@ -8,7 +7,7 @@ use Rattle.regex_ast.specs.declared.fault.ReadError.{ReadError}
 use Rattle.regex_ast.specs.declared.fault.ReadError.TheVariants.{Fault, Memory}
 use Rattle.regex_ast.specs.declared.fault.Why.TheVariants as why
 use Rattle.regex_reader.specs.Files.{FaultAt}
-use Rattle.project_manifest.specs.Lines.{Line, LineFault, NamesAgain, NamesTooMany, Placed, SaysLine, SaysSome, SayingsFault, fault_at, is_unread, line_in, line_rows_so_far, lines_in, many_files, named_again, no_line, not_read, placed_in}
+use Rattle.project_manifest.specs.Lines.{Line, LineFault, NamesAgain, NamesTooMany, Placed, SaysLine, SaysSome, SayingsFault, fault_at, line_in, line_rows, lines_in, many_files, named_again, no_line, placed_in}
 use Rattle.project_manifest.specs.Manifests.{Saying, statements_in}
 use Rattle.project_manifest.specs.Reading.{IsFaultless, IsLineError, IsManifestError}
 use Rattle.project_manifest.specs.Rows.{At, First, HaveNone, places, places_from}
@@ -18,7 +17,7 @@ use Rattle.project_manifest.proofs.Firsts.{first_past, none_append, none_more, p
 use Rattle.project_manifest.proofs.Saying.{line_is, one_line}
 
 -- a line that says nothing
-pub refused_line : (before : List Placed) (s : Saying) → ((said : Line) → SaysLine s.words said → ⊥) → First (LineFault before s) line_rows_so_far (fault_at s.line why.Statement)
+pub refused_line : (before : List Placed) (s : Saying) → ((said : Line) → SaysLine s.words said → ⊥) → First (LineFault before s) line_rows (fault_at s.line why.Statement)
 refused_line before s none = inl (none, refl)
 
 -- A line that says this.
@@ -29,29 +28,21 @@ module _ (before : List Placed) (s : Saying) (said : Line) (says : SaysLine s.wo
   some_line : (found : FaultAt) → LineFault before s no_line found → ⊥
   some_line found (none, e) = none said says
 
-  pub refused_again : NamesAgain before said → First (LineFault before s) line_rows_so_far (fault_at s.line why.Duplicate)
+  pub refused_again : NamesAgain before said → First (LineFault before s) line_rows (fault_at s.line why.Duplicate)
   refused_again again = inr (some_line, inl ((said, says, again), refl))
 
   module _ (new : NamesAgain before said → ⊥) where
     not_again : (found : FaultAt) → LineFault before s named_again found → ⊥
     not_again found (some, e) = new (of_this (NamesAgain before) some)
 
-    pub refused_unread : IsTrue (is_unread said) → First (LineFault before s) line_rows_so_far (fault_at s.line why.NotBuilt)
-    refused_unread unread = inr (some_line, inr (not_again, inl ((said, says, unread), refl)))
+    pub refused_many : NamesTooMany before said → First (LineFault before s) line_rows (fault_at s.line why.LimitFiles)
+    refused_many many = inr (some_line, inr (not_again, inl ((said, says, many), refl)))
 
-    module _ (readable : is_unread said ≡ false) where
-      is_readable : (found : FaultAt) → LineFault before s not_read found → ⊥
-      is_readable found (some, e) = let clash : false ≡ true = sym readable ∙ of_this (λ (l : Line). IsTrue (is_unread l)) some in cc
-
-      pub refused_many : NamesTooMany before said → First (LineFault before s) line_rows_so_far (fault_at s.line why.LimitFiles)
-      refused_many many = inr (some_line, inr (not_again, inr (is_readable, inl ((said, says, many), refl))))
-
-      pub faultless_line : (NamesTooMany before said → ⊥) → IsFaultless before s
-      faultless_line few =
-          none_more (LineFault before s) no_line (named_again ∷ not_read ∷ many_files ∷ []) some_line
-          (none_more (LineFault before s) named_again (not_read ∷ many_files ∷ []) not_again
-          (none_more (LineFault before s) not_read (many_files ∷ []) is_readable
-          (none_more (LineFault before s) many_files [] (λ found h. few (of_this (NamesTooMany before) h.0)) (λ found h. h))))
+    pub faultless_line : (NamesTooMany before said → ⊥) → IsFaultless before s
+    faultless_line few =
+        none_more (LineFault before s) no_line (named_again ∷ many_files ∷ []) some_line
+        (none_more (LineFault before s) named_again (many_files ∷ []) not_again
+        (none_more (LineFault before s) many_files [] (λ found h. few (of_this (NamesTooMany before) h.0)) (λ found h. h)))
 
   -- with it the lines are these
   pub with_line : (old new : List Placed) → new ≡ old ++ record { line = s.line; said = said } ∷ [] → new ≡ old ++ placed_in s.line (line_in s.words)
@@ -66,7 +57,7 @@ module _ (xs : List Said) (i : ℕ) (x : Said) (below : i < length xs) (is : x �
   rest = map saying_of (drop (i + 1) xs)
 
   abbrev HasAt : At Saying → FaultAt → Type 0
-  HasAt place found = First (LineFault (lines_in place.before) place.item) line_rows_so_far found
+  HasAt place found = First (LineFault (lines_in place.before) place.item) line_rows found
 
   whole : map saying_of xs ≡ front ++ saying_of x ∷ rest
   whole =
@@ -86,9 +77,9 @@ module _ (xs : List Said) (i : ℕ) (x : Said) (below : i < length xs) (is : x �
       append_none (l ∷ z) = ap (λ (r : List Placed). l ∷ r) (append_none z)
 
   module _ (before : List Placed) (before_is : before ≡ lines_in front) (none : HaveNone HasAt (places front)) where
-    pub fault_here : (found : FaultAt) → First (LineFault before (saying_of x)) line_rows_so_far found → SayingsFault line_rows_so_far (map saying_of xs) found
+    pub fault_here : (found : FaultAt) → First (LineFault before (saying_of x)) line_rows found → SayingsFault line_rows (map saying_of xs) found
     fault_here found h =
-        let here : HasAt (record { before = front; item = saying_of x }) found = subst (λ (b : List Placed). First (LineFault b (saying_of x)) line_rows_so_far found) before_is h in
+        let here : HasAt (record { before = front; item = saying_of x }) found = subst (λ (b : List Placed). First (LineFault b (saying_of x)) line_rows found) before_is h in
         let behind : First HasAt (places_from [] front ++ places_from front (saying_of x ∷ rest)) found = first_past HasAt (places front) (places_from front (saying_of x ∷ rest)) found none (inl here) in
         subst (λ (z : List Saying). First HasAt (places z) found) (sym whole) (subst (λ z. First HasAt z found) (sym (places_append [] front (saying_of x ∷ rest))) behind)
 
@@ -100,8 +91,8 @@ module _ (xs : List Said) (i : ℕ) (x : Said) (below : i < length xs) (is : x �
 
 -- the first fault of the lines of a text, or want of memory
 pub manifest_error : (xs : List Said) (i : ℕ) (x : Said) → i < length xs → x ≡ get_or xs i x → (before : List Placed) → before ≡ lines_in (map saying_of (take i xs))
-    → ((found : FaultAt) → SayingsFault line_rows_so_far (map saying_of (take i xs)) found → ⊥) → (text : List ℕ) → map saying_of xs ≡ statements_in text → (error : ReadError)
+    → ((found : FaultAt) → SayingsFault line_rows (map saying_of (take i xs)) found → ⊥) → (text : List ℕ) → map saying_of xs ≡ statements_in text → (error : ReadError)
     → IsLineError before (saying_of x) error → IsManifestError text error
 manifest_error xs i x below is before before_is none text same (Fault line reason) h =
-    subst (λ (z : List Saying). SayingsFault line_rows_so_far z (fault_at line reason)) same (fault_here xs i x below is before before_is none (fault_at line reason) h)
+    subst (λ (z : List Saying). SayingsFault line_rows z (fault_at line reason)) same (fault_here xs i x below is before before_is none (fault_at line reason) h)
 manifest_error xs i x below is before before_is none text same (Memory refused) h = tt

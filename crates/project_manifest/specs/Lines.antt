@@ -87,12 +87,6 @@ abbrev pub is_gloss : Line → Bool
 is_gloss (gloss_line file) = true
 is_gloss _ = false
 
--- a line that isn't read yet: it names a grammar or glosses
-abbrev pub is_unread : Line → Bool
-is_unread (twolc_line name file) = true
-is_unread (gloss_line file) = true
-is_unread _ = false
-
 -- a line of the manifest, by its number
 pub record Placed : Type 0 where
   pub line : ℕ
@@ -116,6 +110,14 @@ files_in lines = flat_map (λ l. file_in l.said) lines
 abbrev pub symbols_of : List Placed → List (List ℕ)
 symbols_of lines = flat_map (λ l. symbols_said l.said) lines
 
+-- the files of glosses that lines name
+abbrev pub glosses_said : Line → List (List ℕ)
+glosses_said (gloss_line file) = file ∷ []
+glosses_said _ = []
+
+abbrev pub gloss_files_in : List Placed → List (List ℕ)
+gloss_files_in lines = flat_map (λ l. glosses_said l.said) lines
+
 -- Faults of a line, behind the lines before it.
 
 -- the most files besides the manifest
@@ -125,16 +127,10 @@ most_files = 64
 pub data LineRow : Type 0 where
   no_line : LineRow
   named_again : LineRow
-  -- until these files are read
-  not_read : LineRow
   many_files : LineRow
 
 abbrev pub line_rows : List LineRow
 line_rows = no_line ∷ named_again ∷ many_files ∷ []
-
--- those that are told so far
-abbrev pub line_rows_so_far : List LineRow
-line_rows_so_far = no_line ∷ named_again ∷ not_read ∷ many_files ∷ []
 
 -- its file was named before, or it is a second line of glosses
 abbrev pub NamesAgain : List Placed → Line → Type 0
@@ -156,7 +152,6 @@ fault_at line why = record { line = line; why = why }
 abbrev pub LineFault : List Placed → Saying → LineRow → FaultAt → Type 0
 LineFault before s no_line found = Where ((said : Line) → SaysLine s.words said → ⊥) (fault_at s.line why.Statement) found
 LineFault before s named_again found = Where (SaysSome s.words (NamesAgain before)) (fault_at s.line why.Duplicate) found
-LineFault before s not_read found = Where (SaysSome s.words (λ said. IsTrue (is_unread said))) (fault_at s.line why.NotBuilt) found
 LineFault before s many_files found = Where (SaysSome s.words (NamesTooMany before)) (fault_at s.line why.LimitFiles) found
 
 -- the first fault of statements by these rows

@@ -1,5 +1,5 @@
 ghost use Rattle.std.specs.Prelude.{◌≡◌, ◌∷◌, List, ℕ, [], IfOk, MatchOption, length, map};
-ghost use Rattle.project_manifest.specs.Lines.{Line, SaysLine, file_in, is_gloss, is_unread, names_required, symbols_said};
+ghost use Rattle.project_manifest.specs.Lines.{Line, SaysLine, file_in, is_gloss, names_required, symbols_said};
 ghost use Rattle.project_manifest.specs.Manifests.{text_of};
 ghost use Rattle.project_manifest.specs.Sayings.{AreNames, AreSymbols, AreTexts, IsFile, IsNamedFile, SaysBy, as_written, line_of};
 
@@ -83,17 +83,6 @@ impl Declaration {
         ensures { result ≡ is_gloss (line_of self.now) }
     {
         match self {
-            Declaration::Glosses { .. } => true,
-            _ => false,
-        }
-    }
-
-    /// Whether its file isn't read yet: it is a grammar or the table of glosses.
-    pub fn is_unread(&self) -> bool
-        ensures { result ≡ is_unread (line_of self.now) }
-    {
-        match self {
-            Declaration::Grammar { .. } => true,
             Declaration::Glosses { .. } => true,
             _ => false,
         }

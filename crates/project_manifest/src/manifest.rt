@@ -141,9 +141,6 @@ fn declared_behind(
     if names_again(&declares, lines, files) {
         return Err(refused(said, Why::Duplicate));
     }
-    if declares.is_unread() {
-        return Err(refused(said, Why::NotBuilt));
-    }
     if names_too_many(&declares, files) {
         return Err(refused(said, Why::LimitFiles));
     }
@@ -188,7 +185,6 @@ fn add_line(
 /// - `Statement`, where it is none of `lexc NAME FILE`, `twolc NAME FILE`, `xfst FILE`, `alphabet SYM ..`, `require NAME ..` and
 ///   `gloss FILE`;
 /// - `Duplicate`, where it names a file again, or a second table of glosses;
-/// - `NotBuilt`, where it names a grammar or a table of glosses, which aren't read yet;
 /// - `LimitFiles`, where it names the 65th file.
 ///
 /// `Memory` where there was no memory.

@@ -2,7 +2,7 @@
 use Rattle.std.proofs.Common.{◌≡◌, ℕ, ◌<◌, ◌==◌, Bool, true, false, cond, ◌||◌, IsTrue, List, [], ◌∷◌, ◌⊎◌, length, Some, None, refl, sym, ap, subst, ◌∙◌, inl, inr, slice_get, arith, All, Contains}
 use Rattle.std.proofs.lemmas.List.Elements.{All-nil, All-cons, All-head, All-tail, All-map, All-weaker, All-contains, Contains-append_left}
 use Rattle.std.proofs.lemmas.Bool.Decides.{nat_tests}
-use Rattle.std.proofs.lemmas.Option.{slice_get-map, slice_get_cases, slice_get_within, get_or_from_slice_get, same_Some}
+use Rattle.std.proofs.lemmas.Option.{slice_get-map, slice_get_cases, get_or_from_slice_get, same_Some}
 use Rattle.std.proofs.lemmas.Slice.Eq.{bytes_eq-Decides}
 use Rattle.std.specs.List.{list_any, slice_index_or}
 use Rattle.std.specs.Option.{option_map}
@@ -16,7 +16,8 @@ use Rattle.fsm_base.specs.Symbols.{number_of, with_text}
 use Rattle.project_meaning.specs.Projects.{with_texts}
 use Rattle.project_model.specs.Numbered.{numbers_in}
 use Rattle.project_model.proofs.Gathering.{with_texts_behind}
-use Rattle.name_resolution.proofs.Texts.{any_from_has, number_held, text_with}
+use Rattle.name_resolution.proofs.Texts.{text_with}
+use Rattle.project_definitions.proofs.Numbers.{at_number, number_within, same_text}
 
 pub cases_bool : (b : Bool) → (b ≡ true) ⊎ (b ≡ false)
 cases_bool true = inl refl
@@ -31,19 +32,6 @@ kept texts table text among =
 pub put : (texts table : List (List ℕ)) → All (Contains (with_texts table texts)) texts
 put [] table = All-nil (Contains table)
 put (text ∷ texts) table = All-cons (Contains (with_texts (with_text text table) texts)) text texts (kept texts (with_text text table) text (text_with text table)) (put texts (with_text text table))
-
--- a text that a table has stands there under its number
-pub at_number : (table : List (List ℕ)) (text : List ℕ) → Contains table text → slice_get table (number_of text table) ≡ Some text
-at_number table text among = number_held text table (any_from_has text table among)
-
-pub number_within : (table : List (List ℕ)) (text : List ℕ) → Contains table text → number_of text table < length table
-number_within table text among = slice_get_within table (number_of text table) text (at_number table text among)
-
--- two texts of a table with the same number are the same
-pub same_text : (table : List (List ℕ)) (text other : List ℕ) → Contains table text → Contains table other → number_of text table ≡ number_of other table
-    → text ≡ other
-same_text table text other among is_among same =
-    same_Some text other (sym (at_number table text among) ∙ ap (slice_get table) same ∙ at_number table other is_among)
 
 abbrev symbol_in : List (List ℕ) → List ℕ → Sym
 symbol_in table text = record { 0 = number_of text table }

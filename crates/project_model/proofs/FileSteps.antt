@@ -17,11 +17,12 @@ use Rattle.project_manifest.specs.declared.manifest.ManifestLine.{ManifestLine}
 use Rattle.project_manifest.proofs.Firsts.{first_past, none_append, none_more}
 use Rattle.lexc_grammar.specs.Files.{SaysLexicons}
 use Rattle.project_meaning.specs.Projects.{Written}
-use Rattle.project_meaning.specs.Trees.{Lexicon as Lexicons, lexc}
+use Rattle.project_meaning.specs.Trees.{Grammar as GrammarTree, Lexicon as Lexicons, lexc, twolc}
+use Rattle.twolc_grammar.specs.Sections.{ReadsAs as SaysGrammar}
 use Rattle.project_sources.specs.Faults.{FileFault, HasNoText, NamedFault, fault, file_rows, missing, no_text, unread}
-use Rattle.project_sources.specs.Laws.{readers_so_far as readers}
+use Rattle.project_sources.specs.Laws.{all_readers as readers}
 use Rattle.project_sources.specs.Sources.{FileDefines, FilesDefine, HasText, HaveText, TextSays, declared, stated}
-use Rattle.project_sources.proofs.Once.{says_one, text_one, exact_so_far}
+use Rattle.project_sources.proofs.Once.{says_one, text_one, all_exact}
 use Rattle.project_model.specs.Answers.{IsRefusal, IsRefusedBy}
 use Rattle.project_model.specs.Files.{HasDefined, HasPut, IsUnread}
 use Rattle.project_files.specs.declared.plan_error.PlanError.{PlanError}
@@ -71,7 +72,7 @@ module _ (files : Files) (l : Placed) (file : List ℕ) (names : file_in l.said 
           is_read : (found : Fault) → FileFault readers files l file unread found → ⊥
           is_read found (t, at, have_it, also, e) =
               let same : t ≡ text = text_one files file t text have_it have in
-              let clash : Ok more ≡ Err at = says_one readers exact_so_far l.line l.said text (Ok more) (Err at) says (subst (λ (z : List ℕ). TextSays readers l.line l.said z (Err at)) same also) in
+              let clash : Ok more ≡ Err at = says_one readers all_exact l.line l.said text (Ok more) (Err at) says (subst (λ (z : List ℕ). TextSays readers l.line l.said z (Err at)) same also) in
               cc
 
           none : (found : Fault) → First (λ f. First (FileFault readers files l f) file_rows) (file ∷ []) found → ⊥
@@ -104,15 +105,19 @@ pub put_lexicons : (line : ℕ) (name named text : List ℕ) (lexicons : List (L
     → HasPut (placed_of (record { number = line; declares = Lexicon name named })) text old new
 put_lexicons line name named text lexicons old new says is = (declared name line (lexc lexicons), (lexicons, says, refl), is)
 
-pub unread_line : (line : ℕ) (d : Declaration) (file text : List ℕ) (error : PlanError) → file_in (line_of d) ≡ file ∷ [] → ((named : List ℕ) → d ≡ Definitions named → ⊥) → ((name named : List ℕ) → d ≡ Lexicon name named → ⊥)
+pub put_grammar : (line : ℕ) (name named text : List ℕ) (grammar : GrammarTree Raw) (old new : List Written) → SaysGrammar text (Ok grammar) → new ≡ old ++ declared name line (twolc grammar)
+    → HasPut (placed_of (record { number = line; declares = Grammar name named })) text old new
+put_grammar line name named text grammar old new says is = (declared name line (twolc grammar), (grammar, says, refl), is)
+
+pub unread_line : (line : ℕ) (d : Declaration) (file text : List ℕ) (error : PlanError) → file_in (line_of d) ≡ file ∷ [] → ((named : List ℕ) → d ≡ Definitions named → ⊥) → ((name named : List ℕ) → d ≡ Lexicon name named → ⊥) → ((name named : List ℕ) → d ≡ Grammar name named → ⊥) → ((named : List ℕ) → d ≡ Glosses named → ⊥)
     → IsRefusal (fault file 0 why.NotBuilt) error → IsRefusedBy (IsUnread (placed_of (record { number = line; declares = d })) file text) error
-unread_line line d file text (Memory refused) names other more is = tt
-unread_line line (Lexicon name it) file text (Refused found) names other more is = absurd (more name it refl)
-unread_line line (Grammar name it) file text (Refused found) names other more is = (record { line = 0; why = why.NotBuilt }, refl, is)
-unread_line line (Glosses it) file text (Refused found) names other more is = (record { line = 0; why = why.NotBuilt }, refl, is)
-unread_line line (Definitions it) file text (Refused found) names other more is = absurd (other it refl)
-unread_line line (Symbols symbols) file text (Refused found) names other more is = let clash : [] ≡ file ∷ [] = names in cc
-unread_line line (Required required) file text (Refused found) names other more is = let clash : [] ≡ file ∷ [] = names in cc
+unread_line line d file text (Memory refused) names other more grammar glosses is = tt
+unread_line line (Lexicon name it) file text (Refused found) names other more grammar glosses is = absurd (more name it refl)
+unread_line line (Grammar name it) file text (Refused found) names other more grammar glosses is = absurd (grammar name it refl)
+unread_line line (Glosses it) file text (Refused found) names other more grammar glosses is = absurd (glosses it refl)
+unread_line line (Definitions it) file text (Refused found) names other more grammar glosses is = absurd (other it refl)
+unread_line line (Symbols symbols) file text (Refused found) names other more grammar glosses is = let clash : [] ≡ file ∷ [] = names in cc
+unread_line line (Required required) file text (Refused found) names other more grammar glosses is = let clash : [] ≡ file ∷ [] = names in cc
 
 -- with one line more
 files_more : (files : Files) (lines : List Placed) (written more : List Written) (l : Placed) → FilesDefine readers files lines written → FileDefines readers files l (file_in l.said) more
@@ -123,7 +128,7 @@ files_more files (k ∷ lines) written more l (front, rest, here, others, is) de
 
 -- A loop over lines, of which the file of the one at this place is read.
 module _ (files : Files) (xs : List ManifestLine) (i : ℕ) (x : ManifestLine) (below : i < length xs) (is : x ≡ get_or xs i x) where
-  front_more : map placed_of (take (i + 1) xs) ≡ map placed_of (take i xs) ++ placed_of x ∷ []
+  pub front_more : map placed_of (take (i + 1) xs) ≡ map placed_of (take i xs) ++ placed_of x ∷ []
   front_more = ap (map placed_of) (take_more xs i x below ∙ ap (λ (e : ManifestLine). take i xs ++ e ∷ []) (sym is)) ∙ map-append placed_of (take i xs) (x ∷ [])
 
   split : map placed_of xs ≡ map placed_of (take i xs) ++ placed_of x ∷ map placed_of (drop (i + 1) xs)

@@ -13,9 +13,9 @@ use Rattle.project_sources.specs.Faults.{fault, NameFault, name_rows, NamesFault
 use Rattle.project_manifest.proofs.Firsts.{first_past, none_append, none_more, places_append}
 use Rattle.project_model.specs.Answers.{IsRefusal, IsRefusedBy, written_of}
 use Rattle.project_files.specs.declared.plan_error.PlanError.{PlanError}
-use Rattle.project_files.specs.declared.plan_error.PlanError.TheVariants.{Refused, Memory}
 use Rattle.project_model.specs.declared.written.WrittenDefine.{WrittenDefine}
 use Rattle.name_resolution.proofs.Texts.{has_from_any, not_had}
+use Rattle.project_definitions.proofs.Steps.{refused_by}
 
 pub not_false : (b : Bool) → false ≡ not b → b ≡ true
 not_false true e = refl
@@ -24,11 +24,6 @@ not_false false e = cc
 pub not_true : (b : Bool) → true ≡ not b → b ≡ false
 not_true true e = cc
 not_true false e = refl
-
--- a refusal for such a fault
-pub refused_by : (IsFault : Fault → Type 0) (found : Fault) (error : PlanError) → IsFault found → IsRefusal found error → IsRefusedBy IsFault error
-refused_by IsFault found (Refused other) it is = subst IsFault (sym is) it
-refused_by IsFault found (Memory refused) it is = tt
 
 -- what a definition has by its name, behind others
 abbrev pub Has : At Written → Fault → Type 0

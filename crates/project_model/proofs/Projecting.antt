@@ -1,14 +1,13 @@
 -- The plan of what is written: loops over definitions and over the symbols of an alphabet.
-use Rattle.std.proofs.Common.{◌≡◌, ◌↔◌, ◌+◌, ◌<◌, ◌≤◌, ℕ, List, [], ◌∷◌, ◌++◌, length, map, take, drop, get_or, Option, Some, None, slice_get, refl, sym, ap, subst, ◌∙◌, inl, inr, arith, All, Contains, Result, Ok, Err}
-use Rattle.std.proofs.lemmas.List.{take_more, map-append, take-append-drop, take_all, take-append-le, length-take}
-use Rattle.std.proofs.lemmas.List.Elements.{All-append, All-cons, All-nil, All-head, All-tail, All-weaker, All-contains}
+use Rattle.std.proofs.Common.{◌≡◌, ◌↔◌, ◌+◌, ◌<◌, ◌≤◌, ℕ, List, [], ◌∷◌, ◌++◌, length, map, take, get_or, Option, Some, None, slice_get, refl, sym, ap, subst, ◌∙◌, inl, inr, arith, All, Contains, Result, Ok, Err, IfErr}
+use Rattle.std.proofs.lemmas.List.{take_more, map-append, take_all, take-append-le, length-take}
+use Rattle.std.proofs.lemmas.List.Elements.{All-weaker, All-contains}
 use Rattle.std.proofs.lemmas.Option.{slice_get-get_or, get_or_from_slice_get, slice_get_within}
 use Rattle.std.specs.List.{flat_map}
 use Rattle.std.specs.Option.{option_map}
 use Rattle.fsm_base.specs.Symbols.{IsSymbol, IsTable, number_of, with_text}
 use Rattle.fsm_base.specs.declared.letters.Sym.{Sym}
 use Rattle.word_relations.specs.Words.{IsDistinct}
-use Rattle.word_relations.proofs.Behind.{left_behind}
 use Rattle.expr_kinds.specs.declared.form.Form.{Form}
 use Rattle.name_order.specs.Orders.{HasNoCycle as HasNoRound}
 use Rattle.regex_ast.specs.declared.expr.Atom.{Atom}
@@ -16,72 +15,41 @@ use Rattle.regex_ast.specs.declared.fault.Fault.{Fault}
 use Rattle.regex_ast.specs.declared.fault.Why.TheVariants as why
 use Rattle.project_manifest.specs.Lines.{Placed, symbols_of}
 use Rattle.project_manifest.specs.Manifests.{project_name}
-use Rattle.project_manifest.specs.Rows.{First, HaveNone, Where}
+use Rattle.project_manifest.specs.Rows.{First, HaveNone}
 use Rattle.project_meaning.specs.Leaves.{resolved, symbols_in}
 use Rattle.project_meaning.specs.Projects.{Definition as Meant, Written, definition_in, names_of, with_texts}
 use Rattle.project_sources.specs.Limits.{most_symbols}
 use Rattle.project_sources.specs.Sources.{Said, project_in}
 use Rattle.project_sources.specs.Faults.{fault, in_names, many_symbols, unknown, cyclic, no_language, heavy, unbuilt, SaidFault, NamesFault, definitions_so_far, said_so_far}
-use Rattle.project_manifest.proofs.Firsts.{first_past, none_more}
-use Rattle.project_model.specs.Answers.{DemandFault, DoesMeet, IsPlanBy, IsRefusal, IsRefusedBy, UnknownFault, demands, said_of, why_not}
-use Rattle.project_model.specs.Forms.{AreDefined, AreForms}
+use Rattle.project_manifest.proofs.Firsts.{none_more}
+use Rattle.project_definitions.specs.Demands.{DemandFault, DoesMeet, demands}
+use Rattle.project_model.specs.Answers.{IsPlanBy, IsRefusal, IsRefusedBy, UnknownFault, said_of}
+use Rattle.project_definitions.specs.Forms.{AreDefined, AreForms}
 use Rattle.project_meaning.specs.Trees.{Body}
-use Rattle.project_model.specs.Bodies.{IsFormed, mapped_body}
+use Rattle.project_definitions.specs.Bodies.{IsFormed, mapped_body}
 use Rattle.project_model.specs.Gathered.{gathered, symbols_beside, symbols_of_all}
 use Rattle.name_resolution.specs.Numbered.{numbered}
 use Rattle.project_model.specs.Numbered.{IsBodyOver, numbers_in}
+use Rattle.interlinear.specs.Glosses.{Entry as Glossed}
 use Rattle.project_model.specs.Plans.{IsPlan, IsSoundOver, PlanView}
-use Rattle.project_model.specs.Referring.{CycleFault, references_of}
-use Rattle.project_model.specs.Stands.{Entry, entry_in, entry_of}
-use Rattle.project_model.specs.declared.definition.Definition.{Definition}
-use Rattle.project_model.specs.declared.demands.Demand.{Demand}
-use Rattle.project_model.specs.declared.demands.Demand.TheVariants as demand
+use Rattle.project_definitions.specs.Referring.{CycleFault, references_of}
+use Rattle.project_definitions.specs.Entries.{Entry, entry_in, entry_of}
+use Rattle.project_definitions.specs.declared.definition.Definition.{Definition}
+use Rattle.project_definitions.specs.declared.demands.Demand.TheVariants as demand
 use Rattle.project_files.specs.declared.plan_error.PlanError.{PlanError}
 use Rattle.project_files.specs.declared.plan_error.PlanError.TheVariants.{Refused, Memory}
 use Rattle.project_model.proofs.Alphabets.{numbers_distinct, put}
-use Rattle.project_model.proofs.Built.{All-front}
-use Rattle.project_model.proofs.Demanded.{demand_fault}
+use Rattle.project_definitions.proofs.Built.{All-front}
+use Rattle.project_definitions.proofs.Demanded.{demand_fault}
 use Rattle.project_model.proofs.Gathering.{with_texts-append, with_texts_behind}
-use Rattle.project_model.proofs.NameSteps.{refused_by}
-use Rattle.project_model.proofs.Forming.{kind_there}
-use Rattle.project_model.proofs.Referring.{count, cycle_fault, none_cyclic}
+use Rattle.project_definitions.proofs.Steps.{refused_by}
+use Rattle.project_definitions.proofs.Forming.{kind_there}
+use Rattle.project_definitions.proofs.Referring.{count, cycle_fault, none_cyclic}
 use Rattle.project_model.proofs.Requiring.{unknown_fault}
-use Rattle.project_model.proofs.Expressions.{names_said}
+use Rattle.project_definitions.proofs.Expressions.{names_said}
 use Rattle.project_model.proofs.Sound.{definitions_over, sound_definitions}
 use Rattle.name_resolution.proofs.Texts.{one_longer}
-
--- a loop over items of which a list is made: what was made, and one more
-module _ {X Y : Type 0} (f : X → Y) (xs : List X) (i : ℕ) (x : X) (below : i < length xs) (is : x ≡ get_or xs i x) where
-  front_more : take (i + 1) xs ≡ take i xs ++ x ∷ []
-  front_more = take_more xs i x below ∙ ap (λ (e : X). take i xs ++ e ∷ []) (sym is)
-
-  pub made_more : map f (take (i + 1) xs) ≡ map f (take i xs) ++ f x ∷ []
-  made_more = ap (map f) front_more ∙ map-append f (take i xs) (x ∷ [])
-
--- all so far have the property, and the next one has it
-pub all_more : {X : Type 0} (P : X → Type 0) (xs : List X) (i : ℕ) (x : X) → i < length xs → x ≡ get_or xs i x → All P (take i xs) → P x → All P (take (i + 1) xs)
-all_more {X} P xs i x below is so_far here =
-    subst (All P) (sym (take_more xs i x below ∙ ap (λ (e : X). take i xs ++ e ∷ []) (sym is))) (All-append P (take i xs) (x ∷ []) so_far (All-cons P x [] here (All-nil P)))
-
-abbrev Fault_by : List Form → Demand → Definition → Fault → Type 0
-Fault_by forms asked d found = Where (DoesMeet forms asked d → ⊥) (fault d.file d.line (why_not asked)) found
-
--- definitions that all meet what is asked have no fault by it
-pub all_pass : (forms : List Form) (asked : Demand) (xs : List Definition) → All (DoesMeet forms asked) xs → (found : Fault) → DemandFault xs forms asked found → ⊥
-all_pass forms asked [] all found h = h
-all_pass forms asked (x ∷ xs) all found h =
-    elim h as (λ _. ⊥) [
-      | inl (fails, is) ↦ fails (All-head (DoesMeet forms asked) x xs all)
-      | inr later ↦ all_pass forms asked xs (All-tail (DoesMeet forms asked) x xs all) found later.1
-    ]
-
--- the first definition that fails
-pub first_fails : (forms : List Form) (asked : Demand) (xs : List Definition) (i : ℕ) (x : Definition) → i < length xs → x ≡ get_or xs i x
-    → All (DoesMeet forms asked) (take i xs) → (DoesMeet forms asked x → ⊥) → DemandFault xs forms asked (fault x.file x.line (why_not asked))
-first_fails forms asked xs i x below is before fails =
-    let behind = first_past (Fault_by forms asked) (take i xs) (x ∷ drop (i + 1) xs) (fault x.file x.line (why_not asked)) (all_pass forms asked (take i xs) before) (inl (fails, refl)) in
-    let split : xs ≡ take i xs ++ x ∷ drop (i + 1) xs = sym (take-append-drop i xs) ∙ ap (λ (z : List Definition). take i xs ++ z) (left_behind xs i x below is) in
-    subst (λ (z : List Definition). DemandFault z forms asked (fault x.file x.line (why_not asked))) (sym split) behind
+use Rattle.project_definitions.proofs.Steps.{all_pass, made_more}
 
 -- a list that is made of another by two functions
 pub made_both : {X Y Z W : Type 0} (f : Y → W) (g : Z → W) (h : X → Z) (xs : List X) (i : ℕ) (x : X) (found new : List Y) (y : Y) → i < length xs
@@ -90,6 +58,15 @@ pub made_both : {X Y Z W : Type 0} (f : Y → W) (g : Z → W) (h : X → Z) (xs
 made_both {W = W} f g h xs i x found new y below is new_is same so_far =
     ap (map f) new_is ∙ map-append f found (y ∷ []) ∙ ap (λ (z : List W). z ++ f y ∷ []) so_far ∙ ap (λ (w : W). map g (map h (take i xs)) ++ w ∷ []) same
     ∙ sym (ap (map g) (made_more h xs i x below is) ∙ map-append g (map h (take i xs)) (h x ∷ []))
+
+-- what refuses by one row refuses by another that has its faults
+pub refused_so : (P Q : Fault → Type 0) (error : PlanError) → ((found : Fault) → P found → Q found) → IsRefusedBy P error → IsRefusedBy Q error
+refused_so P Q (Refused found) each h = each found h
+refused_so P Q (Memory refused) each h = tt
+
+pub refused_or : {T : Type 0} (P Q : Fault → Type 0) (r : Result T PlanError) → ((found : Fault) → P found → Q found) → IfErr r (IsRefusedBy P) → IfErr r (IsRefusedBy Q)
+refused_or P Q (Ok x) each h = tt
+refused_or P Q (Err error) each h = refused_so P Q error each h
 
 -- the definition of one that is written
 pub entry_is : (names table : List (List ℕ)) (w : Written) (name file : List ℕ) (b : Body Atom) → name ≡ w.name → file ≡ w.file → b ≡ mapped_body (numbered names table) (resolved names w.body)
@@ -180,7 +157,7 @@ module _ (written : List Written) (names alphabet old new : List (List ℕ)) (de
       why_no_plan manifest (Refused found) h = inr (no_cycle manifest, (alike manifest found).0 h)
       why_no_plan manifest (Memory refused) h = tt
 
-      module _ (formed : All (λ (w : Written). IsFormed w.body) written) (symbols : List Sym) (numbers_are : symbols ≡ numbers_in new alphabet) (distinct : IsDistinct alphabet) (fits : All (DoesMeet forms demand.Fits) definitions)
+      module _ (glosses : List Glossed) (formed : All (λ (w : Written). IsFormed w.body) written) (symbols : List Sym) (numbers_are : symbols ≡ numbers_in new alphabet) (distinct : IsDistinct alphabet) (fits : All (DoesMeet forms demand.Fits) definitions)
           (light : All (DoesMeet forms demand.Light) definitions) (built : All (DoesMeet forms demand.Built) definitions) where
         many : length forms ≡ length (names_of written)
         many = few ∙ count (said_of [] written) new definitions (defined [])
@@ -189,7 +166,7 @@ module _ (written : List Written) (names alphabet old new : List (List ℕ)) (de
         over = definitions_over (names_of written) alphabet new forms many definitions written said_are symbols_are built
 
         abbrev plan : PlanView
-        plan = record { definitions = definitions; symbols = symbols; forms = forms }
+        plan = record { definitions = definitions; symbols = symbols; forms = forms; glosses = glosses }
 
         pub is_plan : IsPlan plan
         is_plan = record {

@@ -1,5 +1,5 @@
 -- From the content of files to what they say together.
-use Rattle.std.proofs.Common.{◌≡◌, ◌↔◌, ◌==◌, ◌+◌, ◌*◌, ◌-◌, ◌^◌, ◌<◌, ◌≤◌, count_by, ℕ, Bool, true, false, cond, List, [], ◌∷◌, ◌++◌, length, map, All, Contains, Option, Some, None, Result, Ok, Err, refl, sym, ap, subst, ◌∙◌, inl, inr, arith}
+use Rattle.std.proofs.Common.{◌≡◌, ◌↔◌, ◌==◌, ◌+◌, ◌*◌, ◌-◌, ◌^◌, ◌<◌, ◌≤◌, count_by, ℕ, Bool, true, false, cond, List, [], ◌∷◌, ◌++◌, length, map, All, Contains, Option, Some, None, Result, Ok, Err, IfOk, refl, sym, ap, subst, ◌∙◌, inl, inr, arith}
 use Rattle.std.proofs.lemmas.List.Sums.{count_by-le-length}
 use Rattle.std.specs.Option.{option_map}
 use Rattle.fsm_io.specs.Folders.{Files, file_of}
@@ -8,16 +8,17 @@ use Rattle.fsm_base.specs.declared.letters.Sym.{Sym}
 use Rattle.fsm_base.specs.declared.normalize.TextError.TheVariants.{NotUtf8, Control}
 use Rattle.regex_ast.specs.declared.fault.Fault.{Fault}
 use Rattle.regex_ast.specs.declared.fault.Why.TheVariants as why
-use Rattle.project_manifest.specs.Lines.{ManifestFault, Placed, line_rows_so_far, manifest_of}
+use Rattle.interlinear.specs.Glosses.{Entry}
+use Rattle.project_manifest.specs.Lines.{ManifestFault, Placed, gloss_files_in, line_rows, manifest_of}
 use Rattle.project_manifest.specs.Manifests.{lines_from, lines_of, project_name}
 use Rattle.project_manifest.specs.Rows.{First}
 use Rattle.project_manifest.proofs.Firsts.{first_alike, none_more}
 use Rattle.project_meaning.specs.Projects.{Written}
 use Rattle.project_sources.specs.Limits.{most_bytes}
-use Rattle.project_sources.specs.Sources.{FilesDefine, FilesSay, HasText, HaveText, Said, project_in}
+use Rattle.project_sources.specs.Sources.{FilesDefine, FilesSay, GlossesOf, HasText, HaveText, Said, project_in}
 use Rattle.project_sources.specs.Faults.{fault, TextFault, too_long, NamedFault, Row, no_project, manifest_text, manifest_lines, in_files, in_said, HasFault, FirstFault, SaidFault, read_so_far, HasNoText, said_so_far}
-use Rattle.project_sources.specs.Laws.{readers_so_far as readers}
-use Rattle.project_sources.proofs.Once.{files_say_one, text_one, exact_so_far}
+use Rattle.project_sources.specs.Laws.{all_readers as readers}
+use Rattle.project_sources.proofs.Once.{files_say_one, text_one, all_exact}
 use Rattle.project_model.specs.Answers.{IsManifestFile, IsNoManifest, IsPlanBy, IsPlanOf, IsProjectRead, IsRefusal, IsRefusedBy, IsTextFault, said_of}
 use Rattle.project_model.specs.Plans.{PlanView}
 use Rattle.project_files.specs.declared.plan_error.PlanError.{PlanError}
@@ -100,7 +101,7 @@ no_manifest_of bytes text (Memory refused) has h = tt
 pub no_manifest_file : (bytes : List ℕ) (lines : List Placed) (found : Fault) → IsNoManifest bytes found → IsManifestFile bytes lines → ⊥
 no_manifest_file bytes lines found (inl none) is = textless project_name bytes is.text found none is.has_text
 no_manifest_file bytes lines found (inr (text, has, (at, faulty, e))) is =
-    is.faultless at (subst (λ (z : List ℕ). ManifestFault line_rows_so_far z at) (same_text bytes text is.text has is.has_text) faulty)
+    is.faultless at (subst (λ (z : List ℕ). ManifestFault line_rows z at) (same_text bytes text is.text has is.has_text) faulty)
 
 -- there is no manifest's file
 pub without_project : (files : Files) (old new : List (List ℕ)) (error : PlanError) → file_of project_name files ≡ None → IsRefusal (fault project_name 0 why.NoProject) error
@@ -132,8 +133,8 @@ module _ (files : Files) (content : List ℕ) (held : file_of project_name files
     have : HaveText files project_name manifest.text
     have = (content, held, manifest.has_text)
 
-    no_line_fault : (found : Fault) → HasFault readers files (manifest_lines line_rows_so_far) found → ⊥
-    no_line_fault found (t, at, have_it, faulty, e) = manifest.faultless at (subst (λ (z : List ℕ). ManifestFault line_rows_so_far z at) (text_one files project_name t manifest.text have_it have) faulty)
+    no_line_fault : (found : Fault) → HasFault readers files (manifest_lines line_rows) found → ⊥
+    no_line_fault found (t, at, have_it, faulty, e) = manifest.faultless at (subst (λ (z : List ℕ). ManifestFault line_rows z at) (text_one files project_name t manifest.text have_it have) faulty)
 
     -- a fault of the files that it names
     pub unread_files : (old new : List (List ℕ)) (error : PlanError) → IsRefusedBy (First (NamedFault readers files) lines) error → IsProjectRead files old new (Err error)
@@ -158,19 +159,25 @@ module _ (files : Files) (content : List ℕ) (held : file_of project_name files
       rows_of_said =
           first_alike (SaidFault said) (HasFault readers files) in_said (λ row. row) said_so_far (map in_said said_so_far) refl
           (λ row other among same found. subst (λ (r : Row). SaidFault said row found ↔ HasFault readers files r found) same
-          ((λ h. (said, says, h)), (λ (also, also_says, h). subst (λ s. SaidFault s row found) (files_say_one readers exact_so_far files also said also_says says) h)))
+          ((λ h. (said, says, h)), (λ (also, also_says, h). subst (λ s. SaidFault s row found) (files_say_one readers all_exact files also said also_says says) h)))
 
       -- the plan of what they say is the files'
-      pub planned_files : (old new : List (List ℕ)) (answer : Result PlanView PlanError) → IsPlanBy said_so_far said old new answer → IsProjectRead files old new answer
-      planned_files old new (Ok plan) (none, stands) = record {
-        faultless = none_more (HasFault readers files) no_project (manifest_text ∷ manifest_lines line_rows_so_far ∷ in_files ∷ map in_said said_so_far) there_is
-            (none_more (HasFault readers files) manifest_text (manifest_lines line_rows_so_far ∷ in_files ∷ map in_said said_so_far) (has_a_text manifest.text manifest.has_text)
-            (none_more (HasFault readers files) (manifest_lines line_rows_so_far) (in_files ∷ map in_said said_so_far) no_line_fault
+      pub planned_files : (table : List Entry) → GlossesOf readers files [] (gloss_files_in lines) table → (old new : List (List ℕ)) (answer : Result PlanView PlanError) → IsPlanBy said_so_far said old new answer
+          → IfOk answer (λ plan. plan.glosses ≡ table) → IsProjectRead files old new answer
+      planned_files table glosses old new (Ok plan) (none, stands) kept = record {
+        faultless = none_more (HasFault readers files) no_project (manifest_text ∷ manifest_lines line_rows ∷ in_files ∷ map in_said said_so_far) there_is
+            (none_more (HasFault readers files) manifest_text (manifest_lines line_rows ∷ in_files ∷ map in_said said_so_far) (has_a_text manifest.text manifest.has_text)
+            (none_more (HasFault readers files) (manifest_lines line_rows) (in_files ∷ map in_said said_so_far) no_line_fault
             (none_more (HasFault readers files) in_files (map in_said said_so_far) no_file_fault (λ found h. none found ((rows_of_said found).1 h)))));
         said = said;
         says = says;
         stands = stands;
+        glosses = (
+          manifest.text,
+          have,
+          subst (GlossesOf readers files [] (gloss_files_in (manifest_of manifest.text))) (sym kept) (subst (λ (z : List Placed). GlossesOf readers files [] (gloss_files_in z) table) manifest.says glosses),
+        );
       }
-      planned_files old new (Err (Refused found)) h =
+      planned_files table glosses old new (Err (Refused found)) h kept =
           inr (there_is, inr (has_a_text manifest.text manifest.has_text, inr (no_line_fault, inr (no_file_fault, (rows_of_said found).0 h))))
-      planned_files old new (Err (Memory refused)) h = tt
+      planned_files table glosses old new (Err (Memory refused)) h kept = tt

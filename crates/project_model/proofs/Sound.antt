@@ -15,28 +15,30 @@ use Rattle.expr_kinds.specs.declared.form.Form.{Form as Told}
 use Rattle.expr_leaves.specs.Leaves.{listed}
 use Rattle.expr_leaves.specs.Mapped.{mapped}
 use Rattle.project_meaning.specs.Trees.{Piece, letter, flag, Form, sides, pairs, Entry, Lexicon, Body, xfst, lexc, twolc}
-use Rattle.project_meaning.specs.Leaves.{Leaf, symbol, named, form_symbols, leaf_of, piece_symbols, resolved, resolved_entry, resolved_form, resolved_lexicon, resolved_piece, symbol_in, symbol_of, symbols_in, written as text_of}
+use Rattle.project_meaning.specs.Leaves.{Leaf, symbol, named, form_symbols, leaf_of, piece_symbols, resolved, resolved_entry, resolved_form, resolved_grammar, resolved_lexicon, resolved_piece, symbol_in, symbol_of, symbols_in, written as text_of}
 use Rattle.project_meaning.specs.Lexicons.{piece_by}
 use Rattle.lexicon_spelling.specs.Mapped.{mapped_entry, mapped_form, mapped_lexicon}
 use Rattle.project_sources.specs.Built.{BodyIsBuiltBy, FormIsBuiltBy, LexiconIsBuiltBy, PieceIsBuiltBy}
-use Rattle.project_model.specs.Bodies.{BodyFitsBy, IsFormed, mapped_body}
-use Rattle.project_model.specs.Plain.{body_of}
-use Rattle.project_model.proofs.Bodies.{all_held, all_on, formed_resolved, listed_forms}
+use Rattle.project_definitions.specs.Bodies.{BodyFitsBy, IsFormed, mapped_body}
+use Rattle.project_definitions.specs.Plain.{body_of}
+use Rattle.project_definitions.proofs.Bodies.{all_held, all_on, formed_resolved, listed_forms}
 use Rattle.project_meaning.specs.Projects.{Definition as Meant, Written, definition_in}
-use Rattle.project_model.specs.Answers.{DoesMeet}
+use Rattle.project_definitions.specs.Demands.{DoesMeet}
 use Rattle.name_resolution.specs.Numbered.{numbered}
 use Rattle.project_model.specs.Numbered.{numbers_in, is_leaf_over, is_symbol_over, IsBodyOver}
 use Rattle.project_model.specs.Plans.{IsSoundOver}
 use Rattle.name_resolution.specs.Resolved.{atom_of}
 use Rattle.project_model.specs.Sound.{IsSound}
-use Rattle.project_model.specs.Stands.{Entry as Said, entry_of, entry_in}
-use Rattle.project_model.specs.declared.definition.Definition.{Definition}
-use Rattle.project_model.specs.declared.demands.Demand.TheVariants as demand
-use Rattle.project_model.proofs.Alphabets.{number_any, number_within}
-use Rattle.project_model.proofs.Built.{All-front, All-back, built_here, built_there}
+use Rattle.project_definitions.specs.Entries.{Entry as Said, entry_of, entry_in}
+use Rattle.project_definitions.specs.declared.definition.Definition.{Definition}
+use Rattle.project_definitions.specs.declared.demands.Demand.TheVariants as demand
+use Rattle.project_model.proofs.Alphabets.{number_any}
+use Rattle.project_definitions.proofs.Replaced.{leaves_here, leaves_there}
+use Rattle.project_definitions.proofs.Numbers.{number_within}
+use Rattle.project_definitions.proofs.Built.{All-front, All-back, built_here, built_there}
 use Rattle.name_resolution.proofs.Leaves.{leaf_cases}
 use Rattle.name_resolution.proofs.Mapped.{mapped_twice}
-use Rattle.project_model.proofs.Mapped.{mapped_built}
+use Rattle.project_definitions.proofs.Mapped.{mapped_built}
 use Rattle.name_resolution.proofs.Texts.{any_from_has}
 
 never : IsTrue false → ⊥
@@ -123,7 +125,7 @@ module _ (names alphabet table : List (List ℕ)) (forms : List Told) (few : len
       all_held (mapped_lexicon by_number by_number) (λ (l : Lexicon Leaf). flat_map (λ (e : Entry Leaf). form_symbols e.form) l.entries) (Contains alphabet)
       (LexiconIsBuiltBy (is_leaf_over alphabet) (is_symbol_over alphabet)) (LexiconIsBuiltBy (is_known_at forms) is_symbol) lexicon_over lexicons
       (subst (All (Contains alphabet)) (listed_forms form_symbols lexicons) held) built
-  body_by_number (twolc grammar) held built = built
+  body_by_number (twolc grammar) held built = leaves_here by_number (is_symbol_over alphabet) is_symbol (Contains alphabet) letter_stands grammar held built
 
   body_over : (body : Body Leaf) (b : Body Atom) → b ≡ mapped_body by_number body → All (Contains alphabet) (symbols_in body) → BodyIsBuiltBy (is_known_at forms) is_symbol b
       → IsBodyOver alphabet body
@@ -162,7 +164,7 @@ module _ (names alphabet table : List (List ℕ)) (forms : List Told) (few : len
   body_there (lexc lexicons) over =
       all_on (resolved_lexicon names) (mapped_lexicon by_number by_number) (LexiconIsBuiltBy (is_leaf_over alphabet) (is_symbol_over alphabet)) (LexiconIsBuiltBy (is_leaf_at forms numbers) (is_symbol_of numbers))
       lexicon_there lexicons over
-  body_there (twolc grammar) over = over
+  body_there (twolc grammar) over = leaves_there by_number (is_symbol_over alphabet) (is_symbol_of numbers) letter_numbered (resolved_grammar grammar) over
 
   sound_over : (body : Body Raw) (b : Body Atom) → b ≡ mapped_body by_number (resolved names body) → IsFormed body → BodyFitsBy (leaves_at forms) b → IsBodyOver alphabet (resolved names body)
       → IsSound forms numbers b

@@ -1,47 +1,37 @@
 -- What calls answer of sources: by the first fault that these have.
-use Rattle.std.specs.Prelude.{◌≡◌, ◌≤◌, ◌⊎◌, ⊤, ℕ, List, [], ◌∷◌, Contains, Result, Ok, Err}
+use Rattle.std.specs.Prelude.{◌≡◌, ◌⊎◌, ⊤, ℕ, List, Contains, Result, Ok, Err}
 use Rattle.fsm_io.specs.Folders.{Files}
 use Rattle.regex_ast.specs.declared.fault.Fault.{Fault}
-use Rattle.regex_ast.specs.declared.fault.Why.{Why}
 use Rattle.regex_ast.specs.declared.fault.Why.TheVariants as why
-use Rattle.regex_ast.specs.declared.expr.Atom.{Atom}
 use Rattle.regex_reader.specs.Files.{FaultAt}
-use Rattle.expr_kinds.specs.Atoms.{is_known_at, is_symbol, leaves_at, weights_at}
-use Rattle.expr_kinds.specs.Weights.{most_weight}
-use Rattle.expr_kinds.specs.declared.form.Form.{Form}
-use Rattle.project_manifest.specs.Lines.{ManifestFault, Placed, line_rows_so_far, manifest_of, names_required}
+use Rattle.project_manifest.specs.Lines.{ManifestFault, Placed, line_rows, manifest_of, names_required}
 use Rattle.project_manifest.specs.Manifests.{project_name}
 use Rattle.project_manifest.specs.Reading.{HasNoFault}
 use Rattle.project_manifest.specs.Rows.{First, HaveNone, Where}
-use Rattle.project_meaning.specs.Trees.{Body}
 use Rattle.project_meaning.specs.Projects.{Written}
-use Rattle.project_sources.specs.Built.{BodyIsBuiltBy}
-use Rattle.project_sources.specs.Sources.{HasText, Said, FilesSay}
+use Rattle.project_sources.specs.Sources.{FilesGloss, HasText, Said, FilesSay}
 use Rattle.project_sources.specs.Faults.{fault, HasNoText, SaidRow, SaidFault, read_so_far, FirstFault}
-use Rattle.project_sources.specs.Laws.{readers_so_far}
+use Rattle.project_sources.specs.Laws.{all_readers}
 pub use Rattle.project_files.specs.Refusals.{IsRefusedBy, IsRefusal}
-use Rattle.project_model.specs.Bodies.{BodyFitsBy, weight_of_body}
-use Rattle.project_model.specs.Plain.{body_of}
+use Rattle.project_definitions.specs.Plain.{body_of}
 use Rattle.project_model.specs.Plans.{PlanView}
 use Rattle.project_model.specs.Stands.{Stands}
-use Rattle.project_model.specs.declared.definition.Definition.{Definition}
-use Rattle.project_model.specs.declared.demands.Demand.{Demand}
-use Rattle.project_model.specs.declared.demands.Demand.TheVariants as demand
 use Rattle.project_files.specs.declared.plan_error.PlanError.{PlanError}
 use Rattle.project_files.specs.declared.plan_error.PlanError.TheVariants.{Refused, Memory}
 use Rattle.project_model.specs.declared.written.WrittenDefine.{WrittenDefine}
 
--- the files have no fault by the rows that are told so far, and the plan stands for what they say
+-- the files have no fault by the rows that are told so far, and the plan stands for what they say, and has their glosses
 pub record IsPlanOf (files : Files) (old new : List (List ℕ)) (plan : PlanView) : Type 0 where
-  pub faultless : (found : Fault) → FirstFault readers_so_far files read_so_far found → ⊥
+  pub faultless : (found : Fault) → FirstFault all_readers files read_so_far found → ⊥
   pub said : Said
-  pub says : FilesSay readers_so_far files said
+  pub says : FilesSay all_readers files said
   pub stands : Stands said old new plan
+  pub glosses : FilesGloss all_readers files plan.glosses
 
 -- the plan of files, their first fault, or want of memory
 abbrev pub IsProjectRead : Files → List (List ℕ) → List (List ℕ) → Result PlanView PlanError → Type 0
 IsProjectRead files old new (Ok plan) = IsPlanOf files old new plan
-IsProjectRead files old new (Err (Refused found)) = FirstFault readers_so_far files read_so_far found
+IsProjectRead files old new (Err (Refused found)) = FirstFault all_readers files read_so_far found
 IsProjectRead files old new (Err (Memory refused)) = ⊤
 
 -- the content of the manifest's file has a text without fault, with these lines
@@ -53,7 +43,7 @@ pub record IsManifestFile (content : List ℕ) (lines : List Placed) : Type 0 wh
 
 -- a text is no manifest
 abbrev pub IsTextFault : List ℕ → Fault → Type 0
-IsTextFault text found = (at : FaultAt) × ManifestFault line_rows_so_far text at × (found ≡ fault project_name at.line at.why)
+IsTextFault text found = (at : FaultAt) × ManifestFault line_rows text at × (found ≡ fault project_name at.line at.why)
 
 -- the content of the manifest's file has no text, or its text is no manifest
 abbrev pub IsNoManifest : List ℕ → Fault → Type 0
@@ -72,28 +62,6 @@ IsUnknown names l = (name : List ℕ) × Contains (names_required l.said) name �
 
 abbrev pub UnknownFault : List (List ℕ) → List Placed → Fault → Type 0
 UnknownFault names lines found = First (λ l. Where (IsUnknown names l) (fault project_name l.line why.UnknownName)) lines found
-
--- what is asked of a definition where names have these forms: that each operand that must be a language is one, that it isn't
--- too heavy, and that its network can be built
-abbrev pub Meets : List Form → Demand → Body Atom → Type 0
-Meets forms demand.Fits body = BodyFitsBy (leaves_at forms) body
-Meets forms demand.Light body = weight_of_body (weights_at forms) body ≤ most_weight
-Meets forms demand.Built body = BodyIsBuiltBy (is_known_at forms) is_symbol body
-
-abbrev pub why_not : Demand → Why
-why_not demand.Fits = why.NotALanguage
-why_not demand.Light = why.LimitWeight
-why_not demand.Built = why.NotBuilt
-
-abbrev pub DoesMeet : List Form → Demand → Definition → Type 0
-DoesMeet forms asked d = Meets forms asked (body_of d.body)
-
--- the fault of the first definition that doesn't meet it
-abbrev pub DemandFault : List Definition → List Form → Demand → Fault → Type 0
-DemandFault definitions forms asked found = First (λ d. Where (DoesMeet forms asked d → ⊥) (fault d.file d.line (why_not asked))) definitions found
-
-abbrev pub demands : List Demand
-demands = demand.Fits ∷ demand.Light ∷ demand.Built ∷ []
 
 -- the plan of what is said, its first fault by these rows, or want of memory
 abbrev pub IsPlanBy : List SaidRow → Said → List (List ℕ) → List (List ℕ) → Result PlanView PlanError → Type 0

@@ -1,11 +1,7 @@
 pub mod Answers
-pub mod Bodies
 pub mod Files
-pub mod Forms
 pub mod Gathered
 pub mod Numbered
-pub mod Plain
 pub mod Plans
-pub mod Referring
 pub mod Sound
 pub mod Stands

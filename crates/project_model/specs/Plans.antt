@@ -1,18 +1,22 @@
--- A plan as contracts see it: its definitions with their forms, and the symbols of its alphabet.
+-- A plan as contracts see it: its definitions with their forms, the symbols of its alphabet, and the glosses of its files.
 use Rattle.std.specs.Prelude.{◌≡◌, ℕ, List, length, map, All, Some, slice_get}
 use Rattle.fsm_base.specs.declared.letters.Sym.{Sym}
 use Rattle.word_relations.specs.Words.{IsDistinct}
+use Rattle.interlinear.specs.Glosses.{Entry as Glossed}
 use Rattle.expr_kinds.specs.Atoms.{kind_at, leaves_at}
 use Rattle.expr_kinds.specs.declared.form.Form.{Form}
-use Rattle.project_model.specs.Bodies.{kind_of_body}
-use Rattle.project_model.specs.Plain.{body_of}
+use Rattle.project_definitions.specs.Bodies.{kind_of_body}
+use Rattle.project_definitions.specs.Plain.{body_of}
 use Rattle.project_model.specs.Sound.{IsSound}
-use Rattle.project_model.specs.declared.definition.Definition.{Definition}
+use Rattle.project_definitions.specs.declared.definition.Definition.{Definition}
+use Rattle.name_order.specs.Orders.{IsOrder}
+use Rattle.project_definitions.specs.Referring.{references_of}
 
 pub record PlanView : Type 0 where
   pub definitions : List Definition
   pub symbols : List Sym
   pub forms : List Form
+  pub glosses : List Glossed
 
 -- the definition can be built over these symbols, where names have these forms
 abbrev pub IsSoundOver : List Form → List Sym → Definition → Type 0
@@ -30,3 +34,8 @@ pub record IsPlan (plan : PlanView) : Type 0 where
   pub names : IsDistinct (map (λ d. d.name) plan.definitions)
   pub forms : HaveKinds plan.definitions plan.forms
   pub sound : All (IsSoundOver plan.forms plan.symbols) plan.definitions
+
+-- a plan, with the places of its definitions in an order in which each stands behind those that it refers to
+pub record IsOrderedPlan (plan : PlanView) (order : List ℕ) : Type 0 where
+  pub formed : IsPlan plan
+  pub ordered : IsOrder (references_of plan.definitions) order

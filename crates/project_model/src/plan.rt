@@ -9,30 +9,30 @@ ghost use Rattle.project_meaning.specs.Projects.{names_of, with_texts};
 ghost use Rattle.project_sources.specs.Faults.{definitions_so_far, fault, said_so_far};
 ghost use Rattle.project_sources.specs.Limits.{most_before, most_symbols};
 ghost use Rattle.project_sources.specs.Sources.{project_in};
-ghost use Rattle.project_model.specs.Answers.{DemandFault, DoesMeet, IsPlanBy, IsRefusal, IsRefusedBy, demands, said_of, written_of};
+ghost use Rattle.project_definitions.specs.Demands.{DemandFault, DoesMeet, demands, why_not};
+ghost use Rattle.project_model.specs.Answers.{IsPlanBy, IsRefusal, IsRefusedBy, said_of, written_of};
 ghost use Rattle.project_meaning.specs.Leaves.{resolved};
 ghost use Rattle.name_resolution.specs.Numbered.{numbered};
-ghost use Rattle.project_model.specs.Bodies.{IsFormed, mapped_body};
-ghost use Rattle.project_model.specs.Plain.{body_of};
+ghost use Rattle.project_definitions.specs.Bodies.{IsFormed, mapped_body};
+ghost use Rattle.project_definitions.specs.Plain.{body_of};
 ghost use Rattle.project_model.specs.Gathered.{gathered, symbols_of_all};
 ghost use Rattle.project_model.specs.Numbered.{numbers_in};
 ghost use Rattle.project_model.specs.Plans.{IsPlan};
-ghost use Rattle.project_model.specs.Referring.{references_of};
-ghost use Rattle.project_model.specs.Stands.{entry_in, entry_of};
-ghost use Rattle.project_model.specs.declared.demands.Demand.TheVariants as demand;
+ghost use Rattle.project_definitions.specs.Referring.{references_of};
+ghost use Rattle.project_definitions.specs.Entries.{entry_in, entry_of};
+ghost use Rattle.project_definitions.specs.declared.demands.Demand.TheVariants as demand;
 
-use crate::definition::{Body, Definition};
-use crate::demands::{Demand, first_failing};
-use crate::forms::forms_of;
 use crate::names::names_of;
-use crate::references::order_in;
 use crate::symbols::symbols_of;
 use crate::unknown::first_unknown;
 use crate::written::WrittenDefine;
 use expr_kinds::Form;
 use fsm_base::{Sym, SymbolTable, Text};
+use grammar_resolution::{is_resolved_by_number, resolve_grammar};
+use interlinear::GlossTable;
 use lexicon_resolution::{are_resolved_by_number, resolve_lexicons};
 use name_resolution::{Names, resolve};
+use project_definitions::{Body, Definition, Demand, first_failing, forms_of, order_in};
 use project_files::{PlanError, refused};
 use project_manifest::ManifestLine;
 use project_sources::MOST_SYMBOLS;
@@ -40,7 +40,7 @@ use regex_ast::{Atom, Raw, Why};
 use std::alloc::{AllocError, Global};
 use std::marker::Model;
 
-/// The definitions of a project without fault, and the symbols of its alphabet.
+/// The definitions of a project without fault, the symbols of its alphabet, and its glosses.
 #[derive(Drop)]
 pub struct Plan {
     /// The definitions, in order; each has a name of its own and can be built over the symbols.
@@ -51,23 +51,26 @@ pub struct Plan {
     order: Vec<usize>,
     /// What each definition is by its form.
     forms: Vec<Form>,
+    /// The glosses of its files.
+    glosses: GlossTable,
 }
 
 impl Model for Plan {
     ghost use Rattle.regex_ast.specs.contracts.expr.Atom as atom;
     ghost use Rattle.regex_ast.specs.contracts.expr.Expr as expr;
+    ghost use Rattle.regex_ast.specs.contracts.twolc.PairPart as part;
     ghost use Rattle.std.specs.Coded.{codes};
     ghost use Rattle.project_model.specs.Plans.{PlanView};
 
     ghost Value = { PlanView };
 
-    ghost coded = { Prim.hlevel (codes, (expr.the_row atom.the_row).coded) };
+    ghost coded = { Prim.hlevel (codes, (expr.the_row atom.the_row).coded, (expr.the_row (part.the_row atom.the_row)).coded) };
 
-    ghost use Rattle.project_model.specs.Referring.{IsOrderedPlan};
+    ghost use Rattle.project_model.specs.Plans.{IsOrderedPlan};
 
-    ghost view = { λ p. record { definitions = p.definitions.items; symbols = p.symbols.items; forms = p.forms.items } };
+    ghost view = { λ p. record { definitions = p.definitions.items; symbols = p.symbols.items; forms = p.forms.items; glosses = p.glosses } };
 
-    ghost invariant = { λ p. IsOrderedPlan (record { definitions = p.definitions.items; symbols = p.symbols.items; forms = p.forms.items }) p.order.items };
+    ghost invariant = { λ p. IsOrderedPlan (record { definitions = p.definitions.items; symbols = p.symbols.items; forms = p.forms.items; glosses = p.glosses }) p.order.items };
 }
 
 impl Plan {
@@ -93,6 +96,13 @@ impl Plan {
         ensures formed { IsPlan self.now }
     {
         &self.forms
+    }
+
+    /// The table of glosses, which is empty where the project has none.
+    pub fn glosses(&self) -> &GlossTable
+        ensures { result.now ≡ self.now.glosses }
+    {
+        &self.glosses
     }
 
     /// The places of the definitions, counted from 0, each behind those that its definition refers to.
@@ -187,11 +197,13 @@ fn resolve_body(
 ) -> Result<Body<Atom>, AllocError>
     ensures { IfOk result (λ found. body_of found ≡ mapped_body (numbered names.now table.now) (resolved names.now (body_of body.now))) }
 {
-    // the law that a resolved leaf by its number is the leaf as it is written, by its number
+    // the laws that a resolved leaf by its number is the leaf as it is written, by its number
     are_resolved_by_number();
+    is_resolved_by_number();
     match body {
         Body::Xfst(expr) => Ok(Body::Xfst(resolve(alloc, names, table, expr)?)),
         Body::Lexc(lexicons) => Ok(Body::Lexc(resolve_lexicons(alloc, names, table, lexicons)?)),
+        Body::Twolc(grammar) => Ok(Body::Twolc(resolve_grammar(alloc, names, table, grammar)?)),
     }
 }
 
@@ -235,6 +247,34 @@ fn refused_at(alloc: Global, definition: &Definition, why: Why) -> PlanError
     refused(alloc, definition.file.as_str(), definition.line, why)
 }
 
+/// Why a definition is refused that doesn't meet a demand.
+fn why_not(demand: Demand) -> Why
+    ensures { result ≡ why_not demand }
+{
+    match demand {
+        Demand::Fits => Why::NotALanguage,
+        Demand::Light => Why::LimitWeight,
+        Demand::Built => Why::NotBuilt,
+    }
+}
+
+/// That definitions meet a demand where names have these forms.
+fn meet(
+    alloc: Global,
+    definitions: &[Definition],
+    forms: &[Form],
+    demand: Demand,
+) -> Result<(), PlanError>
+    ensures met { OnOk result (All (DoesMeet forms.now demand) definitions.now) }
+    ensures error { IfErr result (IsRefusedBy (DemandFault definitions.now forms.now demand)) }
+{
+    match first_failing(alloc, definitions, forms, demand) {
+        Ok(Some(definition)) => Err(refused_at(alloc, definition, why_not(demand))),
+        Ok(None) => Ok(()),
+        Err(error) => Err(PlanError::Memory(error)),
+    }
+}
+
 /// That definitions are sound where names have these forms: each fits, none is too heavy, each can be built.
 fn check(alloc: Global, definitions: &[Definition], forms: &[Form]) -> Result<(), PlanError>
     ensures fits { OnOk result (All (DoesMeet forms.now demand.Fits) definitions.now) }
@@ -242,19 +282,18 @@ fn check(alloc: Global, definitions: &[Definition], forms: &[Form]) -> Result<()
     ensures built { OnOk result (All (DoesMeet forms.now demand.Built) definitions.now) }
     ensures error { IfErr result (IsRefusedBy (First (DemandFault definitions.now forms.now) demands)) }
 {
-    if let Some(definition) = first_failing(definitions, forms, Demand::Fits) {
-        return Err(refused_at(alloc, definition, Why::NotALanguage));
+    match meet(alloc, definitions, forms, Demand::Fits) {
+        Ok(()) => {}
+        Err(error) => return Err(error),
     }
-    if let Some(definition) = first_failing(definitions, forms, Demand::Light) {
-        return Err(refused_at(alloc, definition, Why::LimitWeight));
+    match meet(alloc, definitions, forms, Demand::Light) {
+        Ok(()) => {}
+        Err(error) => return Err(error),
     }
-    if let Some(definition) = first_failing(definitions, forms, Demand::Built) {
-        return Err(refused_at(alloc, definition, Why::NotBuilt));
-    }
-    Ok(())
+    meet(alloc, definitions, forms, Demand::Built)
 }
 
-/// The plan of definitions over an alphabet, whose symbols are put into the table. They are refused for their first
+/// The plan of definitions over an alphabet, whose symbols are put into the table, and of a table of glosses. They are refused for their first
 /// fault: a definition that reaches itself, an operand that must be a language and isn't one, a definition that is too
 /// heavy, or one that can't be built yet. Whatever it answers, the table begins with what it was.
 fn plan_over(
@@ -262,6 +301,7 @@ fn plan_over(
     names: &Names,
     alphabet: &SymbolTable,
     written: &[WrittenDefine],
+    glosses: GlossTable,
     table: &mut SymbolTable,
 ) -> Result<Plan, PlanError>
     requires names { names.now ≡ names_of (map written_of written.now) }
@@ -271,6 +311,7 @@ fn plan_over(
     requires room { length table.old + length alphabet.now ≤ 16777216 }
     requires formed { All (λ w. IsFormed w.body) (map written_of written.now) }
     ensures plan { (manifest : List Placed) → (project_in (said_of manifest (map written_of written.now))).alphabet ≡ alphabet.now → IsPlanBy definitions_so_far (said_of manifest (map written_of written.now)) table.old table.new result }
+    ensures glosses { IfOk result (λ plan. plan.glosses ≡ glosses) }
     ensures front { take (length table.old) table.new ≡ table.old }
 {
     intern_all(alphabet, table)?;
@@ -290,10 +331,12 @@ fn plan_over(
         symbols,
         order,
         forms,
+        glosses,
     })
 }
 
-/// The plan of the definitions that the files of a manifest with these lines write, whose symbols are put into the table. They
+/// The plan of the definitions and glosses that the files of a manifest with these lines write, whose symbols are put into the
+/// table. They
 /// are refused for their first fault: a name that stands twice or names that are too many, symbols that are too many, a name
 /// that a line requires and that isn't defined, or one of their definitions. Whatever it answers, the table begins with what
 /// it was.
@@ -301,12 +344,14 @@ pub fn plan_of(
     alloc: Global,
     lines: &[ManifestLine],
     written: &[WrittenDefine],
+    glosses: GlossTable,
     table: &mut SymbolTable,
 ) -> Result<Plan, PlanError>
     requires symbols { All IsSymbol (symbols_of (map placed_of lines.now)) }
     requires room { length table.old ≤ most_before }
     requires formed { All (λ w. IsFormed w.body) (map written_of written.now) }
     ensures plan { IsPlanBy said_so_far (said_of (map placed_of lines.now) (map written_of written.now)) table.old table.new result }
+    ensures glosses { IfOk result (λ plan. plan.glosses ≡ glosses) }
     ensures front { take (length table.old) table.new ≡ table.old }
 {
     let names = match names_of(alloc, written) {
@@ -320,5 +365,5 @@ pub fn plan_of(
     if let Some(line) = first_unknown(&names, lines) {
         return Err(refused(alloc, "project", line.number, Why::UnknownName));
     }
-    plan_over(alloc, &names, &alphabet, written, table)
+    plan_over(alloc, &names, &alphabet, written, glosses, table)
 }

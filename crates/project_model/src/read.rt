@@ -5,7 +5,7 @@ ghost use Rattle.project_sources.specs.Limits.{most_before};
 ghost use Rattle.project_model.specs.Answers.{IsManifestFile, IsNoManifest, IsProjectRead, IsRefusedBy};
 
 use crate::content::text_of_file;
-use crate::files::written_in;
+use crate::files::{Contents, contents_of};
 use crate::plan::{Plan, plan_of};
 use fsm_base::SymbolTable;
 use project_files::{PlanError, Sources, refused};
@@ -46,11 +46,12 @@ fn plan_by(
     ensures front { take (length table.old) table.new ≡ table.old }
 {
     let lines = manifest.lines();
-    let written = match written_in(alloc, sources, lines) {
-        Ok(written) => written,
+    let contents = match contents_of(alloc, sources, lines) {
+        Ok(contents) => contents,
         Err(error) => return Err(error),
     };
-    plan_of(alloc, lines, &written, table)
+    let Contents { written, glosses } = contents;
+    plan_of(alloc, lines, &written, glosses, table)
 }
 
 /// The plan of a project, whose symbols are put into the table; after an error the table may have further symbols.
@@ -72,8 +73,9 @@ fn plan_of_sources(
     }
 }
 
-/// The plan of a project, by its files. The manifest `project` names files of definitions and of lexicons, and may list further symbols of the
-/// alphabet and names that must be defined. The symbols of the project are put into the table, behind those that it has.
+/// The plan of a project, by its files. The manifest `project` names files of definitions (xfst), of lexicons (lexc) and of
+/// two-level grammars (twolc) and may name one of glosses, and may list further symbols of the alphabet and names that must be
+/// defined. The symbols of the project are put into the table, behind those that it has.
 ///
 /// # Errors
 ///
@@ -82,7 +84,8 @@ fn plan_of_sources(
 /// - `NoProject` at the manifest, where it is missing; `LimitFile`, `NotUtf8` and `Control` of it, and then the first line with a
 ///   fault, as [`read_manifest`] tells it;
 /// - file by file, in the order of the manifest: `NoFile` at the line that names it, where it is missing; `LimitFile`, `NotUtf8` and
-///   `Control`; and then the faults of its statements, as `read_xfst` tells them, or `read_lexc` of a file of lexicons;
+///   `Control`; and then the faults of its statements, as `read_xfst` tells them, `read_lexc` of a file of lexicons, `read_twolc` of
+///   one of a grammar, or [`GlossTable::read`] of one of glosses;
 /// - `Duplicate` at the first definition whose name an earlier one has, `LimitNames` at the 513th name;
 /// - `LimitSymbols` at the manifest, where the alphabet has more than 1,024 symbols;
 /// - `UnknownName` at the first line of the manifest that requires a name that isn't defined;

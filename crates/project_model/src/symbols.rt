@@ -4,18 +4,19 @@ ghost use Rattle.regex_ast.specs.Terms.{term};
 ghost use Rattle.expr_leaves.specs.Leaves.{listed, seen};
 ghost use Rattle.expr_leaves.specs.Mapped.{mapped};
 ghost use Rattle.lexicon_resolution.specs.Places.{behind, places_behind, symbol_at};
-ghost use Rattle.project_meaning.specs.Leaves.{leaf_of, resolved, symbol, symbol_in, symbols_in};
+ghost use Rattle.project_meaning.specs.Leaves.{leaf_of, resolved, symbol, symbol_in, symbol_of, symbols_in};
 ghost use Rattle.project_sources.specs.Limits.{most_symbols};
 ghost use Rattle.project_model.specs.Answers.{written_of};
 ghost use Rattle.project_model.specs.Gathered.{gathered, symbol_beside, symbols_of_all};
-ghost use Rattle.project_model.specs.Plain.{body_of};
+ghost use Rattle.project_definitions.specs.Plain.{body_of};
 
-use crate::definition::Body;
 use crate::written::WrittenDefine;
 use expr_leaves::leaves;
 use fsm_base::SymbolTable;
+use grammar_resolution::{grammar_leaves, symbols_are_of_leaves};
 use lexicon_resolution::{Place, places, symbols_are_of_places};
 use name_resolution::{Names, symbol_text};
+use project_definitions::Body;
 use project_sources::MOST_SYMBOLS;
 use regex_ast::{Expr, Raw};
 use std::alloc::{AllocError, Global};
@@ -93,6 +94,17 @@ fn add_places(
     Ok(())
 }
 
+/// Puts the texts of leaves that are no names into a table, each where it isn't empty, it's new and the table has room for it.
+fn add_letters(leaves: &[&Raw], table: &mut SymbolTable) -> Result<(), AllocError>
+    requires { length table.old ≤ most_symbols + 1 }
+    ensures { OnOk result (table.new ≡ gathered table.old (flat_map (λ leaf. symbol_in (symbol_of leaf)) (seen leaves.now))) }
+{
+    'leaves: for leaf in leaves {
+        add_letter(symbol_text(leaf), table)?;
+    }
+    Ok(())
+}
+
 /// Puts the symbols of what a name stands for into a table, each where it's new and the table has room for it.
 fn add_body(
     alloc: Global,
@@ -103,12 +115,17 @@ fn add_body(
     requires { length table.old ≤ most_symbols + 1 }
     ensures { OnOk result (table.new ≡ gathered table.old (symbols_in (resolved names.now (body_of body.now)))) }
 {
-    // the law that the symbols of lexicons are those of their leaves
+    // the laws that the symbols of lexicons and of a grammar are those of their leaves
     symbols_are_of_places();
+    symbols_are_of_leaves();
     match body {
         Body::Xfst(expr) => add_expression(alloc, expr, names, table),
         Body::Lexc(lexicons) => {
             add_places(&places(alloc, lexicons)?, names, table)?;
+            Ok(())
+        }
+        Body::Twolc(grammar) => {
+            add_letters(&grammar_leaves(alloc, grammar)?, table)?;
             Ok(())
         }
     }

@@ -1,5 +1,5 @@
-use crate::definition::Body;
 use fsm_base::Text;
+use project_definitions::Body;
 use regex_ast::Raw;
 
 /// A definition as sources write it.

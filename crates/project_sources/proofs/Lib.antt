@@ -1,3 +1,4 @@
 pub mod Once
+pub mod Glossing
 pub mod Sound
 pub mod Editing

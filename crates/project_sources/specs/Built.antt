@@ -1,8 +1,9 @@
--- The bodies that are compiled, by two tests: one of the leaves of expressions, where names may stand, and one of the symbols in braces
--- and on the sides of entries, where none may.
+-- The bodies that are compiled, by two tests: one of the leaves of expressions, where names may stand, and one of the symbols in braces,
+-- on the sides of entries and in grammars, where none may.
 use Rattle.std.specs.Prelude.{Bool, All, IsTrue}
 use Rattle.expr_kinds.specs.Built.{IsBuiltBy}
 use Rattle.project_meaning.specs.Trees.{Piece, letter, flag, Form, sides, pairs, Lexicon, Body, xfst, lexc, twolc}
+use Rattle.grammar_pairs.specs.Laws.{HasLeaves}
 
 abbrev pub PieceIsBuiltBy : {A : Type 0} → (A → Bool) → Piece A → Type 0
 PieceIsBuiltBy is_letter (letter a) = IsTrue (is_letter a)
@@ -16,8 +17,8 @@ module _ {A : Type 0} (is_leaf is_letter : A → Bool) where
   abbrev pub LexiconIsBuiltBy : Lexicon A → Type 0
   LexiconIsBuiltBy lexicon = All (λ entry. FormIsBuiltBy entry.form) lexicon.entries
 
-  -- an expression whose insertions stand alone in their rules, or lexicons; grammars aren't compiled yet
+  -- an expression whose insertions stand alone in their rules, lexicons, or a grammar
   abbrev pub BodyIsBuiltBy : Body A → Type 0
   BodyIsBuiltBy (xfst e) = IsBuiltBy is_leaf is_letter e
   BodyIsBuiltBy (lexc lexicons) = All LexiconIsBuiltBy lexicons
-  BodyIsBuiltBy (twolc grammar) = ⊥
+  BodyIsBuiltBy (twolc grammar) = HasLeaves is_letter grammar

@@ -1,21 +1,27 @@
 ghost use Rattle.project_sources.specs.Faults.{read_rows, read_so_far, rows, rows_so_far};
-ghost use Rattle.project_sources.specs.Laws.{CentresComeLast, NoFilesNoProject, OneAnswer, OneFault, OneOutcome, ProjectsAreSound, readers_so_far};
+ghost use Rattle.project_sources.specs.Laws.{CentresComeLast, NoFilesNoProject, OneAnswer, OneFault, OneOutcome, OneTable, ProjectsAreSound, ProjectsHaveTables, all_readers};
 
 /// Sources have at most one first fault.
 pub fn one_fault()
-    ensures { OneFault readers_so_far }
+    ensures { OneFault all_readers }
 {}
 
 /// Sources are one project, or have one first fault, and not both.
 pub fn one_answer()
-    ensures { OneAnswer readers_so_far }
+    ensures { OneAnswer all_readers }
+{}
+
+/// Sources have one table of glosses, and those that are a project have one.
+pub fn one_table()
+    ensures one { OneTable all_readers }
+    ensures some { ProjectsHaveTables all_readers }
 {}
 
 /// In the project of sources without a fault each name is defined, none reaches itself, and no definition weighs too much.
 pub fn projects_are_sound()
-    ensures whole { ProjectsAreSound readers_so_far rows }
-    ensures so_far { ProjectsAreSound readers_so_far rows_so_far }
-    ensures read { ProjectsAreSound readers_so_far read_so_far }
+    ensures whole { ProjectsAreSound all_readers rows }
+    ensures so_far { ProjectsAreSound all_readers rows_so_far }
+    ensures read { ProjectsAreSound all_readers read_so_far }
 {}
 
 /// Without files the manifest is missing.
@@ -26,8 +32,8 @@ pub fn no_files_no_project()
 
 /// An empty centre is the fault where none is read before.
 pub fn centres_come_last()
-    ensures whole { CentresComeLast readers_so_far read_rows }
-    ensures so_far { CentresComeLast readers_so_far read_so_far }
+    ensures whole { CentresComeLast all_readers read_rows }
+    ensures so_far { CentresComeLast all_readers read_so_far }
 {}
 
 /// Edits make one thing of what is held, or have one fault.

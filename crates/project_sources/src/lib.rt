@@ -6,6 +6,7 @@
 //! names a law, which its contract states.
 //!
 //! - [`one_fault`], [`one_answer`]: sources are one project, or have one first fault.
+//! - [`one_table`]: sources that are a project have one table of glosses.
 //! - [`projects_are_sound`]: without a fault names end, and weigh little.
 //! - [`no_files_no_project`]: without files the manifest is missing.
 //! - [`centres_come_last`]: an empty centre is the fault where none is read before.
@@ -16,6 +17,7 @@ mod laws;
 mod limits;
 
 pub use laws::{
-    centres_come_last, no_files_no_project, one_answer, one_fault, one_outcome, projects_are_sound,
+    centres_come_last, no_files_no_project, one_answer, one_fault, one_outcome, one_table,
+    projects_are_sound,
 };
 pub use limits::{MOST_BYTES, MOST_NAMES, MOST_SYMBOLS};

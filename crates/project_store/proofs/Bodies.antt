@@ -20,8 +20,8 @@ use Rattle.project_meaning.specs.Trees.{Piece, letter, flag, Form, sides, pairs,
 use Rattle.project_meaning.specs.Leaves.{expressions_in, expressions_of, forms_in}
 use Rattle.project_meaning.specs.Lexicons.{piece_by}
 use Rattle.project_meaning.proofs.Places.{in_flat}
-use Rattle.project_model.specs.Referring.{place_in, places_in}
-use Rattle.project_model.proofs.Gathering.{listed_is}
+use Rattle.project_definitions.specs.Referring.{place_in, places_in}
+use Rattle.name_resolution.proofs.Listed.{listed_is}
 use Rattle.project_sources.specs.Built.{PieceIsBuiltBy, FormIsBuiltBy, LexiconIsBuiltBy, BodyIsBuiltBy}
 
 -- what one of many gives is of one of them
@@ -105,7 +105,7 @@ module _ {A : Type 0} (is_leaf is_letter : A → Bool) where
   pub expressions_built : (body : Body A) → BodyIsBuiltBy is_leaf is_letter body → All Built (expressions_of body)
   expressions_built (xfst e) h = All-cons Built e [] h (All-nil Built)
   expressions_built (lexc lexicons) h = forms_built (forms_in lexicons) (lexicon_forms lexicons h)
-  expressions_built (twolc grammar) h = absurd h
+  expressions_built (twolc grammar) h = All-nil Built
 
 -- a body is built by another test of the leaves of its expressions where these are
 module _ {A : Type 0} (spells passes is_letter : A → Bool) where
@@ -123,7 +123,7 @@ module _ {A : Type 0} (spells passes is_letter : A → Bool) where
       lexicon l among built =
           all_within (λ (entry : Entry A). FormIsBuiltBy spells is_letter entry.form) (λ (entry : Entry A). FormIsBuiltBy passes is_letter entry.form) l.entries
           (λ entry within each. form entry.form (λ e at. go e (expression_among lexicons l entry among within e at)) each) built
-  body_passes (twolc grammar) h go = absurd h
+  body_passes (twolc grammar) h go = h
 
 -- lexicons whose leaves and letters are replaced: they are built where the others are, and their expressions are
 module _ {A B : Type 0} (spells : A → Bool) (is_leaf is_letter : B → Bool) (leaf letter_to : A → B) where

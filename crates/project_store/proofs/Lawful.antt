@@ -12,6 +12,7 @@ use Rattle.lookup_answers.specs.declared.direction.Direction.{Direction}
 use Rattle.lookup_answers.specs.declared.direction.Direction.TheVariants.{Up, Down}
 use Rattle.fsa.specs.Automaton.{Automaton}
 use Rattle.fsm_base.specs.declared.letters.Pair.{Pair}
+use Rattle.interlinear.specs.Glosses.{Entry as Glossed}
 use Rattle.project_meaning.specs.Projects.{Project}
 use Rattle.reply_meaning.specs.Replies.{RepliesToWord, answered, no_net, no_symbol, Related, answer_bytes, headed}
 use Rattle.fst_relation.specs.Relation.{IsRelated}
@@ -74,7 +75,7 @@ each_over : (letters word : List Sym) → ((symbol : Sym) → Contains word symb
 each_over letters word each = All-weaker (Contains word) (Contains letters) each word (All-contains_itself word)
 
 -- the same texts have the same lawful answers
-answers_same : (T U : List ℕ → Type 0) → ((text : List ℕ) → T text ↔ U text) → (found : Found) → Answers T found → Answers U found
+pub answers_same : (T U : List ℕ → Type 0) → ((text : List ℕ) → T text ↔ U text) → (found : Found) → Answers T found → Answers U found
 answers_same T U same (strings texts) a = record {
   few = a.few;
   all = λ text. (λ u. (a.all text).0 ((same text).1 u), λ among. (same text).0 ((a.all text).1 among));
@@ -90,7 +91,7 @@ answers_same T U same more a = record {
 }
 answers_same T U same (loop before round after) a = record { goes_round = a.goes_round; related = λ m. (same (before ++ times m round ++ after)).0 (a.related m) }
 
-module _ (alphabet : List (Sym × List ℕ)) (name : List ℕ) (net : Automaton Pair) (project : Project) (shown : Shows (record { alphabet = alphabet; name = name; net = Some net }) project) where
+module _ (alphabet : List (Sym × List ℕ)) (name : List ℕ) (net : Automaton Pair) (project : Project) (glosses : List Glossed) (shown : Shows (record { alphabet = alphabet; name = name; net = Some net; glosses = glosses }) project) where
   -- related words are of the alphabet
   upper_over : (upper lower : List Sym) → IsRelated net upper lower → IsOver (symbols_of alphabet) upper
   upper_over upper lower related = each_over (symbols_of alphabet) upper (λ symbol among. let used = upper_used net upper lower related symbol among in shown.net.over used.0 symbol used.1 (inl used.2))
@@ -115,12 +116,12 @@ module _ (alphabet : List (Sym × List ℕ)) (name : List ℕ) (net : Automaton 
         (texts, (lower, subst (λ (z : List Sym). IsRelated net z lower) (sym (word_from_texts alphabet shown.formed upper upper' over (upper_over upper' lower related) same)) related, is), text_is),
   )
 
-  found_texts : (direction : Direction) (word : List Sym) → IsOver (symbols_of alphabet) word → (text : List ℕ) → TextsTo direction net alphabet word text ↔ Related project direction name (spelled alphabet word) text
+  pub found_texts : (direction : Direction) (word : List Sym) → IsOver (symbols_of alphabet) word → (text : List ℕ) → TextsTo direction net alphabet word text ↔ Related project direction name (spelled alphabet word) text
   found_texts Up word over = upper_texts word over
   found_texts Down word over = lower_texts word over
 
   -- what the network's alphabet cuts, the project's does
-  cut_shown : (word : List ℕ) (r : Result (List (List ℕ)) ℕ) → cut (texts_of alphabet) word ≡ r → cut project.alphabet word ≡ r
+  pub cut_shown : (word : List ℕ) (r : Result (List (List ℕ)) ℕ) → cut (texts_of alphabet) word ≡ r → cut project.alphabet word ≡ r
   cut_shown word r is = ap (λ a. cut a word) shown.alphabet ∙ is
 
   pub lawful : (direction : Direction) (version : ℕ) (word : List ℕ) (symbols : List Sym) (found : Found) (bytes : List ℕ) → cut (texts_of alphabet) word ≡ Ok (spelled alphabet symbols) → IsOver (symbols_of alphabet) symbols → Answers (TextsTo direction net alphabet symbols) found
@@ -133,8 +134,8 @@ module _ (alphabet : List (Sym × List ℕ)) (name : List ℕ) (net : Automaton 
   lawful_stop direction version word at bytes is told = no_symbol at shown.net.defined (cut_shown word (Err at) is) told
 
 -- a reply in which the name isn't defined
-pub lawful_none : (alphabet : List (Sym × List ℕ)) (name : List ℕ) (project : Project) → Shows (record { alphabet = alphabet; name = name; net = None }) project → (direction : Direction) (version : ℕ) (word bytes : List ℕ) → bytes ≡ headed version (codes "net " ++ name) → RepliesToWord project direction version name word bytes
-lawful_none alphabet name project shown direction version word bytes told = no_net shown.net told
+pub lawful_none : (alphabet : List (Sym × List ℕ)) (name : List ℕ) (project : Project) (glosses : List Glossed) → Shows (record { alphabet = alphabet; name = name; net = None; glosses = glosses }) project → (direction : Direction) (version : ℕ) (word bytes : List ℕ) → bytes ≡ headed version (codes "net " ++ name) → RepliesToWord project direction version name word bytes
+lawful_none alphabet name project glosses shown direction version word bytes told = no_net shown.net told
 
 -- what follows of a value follows of it where it is an answer
 pub if_ok : {A E : Type 0} (P Q : A → Type 0) → ((a : A) → P a → Q a) → (r : Result A E) → IfOk r P → IfOk r Q

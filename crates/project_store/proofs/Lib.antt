@@ -1,5 +1,6 @@
 mod Resolved
 pub mod Bodies
+mod Grammars
 pub mod Lawful
 pub mod Named
 pub mod Networks
@@ -8,3 +9,4 @@ pub mod Parts
 pub mod Shown
 pub mod Spelled
 pub mod Trying
+mod Glossed

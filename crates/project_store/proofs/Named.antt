@@ -16,8 +16,9 @@ use Rattle.project_sources.specs.Laws.{IsSoundProject}
 use Rattle.project_sources.specs.Sources.{Said, project_in}
 use Rattle.project_model.specs.Numbered.{numbers_in}
 use Rattle.project_model.specs.Plans.{IsPlan, PlanView}
-use Rattle.project_model.specs.Stands.{Stands, entry_in, entry_of}
-use Rattle.project_model.specs.declared.definition.Definition.{Definition}
+use Rattle.project_model.specs.Stands.{Stands}
+use Rattle.project_definitions.specs.Entries.{entry_in, entry_of}
+use Rattle.project_definitions.specs.declared.definition.Definition.{Definition}
 use Rattle.project_store.specs.Loaded.{AreNames, IsLoadedFrom, LoadedView}
 use Rattle.project_store.proofs.Ordered.{in_order_from_sorted}
 use Rattle.project_store.proofs.Shown.{names_differ}
@@ -55,14 +56,14 @@ module _ (said : Said) (plan : PlanView) (table : List (List ℕ)) (alphabet : L
       alphabet_is ∙ ap (λ (t : List (List ℕ)). listed t plan.symbols) table_is
       ∙ ap (listed (project_in said).alphabet) (is.symbols ∙ ap (λ (t : List (List ℕ)). numbers_in t (project_in said).alphabet) table_is)
 
-  pub loaded_is : IsLoadedFrom said (record { definitions = plan.definitions; alphabet = alphabet; forms = plan.forms })
+  pub loaded_is : IsLoadedFrom said (record { definitions = plan.definitions; alphabet = alphabet; forms = plan.forms; glosses = plan.glosses })
   loaded_is = record {
     formed = is_alphabet;
     alphabet = alphabet_whole;
     texts = ap texts_of alphabet_whole ∙ whole_texts (project_in said).alphabet;
     definitions = subst (λ (t : List (List ℕ)). map entry_of plan.definitions ≡ map (entry_in (names_of said.written) t) said.written) table_is is.definitions;
     leaves = is.leaves;
-    plan = subst (λ (s : List Sym). IsPlan (record { definitions = plan.definitions; symbols = s; forms = plan.forms })) (sym (ap symbols_of alphabet_is ∙ symbols_of-listed table plan.symbols)) formed;
+    plan = subst (λ (s : List Sym). IsPlan (record { definitions = plan.definitions; symbols = s; forms = plan.forms; glosses = plan.glosses })) (sym (ap symbols_of alphabet_is ∙ symbols_of-listed table plan.symbols)) formed;
     sound = sound;
   }
 

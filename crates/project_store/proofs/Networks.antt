@@ -34,12 +34,12 @@ use Rattle.project_meaning.specs.Leaves.{expressions_of}
 use Rattle.project_meaning.specs.Trees.{Body, xfst, lexc, twolc}
 use Rattle.project_meaning.proofs.Places.{in_flat}
 use Rattle.project_sources.specs.Built.{BodyIsBuiltBy}
-use Rattle.project_model.specs.Bodies.{BodyFitsBy, IsFormed, kind_of_body}
-use Rattle.project_model.specs.Plain.{body_of}
+use Rattle.project_definitions.specs.Bodies.{BodyFitsBy, IsFormed, kind_of_body}
+use Rattle.project_definitions.specs.Plain.{body_of}
 use Rattle.network_build.proofs.Built.{built_alone, built_by}
 use Rattle.project_model.specs.Plans.{IsPlan, IsSoundOver}
-use Rattle.project_model.specs.Referring.{body_places, references_of}
-use Rattle.project_model.specs.declared.definition.Definition.{Definition}
+use Rattle.project_definitions.specs.Referring.{body_places, references_of}
+use Rattle.project_definitions.specs.declared.definition.Definition.{Definition}
 use Rattle.project_store.specs.Building.{AreBuilt, AreNamesAmong, ArePartsOf, HasParts, HasPut, IsBuiltAt, IsThere, expression_leaves}
 use Rattle.project_store.specs.Centres.{CentresAreBuilt, HasFilled, HasNoCentre, HasNoOwn, IsWhyUnbuilt, OfPlace}
 use Rattle.project_store.specs.Loaded.{LoadedView, plan_in}

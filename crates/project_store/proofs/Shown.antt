@@ -8,8 +8,9 @@ use Rattle.word_relations.specs.Relations.{AreSame}
 use Rattle.word_relations.specs.Words.{IsDistinct}
 use Rattle.word_relations.proofs.Members.{Contains-nil_cases, Contains-cons_cases, Contains-head, Contains-tail, Contains-map, Contains-map_cases}
 use Rattle.word_relations.proofs.Places.{Contains-from_slice_get}
-use Rattle.fsm_base.specs.Alphabet.{spelled, symbols_of, texts_of}
+use Rattle.fsm_base.specs.Alphabet.{spelled, symbols_of, text_of as text_of_number, texts_of}
 use Rattle.fsm_base.specs.Symbols.{number_of}
+use Rattle.fsm_base.proofs.AlphabetLemmas.{text_of-pair}
 use Rattle.fsm_base.specs.declared.letters.Pair.{Pair}
 use Rattle.fsm_base.specs.declared.letters.Sym.{Sym}
 use Rattle.fsa.specs.Automaton.{Automaton}
@@ -29,16 +30,21 @@ use Rattle.network_algebra.specs.declared.network.Network.{Network}
 use Rattle.network_expr.specs.Parts.{is_leaf_of, named, part_of, stands}
 use Rattle.network_expr.specs.declared.parts.Part.{Part}
 use Rattle.network_centres.proofs.Within.{built_within}
-use Rattle.network_build.specs.Networks.{BodyHasEmptyCentre, BodyRelates as NumbersRelate}
+use Rattle.network_build.specs.Networks.{BodyHasEmptyCentre, IsRelationOf}
 use Rattle.network_build.proofs.Built.{built_both}
 use Rattle.network_lexicons.specs.Plain.{symbol_in}
 use Rattle.lexicon_spelling.specs.Mapped.{mapped_lexicon}
 use Rattle.project_store.proofs.Resolved.{resolved_mapped}
 use Rattle.lexicon_spelling.proofs.Spelling.{lexicons_spelled}
 use Rattle.project_meaning.specs.Centres.{HasOwnEmptyCentre, centres_in}
-use Rattle.project_meaning.specs.Trees.{Body, Lexicon, xfst, lexc, twolc}
+use Rattle.grammar_pairs.specs.Laws.{HasLeaves}
+use Rattle.grammar_pairs.specs.Mapped.{mapped_grammar}
+use Rattle.grammar_pairs.specs.Plain.{IsFormed as GrammarIsFormed}
+use Rattle.grammar_pairs.specs.Texts.{in_text}
+use Rattle.project_meaning.specs.Trees.{Body, Grammar, Lexicon, xfst, lexc, twolc}
+use Rattle.project_meaning.specs.Grammars.{GrammarRelates}
 use Rattle.project_meaning.specs.Lexicons.{LexiconsRelate, text_in}
-use Rattle.project_meaning.specs.Leaves.{Leaf, symbol, named as named_leaf, expressions_of, leaf_of, resolved, symbol_of, written as text_of}
+use Rattle.project_meaning.specs.Leaves.{Leaf, symbol, named as named_leaf, expressions_of, leaf_of, resolved, resolved_grammar, symbol_of, written as text_of}
 use Rattle.project_meaning.specs.Projects.{Defines, Definition as Meant, Written, definition_in, names_of}
 use Rattle.project_meaning.specs.Meaning.{InExpression, Word, BodyRelates, Meaning, NameRelates, stands_for as means_by}
 use Rattle.project_meaning.proofs.Depths.{names_unfold}
@@ -49,22 +55,25 @@ use Rattle.project_sources.specs.Sources.{Said, project_in}
 use Rattle.name_resolution.specs.Numbered.{numbered}
 use Rattle.project_model.specs.Numbered.{IsBodyOver, is_leaf_over, is_symbol_over}
 use Rattle.name_resolution.specs.Resolved.{atom_of}
-use Rattle.project_model.specs.Bodies.{mapped_body, no_grammar}
-use Rattle.project_model.specs.Plain.{body_of}
-use Rattle.project_model.specs.Stands.{Entry, entry_in, entry_of}
-use Rattle.project_model.proofs.Alphabets.{at_number}
-use Rattle.project_model.proofs.Bodies.{expressions_mapped, expressions_resolved}
-use Rattle.project_model.proofs.Expressions.{names_said, not_grammar}
+use Rattle.project_model.specs.Plans.{IsSoundOver}
+use Rattle.project_model.specs.Sound.{IsSound}
+use Rattle.project_definitions.specs.Bodies.{IsFormed, mapped_body}
+use Rattle.project_definitions.specs.Plain.{body_of}
+use Rattle.project_definitions.specs.Entries.{Entry, entry_in, entry_of}
+use Rattle.project_definitions.proofs.Numbers.{at_number}
+use Rattle.project_definitions.proofs.Bodies.{expressions_mapped, expressions_resolved}
+use Rattle.project_definitions.proofs.Expressions.{names_said}
 use Rattle.name_resolution.proofs.Leaves.{leaf_cases}
 use Rattle.name_resolution.proofs.Mapped.{mapped_twice}
-use Rattle.project_model.proofs.Mapped.{mapped_built}
-use Rattle.project_model.proofs.Referring.{at_map}
-use Rattle.project_model.specs.declared.definition.Definition.{Definition}
+use Rattle.project_definitions.proofs.Mapped.{mapped_built}
+use Rattle.project_definitions.proofs.Referring.{at_map}
+use Rattle.project_definitions.specs.declared.definition.Definition.{Definition}
 use Rattle.project_store.specs.Building.{IsBuiltAt}
 use Rattle.project_store.specs.Centres.{body_centres}
 use Rattle.project_store.specs.Loaded.{IsLoadedFrom, LoadedView}
 use Rattle.project_store.specs.Networks.{ShowsName}
 use Rattle.project_store.proofs.Bodies.{centres_mapped, expressions_built, expressions_twice, flat_cases, lexicons_built, lexicons_twice}
+use Rattle.project_store.proofs.Grammars.{texts_back}
 use Rattle.project_store.proofs.Parts.{part_found}
 use Rattle.project_store.proofs.Spelled.{entry_held, held_any, numbered_as}
 
@@ -94,6 +103,16 @@ one_of_name ds distinct a b (i, below, is) (j, within, is') same =
 
 never : IsTrue false → ⊥
 never e = cc
+
+-- the same relation of numbers is the same of texts
+spelled_too : (alphabet : List (Sym × List ℕ)) → {R S : List Sym → List Sym → Type 0} {T : Word → Word → Type 0} → AreSame R S → IsSpelled alphabet S T → IsSpelled alphabet R T
+spelled_too alphabet same spelled_as = record {
+  over = λ upper lower h. spelled_as.over upper lower ((same upper lower).0 h);
+  same = λ u v. (
+    λ r. (let i = (spelled_as.same u v).0 r in (i.0, i.1, (same i.0 i.1).1 i.2, i.3, i.4)),
+    λ (upper, lower, related, e, e'). (spelled_as.same u v).1 (upper, lower, (same upper lower).0 related, e, e'),
+  );
+}
 
 module _ (said : Said) (loaded : LoadedView) (from : IsLoadedFrom said loaded) where
   abbrev names : List (List ℕ)
@@ -278,6 +297,9 @@ module _ (said : Said) (loaded : LoadedView) (from : IsLoadedFrom said loaded) w
       abbrev symbols : List Sym
       symbols = symbols_of loaded.alphabet
 
+      sound : IsSound loaded.forms symbols body
+      sound = All-contains (IsSoundOver loaded.forms symbols) loaded.definitions d from.plan.sound (Contains-from_slice_get loaded.definitions place d at)
+
       over : IsBodyOver table meant
       over = All-contains (λ (x : Meant). IsBodyOver table x.body) (project_in said).definitions m from.leaves m_among
 
@@ -322,19 +344,21 @@ module _ (said : Said) (loaded : LoadedView) (from : IsLoadedFrom said loaded) w
                 let (e, held, inside) = flat_cases (λ x. centres_in x) (expressions_of body) centre among in
                 (e, held, (centre, inside, (centre_alike c there).1 empty))
 
-        -- what is written relates the same by numbers and by texts: an expression
-        abbrev IsAlike : Body Raw → Type 0
-        IsAlike written = IsSpelled loaded.alphabet (NumbersRelate parts symbols (mapped_body (numbered names table) (resolved names written))) (BodyRelates means table (resolved names written))
+        -- a relation that is what is written, by numbers, is so by texts: an expression
+        abbrev IsAlike : (List Sym → List Sym → Type 0) → Body Raw → Type 0
+        IsAlike R written =
+            IsRelationOf parts symbols (mapped_body (numbered names table) (resolved names written)) R → IsSpelled loaded.alphabet R (BodyRelates means table (resolved names written))
 
-        expression_alike : (e : Term Raw) → IsBuilt spells e → IsAlike (xfst e)
-        expression_alike e e_built =
-            subst (λ (t : List (List ℕ)). IsSpelled loaded.alphabet (Relates (stands parts) symbols (mapped (numbered names table) (mapped (leaf_of names) e))) (Relates (means_by means) t (mapped (leaf_of names) e))) from.texts
+        expression_alike : (R : List Sym → List Sym → Type 0) (e : Term Raw) → IsBuilt spells e → IsAlike R (xfst e)
+        expression_alike R e e_built is =
+            spelled_too loaded.alphabet is
+            (subst (λ (t : List (List ℕ)). IsSpelled loaded.alphabet (Relates (stands parts) symbols (mapped (numbered names table) (mapped (leaf_of names) e))) (Relates (means_by means) t (mapped (leaf_of names) e))) from.texts
             (subst (λ (x : Term Atom). IsSpelled loaded.alphabet (Relates (stands parts) symbols x) (Relates (means_by means) (texts_of loaded.alphabet) (mapped (leaf_of names) e))) (sym (mapped_twice (numbered names table) (leaf_of names) e))
-            (spelling (stands parts) (means_by means) loaded.alphabet (atom_of names table) (leaf_of names) spells from.formed leaf_spelled e e_built))
+            (spelling (stands parts) (means_by means) loaded.alphabet (atom_of names table) (leaf_of names) spells from.formed leaf_spelled e e_built)))
 
-        -- and lexicons
-        lexicons_alike : (lexicons : List (Lexicon Raw)) → ((e : Term Raw) → Contains (expressions_of (lexc lexicons)) e → IsBuilt spells e) → IsBodyOver table (resolved names (lexc lexicons)) → IsAlike (lexc lexicons)
-        lexicons_alike lexicons es_built over_table =
+        -- lexicons
+        lexicons_alike : (R : List Sym → List Sym → Type 0) (lexicons : List (Lexicon Raw)) → ((e : Term Raw) → Contains (expressions_of (lexc lexicons)) e → IsBuilt spells e) → IsBodyOver table (resolved names (lexc lexicons)) → IsAlike R (lexc lexicons)
+        lexicons_alike R lexicons es_built over_table related =
             let is = resolved_mapped names lexicons in
             let letters = λ (leaf : Raw). is_symbol_over table (symbol_of leaf) in
             let lexicons_are =
@@ -345,42 +369,52 @@ module _ (said : Said) (loaded : LoadedView) (from : IsLoadedFrom said loaded) w
             (λ leaf h. symbol_held (text_of leaf) h) lexicons lexicons_are in
             let twice = lexicons_twice (numbered names table) (leaf_of names) symbol_of lexicons in
             let to = mapped_lexicon (numbered names table) (numbered names table) in
-            subst (λ (ls : List (Lexicon Leaf)). IsSpelled loaded.alphabet (LexiconsRelate symbol_in (stands parts) symbols (map to ls)) (LexiconsRelate text_in (means_by means) table ls)) (sym is)
+            spelled_too loaded.alphabet related
+            (subst (λ (ls : List (Lexicon Leaf)). IsSpelled loaded.alphabet (LexiconsRelate symbol_in (stands parts) symbols (map to ls)) (LexiconsRelate text_in (means_by means) table ls)) (sym is)
             (subst (λ (ls : List (Lexicon Atom)). IsSpelled loaded.alphabet (LexiconsRelate symbol_in (stands parts) symbols ls) (LexiconsRelate text_in (means_by means) table (map (mapped_lexicon (leaf_of names) symbol_of) lexicons))) (sym twice)
             (subst (λ (t : List (List ℕ)). IsSpelled loaded.alphabet (LexiconsRelate symbol_in (stands parts) symbols (map (mapped_lexicon (atom_of names table) (λ leaf. numbered names table (symbol_of leaf))) lexicons))
-            (LexiconsRelate text_in (means_by means) t (map (mapped_lexicon (leaf_of names) symbol_of) lexicons))) from.texts alike))
+            (LexiconsRelate text_in (means_by means) t (map (mapped_lexicon (leaf_of names) symbol_of) lexicons))) from.texts alike)))
 
-        written_alike : (written : Body Raw) → body ≡ mapped_body (numbered names table) (resolved names written) → ((e : Term Raw) → Contains (expressions_of written) e → IsBuilt spells e)
-            → IsBodyOver table (resolved names written) → IsAlike written
-        written_alike (xfst e) is es_built over_table = expression_alike e (es_built e (Contains-head e []))
-        written_alike (lexc lexicons) is es_built over_table = lexicons_alike lexicons es_built over_table
-        written_alike (twolc grammar) is es_built over_table = absurd (not_grammar d.body no_grammar is)
+        -- and a grammar, each of whose symbols has the text of its number
+        symbol_told : (leaf : Leaf) → IsTrue (is_symbol_over table leaf) → in_text (text_of_number loaded.alphabet) (numbered names table leaf) ≡ leaf
+        symbol_told (symbol []) h = absurd (never h)
+        symbol_told (symbol (b ∷ bs)) h = ap (λ (text : List ℕ). symbol text) (text_of-pair loaded.alphabet from.formed.distinct (numbered_as table (b ∷ bs)) (b ∷ bs) (symbol_held (b ∷ bs) h))
+        symbol_told (named_leaf name) h = absurd (never h)
 
-        -- the definition relates the same by numbers and by texts
-        here : IsSpelled loaded.alphabet (NumbersRelate parts symbols body) (BodyRelates means table meant)
-        here =
-            subst (λ (b : Body Atom). IsSpelled loaded.alphabet (NumbersRelate parts symbols b) (BodyRelates means table meant)) (sym by_number)
-            (written_alike raw by_number spelled_leaves over)
+        grammar_alike : (R : List Sym → List Sym → Type 0) (grammar : Grammar Raw) → body ≡ mapped_body (numbered names table) (resolved names (twolc grammar)) → IsBodyOver table (resolved names (twolc grammar)) → IsAlike R (twolc grammar)
+        grammar_alike R grammar is over_table related =
+            let own = resolved_grammar grammar in
+            let numbers = mapped_grammar (numbered names table) own in
+            let has : HasLeaves (is_symbol_of symbols) numbers = subst (BodyIsBuiltBy (is_leaf_of parts symbols) (is_symbol_of symbols)) is built in
+            let formed : GrammarIsFormed numbers = subst IsFormed is sound.formed in
+            let same = texts_back (text_of_number loaded.alphabet) (numbered names table) (is_symbol_over table) symbol_told own formed over_table in
+            subst (λ (g : Grammar Leaf). IsSpelled loaded.alphabet R (GrammarRelates g)) same (related loaded.alphabet from.formed has)
 
-        module _ (n : Network) (relation : AreSame (PairsOf n) (NumbersRelate parts symbols body)) where
+        written_alike : (R : List Sym → List Sym → Type 0) (written : Body Raw) → body ≡ mapped_body (numbered names table) (resolved names written) → ((e : Term Raw) → Contains (expressions_of written) e → IsBuilt spells e)
+            → IsBodyOver table (resolved names written) → IsAlike R written
+        written_alike R (xfst e) is es_built over_table = expression_alike R e (es_built e (Contains-head e []))
+        written_alike R (lexc lexicons) is es_built over_table = lexicons_alike R lexicons es_built over_table
+        written_alike R (twolc grammar) is es_built over_table = grammar_alike R grammar is over_table
+
+        module _ (n : Network) (relation : IsRelationOf parts symbols body (PairsOf n)) where
+          -- the network relates by numbers what the definition does by texts
+          here : IsSpelled loaded.alphabet (PairsOf n) (BodyRelates means table meant)
+          here = written_alike (PairsOf n) raw by_number spelled_leaves over (subst (λ (b : Body Atom). IsRelationOf parts symbols b (PairsOf n)) by_number relation)
+
           abbrev Related : Word → Word → Type 0
           Related u v = (upper : List Sym) × (lower : List Sym) × PairsOf n upper lower × (u ≡ spelled loaded.alphabet upper) × (v ≡ spelled loaded.alphabet lower)
 
           there : (u v : Word) → NameRelates means (project_in said) w.name u v → Related u v
-          there u v (e, e_among, e_named, r) =
-              let own : BodyRelates means table meant u v = subst (λ (x : Meant). BodyRelates means table x.body u v) (only e e_among e_named) r in
-              let i = (here.same u v).0 own in
-              (i.0, i.1, (relation i.0 i.1).1 i.2, i.3, i.4)
+          there u v (e, e_among, e_named, r) = (here.same u v).0 (subst (λ (x : Meant). BodyRelates means table x.body u v) (only e e_among e_named) r)
 
           back : (u v : Word) → Related u v → NameRelates means (project_in said) w.name u v
-          back u v (upper, lower, related, e, e') =
-              (m, m_among, refl, (here.same u v).1 (upper, lower, (relation upper lower).0 related, e, e'))
+          back u v related = (m, m_among, refl, (here.same u v).1 related)
 
           -- the name relates what its network does
           pub name_spelled_here : (name : List ℕ) → slice_get names place ≡ Some name → IsSpelled loaded.alphabet (PairsOf n) (means name)
           name_spelled_here name at_name =
               subst (λ (x : List ℕ). IsSpelled loaded.alphabet (PairsOf n) (means x)) (same_Some w.name name (sym name_here ∙ at_name)) (record {
-                over = λ upper lower h. here.over upper lower ((relation upper lower).0 h);
+                over = here.over;
                 same = λ u v. (
                   λ r. there u v ((names_unfold (project_in said) from.sound.acyclic from.sound.closed w.name u v).0 r),
                   λ r. (names_unfold (project_in said) from.sound.acyclic from.sound.closed w.name u v).1 (back u v r),
@@ -395,8 +429,5 @@ module _ (said : Said) (loaded : LoadedView) (from : IsLoadedFrom said loaded) w
         record {
           defined = defined_here name is;
           over = over;
-          relates = λ u v. (
-            λ r. (let i = (spelled_as.same u v).0 r in (i.0, i.1, (same i.0 i.1).1 i.2, i.3, i.4)),
-            λ (upper, lower, related, e, e'). (spelled_as.same u v).1 (upper, lower, (same upper lower).0 related, e, e'),
-          );
+          relates = (spelled_too loaded.alphabet same spelled_as).same;
         }

@@ -13,7 +13,8 @@ use Rattle.word_relations.proofs.Members.{Contains-head, Contains-tail, Contains
 use Rattle.word_relations.proofs.Places.{slice_get_from_Contains, slice_get-append_left, slice_get-append_right}
 use Rattle.project_meaning.specs.Projects.{with_texts}
 use Rattle.project_model.specs.Numbered.{numbers_in}
-use Rattle.project_model.proofs.Alphabets.{at_number, cases_bool, texts_of-numbers}
+use Rattle.project_definitions.proofs.Numbers.{at_number}
+use Rattle.project_model.proofs.Alphabets.{cases_bool, texts_of-numbers}
 
 -- in a list whose items are distinct none stands twice
 twice : {X : Type 0} (xs ys : List X) (x : X) → IsDistinct (xs ++ x ∷ ys) → Contains xs x → ⊥

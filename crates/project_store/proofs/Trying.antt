@@ -24,23 +24,24 @@ use Rattle.project_meaning.specs.Centres.{HasEmptyCentre, HasOwnEmptyCentre}
 use Rattle.project_meaning.specs.Leaves.{expressions_of, symbols_in}
 use Rattle.project_meaning.specs.Projects.{Refers, Reaches, at_once, further, Written, names_of}
 use Rattle.project_sources.specs.Faults.{fault, fault_of, read_so_far, rows_so_far, FirstFault}
-use Rattle.project_sources.specs.Laws.{readers_so_far}
+use Rattle.project_sources.specs.Laws.{all_readers}
 use Rattle.project_manifest.specs.Lines.{symbols_of as further_symbols}
 use Rattle.project_manifest.specs.Rows.{First, Where}
 use Rattle.project_sources.specs.Sources.{FilesSay, Said, project_in, resolved_in}
-use Rattle.project_sources.proofs.Once.{files_say_one, exact_so_far}
+use Rattle.project_sources.proofs.Once.{files_say_one, all_exact}
 use Rattle.project_sources.proofs.Sound.{centres_come_last}
-use Rattle.project_model.specs.Forms.{AreDefined}
-use Rattle.project_model.specs.Plain.{body_of}
-use Rattle.project_model.specs.Referring.{body_places, references_of}
-use Rattle.project_model.specs.Stands.{Entry, entry_in, entry_of}
-use Rattle.project_model.specs.declared.definition.Definition.{Definition}
-use Rattle.project_model.proofs.Alphabets.{at_number, put}
-use Rattle.project_model.proofs.Referring.{at_map, count, first_here, from_graph, name_at, place_at, references_whole, referred_among, to_graph}
+use Rattle.project_definitions.specs.Forms.{AreDefined}
+use Rattle.project_definitions.specs.Plain.{body_of}
+use Rattle.project_definitions.specs.Referring.{body_places, references_of}
+use Rattle.project_definitions.specs.Entries.{Entry, entry_in, entry_of}
+use Rattle.project_definitions.specs.declared.definition.Definition.{Definition}
+use Rattle.project_definitions.proofs.Numbers.{at_number}
+use Rattle.project_model.proofs.Alphabets.{put}
+use Rattle.project_definitions.proofs.Referring.{at_map, count, first_here, from_graph, name_at, place_at, references_whole, referred_among, to_graph}
 use Rattle.project_store.specs.Building.{AreBuilt, HasParts, IsBuiltAt, IsThere, expression_leaves}
 use Rattle.project_store.specs.Centres.{AreClear, AreFree, AreTried, CentresAreBuilt, HasNoCentre, HasNoEmptyCentre, HasNoNetwork, HasNoOwn, HasNone, IsBarred, IsCentreError, IsFirstEmpty, IsFirstMark, IsFree, IsOutcome, OfPlace, body_centres, with_empty, with_network}
 use Rattle.project_store.specs.Loaded.{IsLoadedFrom, LoadedView}
-use Rattle.project_store.specs.Projects.{IsOfSources, IsWhyNot, Reads}
+use Rattle.project_store.specs.Projects.{HasTable, IsOfSources, IsWhyNot, Reads}
 use Rattle.project_store.specs.declared.centres.Outcome.{Outcome}
 use Rattle.project_store.specs.declared.centres.Outcome.TheVariants.{Built, EmptyCentre, Behind}
 use Rattle.project_store.specs.declared.store_error.StoreError.{StoreError}
@@ -444,18 +445,18 @@ clear_more marks place mark at is clear before lower = elim (cases_eq before pla
 ]
 
 -- What was loaded of sources without a fault that is read.
-module _ (sources : Files) (said : Said) (free : (found : Fault) → FirstFault readers_so_far sources read_so_far found → ⊥) (says : FilesSay readers_so_far sources said) (loaded : LoadedView) (from : IsLoadedFrom said loaded) where
+module _ (sources : Files) (said : Said) (free : (found : Fault) → FirstFault all_readers sources read_so_far found → ⊥) (says : FilesSay all_readers sources said) (loaded : LoadedView) (from : IsLoadedFrom said loaded) where
   abbrev Empty : Written → Fault → Type 0
   Empty w found = Where (HasEmptyCentre (project_in said) (resolved_in said w).name) (fault_of w why.EmptyCentre) found
 
   pub reads_project : HasNoEmptyCentre loaded → Reads sources (Ok (project_in said))
   reads_project none = (no_fault, said, says, refl)
     where
-      no_fault : (found : Fault) → FirstFault readers_so_far sources rows_so_far found → ⊥
-      no_fault found h = elim ((centres_come_last readers_so_far read_so_far sources found).0 h) as (λ _. ⊥) [
+      no_fault : (found : Fault) → FirstFault all_readers sources rows_so_far found → ⊥
+      no_fault found h = elim ((centres_come_last all_readers read_so_far sources found).0 h) as (λ _. ⊥) [
         | inl read ↦ free found read
         | inr (clear, (other, other_says, first)) ↦
-            (let same : other ≡ said = files_say_one readers_so_far exact_so_far sources other said other_says says in
+            (let same : other ≡ said = files_say_one all_readers all_exact sources other said other_says says in
             none_at Empty said.written (λ k w at found here. none k (within_said said loaded from k w at) said from w.name (named_by said loaded from k w at) here.0) found
             (subst (λ (s : Said). First (λ w. Where (HasEmptyCentre (project_in s) (resolved_in s w).name) (fault_of w why.EmptyCentre)) s.written found) same first))
       ]
@@ -469,12 +470,12 @@ module _ (sources : Files) (said : Said) (free : (found : Fault) → FirstFault 
       let has = first.empty said from w.name (named_by said loaded from place w w_at) in
       let earlier = first_here Empty said.written place w found w_at (has, of_written)
       (λ j y lower at_y other here. first.first j lower said from y.name (named_by said loaded from j y at_y) here.0) in
-      (centres_come_last readers_so_far read_so_far sources found).1 (inr (free, (said, says, earlier)))
+      (centres_come_last all_readers read_so_far sources found).1 (inr (free, (said, says, earlier)))
 
   -- so it is with what telling its centres answers
-  pub loads_project : (r : Result LoadedView StoreError) → IfOk r (λ new. new ≡ loaded) → OnOk r (HasNoEmptyCentre loaded) → IfOk r (IsOfSources sources)
-  loads_project (Ok new) same none = (said, subst (IsLoadedFrom said) (sym same) from, reads_project none)
-  loads_project (Err error) same none = same
+  pub loads_project : HasTable sources loaded.glosses → (r : Result LoadedView StoreError) → IfOk r (λ new. new ≡ loaded) → OnOk r (HasNoEmptyCentre loaded) → IfOk r (IsOfSources sources)
+  loads_project table (Ok new) same none = (said, subst (IsLoadedFrom said) (sym same) from, reads_project none, subst (λ (l : LoadedView). HasTable sources l.glosses) (sym same) table)
+  loads_project table (Err error) same none = same
 
   pub why_not_loaded : (r : Result LoadedView StoreError) → IfErr r (IsCentreError loaded) → IfErr r (IsWhyNot sources)
   why_not_loaded (Ok new) is = is
@@ -482,5 +483,5 @@ module _ (sources : Files) (said : Said) (free : (found : Fault) → FirstFault 
   why_not_loaded (Err (Refused found)) (place, d, at, first, is) = reads_fault found place d at first is
 
 -- a fault that is read is the first
-pub first_of_read : (sources : Files) (found : Fault) → FirstFault readers_so_far sources read_so_far found → Reads sources (Err found)
-first_of_read sources found read = (centres_come_last readers_so_far read_so_far sources found).1 (inl read)
+pub first_of_read : (sources : Files) (found : Fault) → FirstFault all_readers sources read_so_far found → Reads sources (Err found)
+first_of_read sources found read = (centres_come_last all_readers read_so_far sources found).1 (inl read)

@@ -15,7 +15,7 @@ use Rattle.project_meaning.specs.Leaves.{expressions_of}
 use Rattle.project_meaning.specs.Meaning.{Meaning}
 use Rattle.project_meaning.specs.Trees.{Body}
 use Rattle.project_meaning.specs.Projects.{names_of}
-use Rattle.project_model.specs.Referring.{references_of}
+use Rattle.project_definitions.specs.Referring.{references_of}
 use Rattle.project_sources.specs.Sources.{Said, project_in}
 use Rattle.project_store.specs.Loaded.{IsLoadedFrom, LoadedView}
 

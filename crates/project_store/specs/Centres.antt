@@ -9,9 +9,9 @@ use Rattle.project_meaning.specs.Centres.{HasEmptyCentre, HasOwnEmptyCentre, cen
 use Rattle.project_meaning.specs.Leaves.{expressions_of}
 use Rattle.project_meaning.specs.Projects.{Project, Reaches, names_of}
 use Rattle.project_meaning.specs.Trees.{Body}
-use Rattle.project_model.specs.Plain.{body_of}
-use Rattle.project_model.specs.Referring.{references_of}
-use Rattle.project_model.specs.declared.definition.Definition.{Definition}
+use Rattle.project_definitions.specs.Plain.{body_of}
+use Rattle.project_definitions.specs.Referring.{references_of}
+use Rattle.project_definitions.specs.declared.definition.Definition.{Definition}
 use Rattle.regex_ast.specs.declared.expr.Atom.{Atom}
 use Rattle.regex_ast.specs.declared.expr.Atom.TheVariants.{Sym, Name}
 use Rattle.regex_ast.specs.Terms.{Term}

@@ -1,24 +1,26 @@
--- A project that is loaded: its definitions over the numbers of its symbols with their forms, and its alphabet.
+-- A project that is loaded: its definitions over the numbers of its symbols with their forms, its alphabet, and its glosses.
 use Rattle.std.specs.Prelude.{◌≡◌, ◌↔◌, ℕ, List, All, Contains, map}
 use Rattle.fsm_base.specs.Alphabet.{IsAlphabet, listed, symbols_of, texts_of}
 use Rattle.fsm_base.specs.declared.letters.Sym.{Sym}
 use Rattle.word_relations.specs.Answers.{IsInOrder}
 use Rattle.project_meaning.specs.Projects.{Project, Defines, names_of}
 use Rattle.expr_kinds.specs.declared.form.Form.{Form}
+use Rattle.interlinear.specs.Glosses.{Entry as Glossed}
 use Rattle.project_sources.specs.Laws.{IsSoundProject}
 use Rattle.project_sources.specs.Sources.{Said, project_in}
 use Rattle.project_model.specs.Numbered.{IsBodyOver, numbers_in}
 use Rattle.project_model.specs.Plans.{IsPlan, PlanView}
-use Rattle.project_model.specs.Stands.{entry_in, entry_of}
-use Rattle.project_model.specs.declared.definition.Definition.{Definition}
+use Rattle.project_definitions.specs.Entries.{entry_in, entry_of}
+use Rattle.project_definitions.specs.declared.definition.Definition.{Definition}
 
 pub record LoadedView : Type 0 where
   pub definitions : List Definition
   pub alphabet : List (Sym × List ℕ)
   pub forms : List Form
+  pub glosses : List Glossed
 
 abbrev pub plan_in : LoadedView → PlanView
-plan_in loaded = record { definitions = loaded.definitions; symbols = symbols_of loaded.alphabet; forms = loaded.forms }
+plan_in loaded = record { definitions = loaded.definitions; symbols = symbols_of loaded.alphabet; forms = loaded.forms; glosses = loaded.glosses }
 
 -- the definitions are those that were said, over numbers of symbols, and the alphabet has the same symbols
 pub record IsLoadedFrom (said : Said) (loaded : LoadedView) : Type 0 where

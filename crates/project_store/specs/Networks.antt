@@ -7,15 +7,18 @@ use Rattle.fsa.specs.Automaton.{Automaton}
 use Rattle.fst_relation.specs.Relation.{IsRelated}
 use Rattle.project_meaning.specs.Projects.{Project, Defines}
 use Rattle.project_meaning.specs.Meaning.{Meaning}
+use Rattle.interlinear.specs.Glosses.{Entry}
 use Rattle.lookup_answers.specs.declared.direction.Direction.{Direction}
 use Rattle.lookup_answers.specs.declared.direction.Direction.TheVariants.{Up, Down}
 use Rattle.lookup.specs.Answering.{IsOverAlphabet, UpperTexts, LowerTexts}
 
--- a name with its automaton, over the symbols of an alphabet; it has none where the project doesn't define the name
+-- a name with its automaton, over the symbols of an alphabet; it has none where the project doesn't define the name. And the
+-- glosses in which words are told
 pub record NetworkView : Type 0 where
   pub alphabet : List (Sym × List ℕ)
   pub name : List ℕ
   pub net : Option (Automaton Pair)
+  pub glosses : List Entry
 
 -- the automaton is over the alphabet, and has the relation of the project's name
 pub record ShowsName (alphabet : List (Sym × List ℕ)) (name : List ℕ) (net : Automaton Pair) (project : Project) : Type 0 where

@@ -1,22 +1,27 @@
 -- The project that sources are, or their first fault.
-use Rattle.std.specs.Prelude.{Result, Ok, Err}
+use Rattle.std.specs.Prelude.{List, Result, Ok, Err}
 use Rattle.fsm_io.specs.Folders.{Files}
 use Rattle.regex_ast.specs.declared.fault.Fault.{Fault}
+use Rattle.interlinear.specs.Glosses.{Entry}
 use Rattle.project_meaning.specs.Projects.{Project}
 use Rattle.project_sources.specs.Faults.{SourcesSay, rows_so_far}
-use Rattle.project_sources.specs.Laws.{readers_so_far}
-use Rattle.project_sources.specs.Sources.{Said, project_in}
+use Rattle.project_sources.specs.Laws.{all_readers}
+use Rattle.project_sources.specs.Sources.{FilesGloss, Said, project_in}
 use Rattle.project_store.specs.Loaded.{LoadedView, IsLoadedFrom}
 use Rattle.project_store.specs.declared.store_error.StoreError.{StoreError}
 use Rattle.project_store.specs.declared.store_error.StoreError.TheVariants.{Memory, Refused}
 
 -- the project that files are, or their first fault, by the readers and the rows that there are so far
 abbrev pub Reads : Files → Result Project Fault → Type 0
-Reads files answer = SourcesSay readers_so_far files rows_so_far answer
+Reads files answer = SourcesSay all_readers files rows_so_far answer
 
--- the project that sources are
+-- the table of glosses that files have
+abbrev pub HasTable : Files → List Entry → Type 0
+HasTable files table = FilesGloss all_readers files table
+
+-- the project that sources are, with their glosses
 abbrev pub IsOfSources : Files → LoadedView → Type 0
-IsOfSources sources loaded = (said : Said) × IsLoadedFrom said loaded × Reads sources (Ok (project_in said))
+IsOfSources sources loaded = (said : Said) × IsLoadedFrom said loaded × Reads sources (Ok (project_in said)) × HasTable sources loaded.glosses
 
 -- the first fault of sources, or want of memory
 abbrev pub IsWhyNot : Files → StoreError → Type 0

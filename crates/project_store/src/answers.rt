@@ -1,5 +1,6 @@
 ghost use Rattle.std.specs.Prelude.{◌<◌, ◌-◌, ◌^◌, List, ℕ, Some, length, IfOk};
 ghost use Rattle.word_relations.specs.Answers.{Answers};
+ghost use Rattle.interlinear.specs.Glosses.{Entry};
 ghost use Rattle.project_meaning.specs.Projects.{Project};
 ghost use Rattle.reply_meaning.specs.Replies.{RepliesToWord};
 ghost use Rattle.lookup_answers.specs.Answers.{found_of};
@@ -13,7 +14,7 @@ use reply_text::{answer, symbol};
 use std::alloc::{AllocError, Global};
 
 /// The words that a network relates to a word, in one direction.
-fn look(
+pub fn look(
     alloc: Global,
     alphabet: &Alphabet,
     net: &Net,
@@ -40,7 +41,7 @@ pub fn reply_in(
 ) -> Result<Vec<u8>, AllocError>
     requires over { IsOverAlphabet alphabet.now net.now }
     requires short { length word.now < 2 ^ 32 - 1 }
-    ensures { (project : Project) (name : List ℕ) → Shows (record { alphabet = alphabet.now; name = name; net = Some net.now }) project
+    ensures { (project : Project) (name : List ℕ) (glosses : List Entry) → Shows (record { alphabet = alphabet.now; name = name; net = Some net.now; glosses = glosses }) project
         → IfOk result (λ bytes. RepliesToWord project direction version name word.now bytes.items) }
 {
     match alphabet.tokens(alloc, word) {

@@ -2,14 +2,14 @@ ghost use Rattle.std.specs.Prelude.{◌≡◌, ◌<◌, ◌++◌, ◌∷◌, [],
 ghost use Rattle.std.specs.Bool.{OnFalse, OnTrue};
 ghost use Rattle.regex_ast.specs.declared.expr.Atom.{Atom as Leaf};
 ghost use Rattle.expr_leaves.specs.Leaves.{seen};
-ghost use Rattle.project_model.specs.Plain.{body_of};
+ghost use Rattle.project_definitions.specs.Plain.{body_of};
 ghost use Rattle.project_store.specs.Centres.{CentresAreBuilt, HasFilled, HasNoCentre, HasNoOwn, IsWhyUnbuilt, OfPlace};
 ghost use Rattle.project_store.specs.Building.{AreBuilt, AreNamesAmong, ArePartsOf, HasParts, HasPut, IsBuiltAt, IsThere, expression_leaves};
 
 use crate::project::Project;
 use expr_leaves::leaves;
 use network_build::{BuildError, Network, Part, body_expressions, build};
-use project_model::Body;
+use project_definitions::Body;
 use regex_ast::Atom;
 use std::alloc::{AllocError, Global};
 

@@ -1,8 +1,8 @@
 ghost use Rattle.std.specs.Prelude.{◌≡◌, ◌≤◌, ◌<◌, ℕ, [], All, Contains, IfOk, MatchOption, None, Some, false, length, replicate, slice_get};
 ghost use Rattle.std.specs.Bool.{OnFalse, OnTrue};
 ghost use Rattle.project_meaning.specs.Centres.{centres_in};
-ghost use Rattle.project_model.specs.Plain.{body_of};
-ghost use Rattle.project_model.specs.declared.definition.Definition.{Definition as Defined};
+ghost use Rattle.project_definitions.specs.Plain.{body_of};
+ghost use Rattle.project_definitions.specs.declared.definition.Definition.{Definition as Defined};
 ghost use Rattle.regex_ast.specs.declared.expr.Atom.{Atom as Leaf};
 ghost use Rattle.regex_ast.specs.Terms.{term};
 ghost use Rattle.project_store.specs.Building.{expression_leaves};
@@ -12,7 +12,7 @@ use crate::building::{built_of, leaves_of, none_built};
 use crate::project::Project;
 use network_build::{BuildError, Network, body_expressions};
 use network_centres::centres;
-use project_model::{Body, Definition};
+use project_definitions::{Body, Definition};
 use regex_ast::{Atom, Expr};
 use std::alloc::{AllocError, Global};
 

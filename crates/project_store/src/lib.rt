@@ -2,16 +2,17 @@
 //!
 //! - [`project_of`]: the project of sources, as a [`Ready`], or why there is none, a [`StoreError`].
 //! - [`Project`]: its definitions and its alphabet.
-//! - [`Network`]: a name that is looked up in, with the network of its definition, and the replies to words.
+//! - [`Network`]: a name that is looked up in, with the network of its definition, and the replies to words and to texts.
 //! - [`fill`], [`reply_in`]: the same step by step, for many names: the network of one definition, and the reply of a network.
 //!
 //! Inside, `reading` makes the project and refuses it where `centres` finds an empty centre, `ready` keeps what was built to see that, `building` builds the networks of definitions, each of those
-//! before it, `network` has the one that is looked up in, and `answers` the replies to words.
+//! before it, `network` has the one that is looked up in, `answers` the replies to words, and `glosses` those to texts whose words are glossed.
 #![tactic(auto)]
 
 mod answers;
 mod building;
 mod centres;
+mod glosses;
 mod network;
 mod project;
 mod reading;

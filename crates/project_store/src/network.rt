@@ -1,6 +1,7 @@
 ghost use Rattle.std.specs.Prelude.{◌≡◌, ◌<◌, ◌-◌, ◌^◌, length, IfOk, IfSome};
 ghost use Rattle.std.specs.Option.{option_map};
 ghost use Rattle.lookup.specs.Answering.{IsOverAlphabet};
+ghost use Rattle.interlinear.specs.Replies.{GlossesText};
 ghost use Rattle.project_meaning.specs.Projects.{Project as Meant};
 ghost use Rattle.reply_meaning.specs.Replies.{RepliesToWord};
 ghost use Rattle.project_sources.specs.Sources.{Said, project_in};
@@ -10,6 +11,7 @@ ghost use Rattle.project_store.specs.Networks.{Shows, ShowsNet};
 
 use crate::answers::reply_in;
 use crate::building::network_at;
+use crate::glosses::gloss_in;
 use crate::project::Project;
 use crate::ready::Ready;
 use fsm_base::Text;
@@ -38,7 +40,7 @@ impl Model for Network {
 
     ghost Value = { NetworkView };
 
-    ghost view = { λ n. record { alphabet = n.project.alphabet; name = n.name; net = option_map (λ c. c.net) n.compiled } };
+    ghost view = { λ n. record { alphabet = n.project.alphabet; name = n.name; net = option_map (λ c. c.net) n.compiled; glosses = n.project.glosses } };
 
     ghost invariant = { λ n. IfSome n.compiled (λ c. IsOverAlphabet n.project.alphabet c.net) };
 }
@@ -68,6 +70,7 @@ impl Network {
     pub fn of(alloc: Global, ready: Ready, name: Text) -> Result<Network, AllocError>
         ensures shows { (said : Said) → IsLoadedFrom said ready → IfOk result (λ network. Shows network (project_in said)) }
         ensures name { IfOk result (λ network. network.name ≡ name) }
+        ensures glosses { IfOk result (λ network. network.glosses ≡ ready.glosses) }
     {
         let (project, built) = ready.into_parts();
         let compiled = find_net(alloc, &project, built, name.as_str())?;
@@ -98,6 +101,26 @@ impl Network {
                     direction,
                     version,
                     word,
+                )
+            }
+            None => no_net(alloc, version, self.name.as_str()),
+        }
+    }
+
+    /// The reply to a text in Normalization Form C whose words are glossed, at a version.
+    pub fn gloss(&self, alloc: Global, version: u64, text: &str) -> Result<Vec<u8>, AllocError>
+        requires { length text.now < 2 ^ 32 - 1 }
+        ensures { (project : Meant) → Shows self.now project → IfOk result (λ bytes. GlossesText project self.now.glosses version self.now.name text.now bytes.items) }
+    {
+        match &self.compiled {
+            Some(compiled) => {
+                gloss_in(
+                    alloc,
+                    self.project.alphabet(),
+                    compiled.net(),
+                    self.project.glosses(),
+                    version,
+                    text,
                 )
             }
             None => no_net(alloc, version, self.name.as_str()),

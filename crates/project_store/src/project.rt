@@ -1,12 +1,13 @@
 ghost use Rattle.std.specs.Prelude.{◌≡◌, ◌<◌, [], All, Contains, IfOk, MatchOption, Some, length, slice_get};
 ghost use Rattle.project_model.specs.Plans.{IsPlan};
-ghost use Rattle.project_model.specs.declared.definition.Definition.{Definition};
+ghost use Rattle.project_definitions.specs.declared.definition.Definition.{Definition};
 ghost use Rattle.project_model.specs.Stands.{Stands};
 ghost use Rattle.project_sources.specs.Laws.{IsSoundProject};
 ghost use Rattle.project_sources.specs.Sources.{Said, project_in};
 ghost use Rattle.project_store.specs.Loaded.{AreNames, IsLoadedFrom, plan_in};
 
 use fsm_base::{Alphabet, SymbolTable, Text};
+use interlinear::GlossTable;
 use project_model::Plan;
 use std::alloc::{AllocError, Global};
 use std::marker::Model;
@@ -14,7 +15,7 @@ use std::marker::Model;
 /// A project that is loaded: its plan, and the alphabet of its symbols.
 #[derive(Drop)]
 pub struct Project {
-    /// Its definitions and symbols.
+    /// Its definitions, symbols and glosses.
     plan: Plan,
     /// The symbols of the plan, with their texts.
     alphabet: Alphabet,
@@ -23,6 +24,7 @@ pub struct Project {
 impl Model for Project {
     ghost use Rattle.regex_ast.specs.contracts.expr.Atom as atom;
     ghost use Rattle.regex_ast.specs.contracts.expr.Expr as expr;
+    ghost use Rattle.regex_ast.specs.contracts.twolc.PairPart as part;
     ghost use Rattle.std.specs.Prelude.{◌≡◌};
     ghost use Rattle.std.specs.Coded.{codes};
     ghost use Rattle.fsm_base.specs.Alphabet.{IsAlphabet, symbols_of};
@@ -31,9 +33,9 @@ impl Model for Project {
 
     ghost Value = { LoadedView };
 
-    ghost coded = { Prim.hlevel (codes, (expr.the_row atom.the_row).coded) };
+    ghost coded = { Prim.hlevel (codes, (expr.the_row atom.the_row).coded, (expr.the_row (part.the_row atom.the_row)).coded) };
 
-    ghost view = { λ p. record { definitions = p.plan.definitions; alphabet = p.alphabet; forms = p.plan.forms } };
+    ghost view = { λ p. record { definitions = p.plan.definitions; alphabet = p.alphabet; forms = p.plan.forms; glosses = p.plan.glosses } };
 
     ghost invariant = { λ p. IsPlan p.plan × IsAlphabet p.alphabet × (symbols_of p.alphabet ≡ p.plan.symbols) };
 }
@@ -42,7 +44,8 @@ impl Project {
     /// The project of a plan whose symbols stand in the table.
     pub fn of(alloc: Global, plan: Plan, table: &SymbolTable) -> Result<Project, AllocError>
         requires { All (λ sym. sym.0 < length table.now) plan.symbols }
-        ensures { (said : Said) → Stands said [] table.now plan → IsSoundProject (project_in said) → IfOk result (IsLoadedFrom said) }
+        ensures loaded { (said : Said) → Stands said [] table.now plan → IsSoundProject (project_in said) → IfOk result (IsLoadedFrom said) }
+        ensures glosses { IfOk result (λ project. project.glosses ≡ plan.glosses) }
     {
         let alphabet = Alphabet::of(alloc, table, plan.symbols())?;
         Ok(Project { plan, alphabet })
@@ -62,6 +65,13 @@ impl Project {
         ensures formed { IsPlan (plan_in self.now) }
     {
         &self.plan
+    }
+
+    /// The glosses of its files.
+    pub fn glosses(&self) -> &GlossTable
+        ensures { result.now ≡ self.now.glosses }
+    {
+        self.plan.glosses()
     }
 
     /// The place of the definition of a name, counted from 0, or `None` where the project doesn't define the name.

@@ -9,8 +9,9 @@ use crate::project::Project;
 use crate::ready::Ready;
 use crate::store_error::StoreError;
 use fsm_base::SymbolTable;
+use project_definitions::Definition;
 use project_files::{PlanError, Sources};
-use project_model::{Definition, read_project};
+use project_model::read_project;
 use regex_ast::{Fault, Why};
 use std::alloc::{AllocError, Global};
 

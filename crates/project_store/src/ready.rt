@@ -14,13 +14,14 @@ pub struct Ready {
 impl Model for Ready {
     ghost use Rattle.regex_ast.specs.contracts.expr.Atom as atom;
     ghost use Rattle.regex_ast.specs.contracts.expr.Expr as expr;
+    ghost use Rattle.regex_ast.specs.contracts.twolc.PairPart as part;
     ghost use Rattle.std.specs.Coded.{codes};
     ghost use Rattle.project_store.specs.Centres.{CentresAreBuilt};
     ghost use Rattle.project_store.specs.Loaded.{LoadedView};
 
     ghost Value = { LoadedView };
 
-    ghost coded = { Prim.hlevel (codes, (expr.the_row atom.the_row).coded) };
+    ghost coded = { Prim.hlevel (codes, (expr.the_row atom.the_row).coded, (expr.the_row (part.the_row atom.the_row)).coded) };
 
     ghost view = { λ r. r.project };
 

@@ -17,7 +17,7 @@ use Rattle.word_relations.proofs.Places.{Contains-from_slice_get}
 use Rattle.editor_meaning.specs.Editing.{AreNames}
 use Rattle.project_meaning.specs.Projects.{Defines, Project}
 use Rattle.project_meaning.specs.Touched.{Touched}
-use Rattle.project_model.specs.declared.definition.Definition.{Definition}
+use Rattle.project_definitions.specs.declared.definition.Definition.{Definition}
 use Rattle.project_sources.specs.Sources.{Said, project_in}
 use Rattle.project_store.specs.Loaded.{AreNames as AreProjectNames, IsLoadedFrom, LoadedView}
 use Rattle.project_store.proofs.Ordered.{in_order_from_sorted}
@@ -55,7 +55,7 @@ stand_for said loaded from = record {
   texts = from.texts;
   definitions = from.definitions;
   forms = loaded.forms;
-  plan = from.plan;
+  plan = record { distinct = from.plan.distinct; names = from.plan.names; forms = from.plan.forms; sound = from.plan.sound };
 }
 
 module _ (old new : Project) (definitions : List Definition) (distinct : IsDistinct (map (λ d. d.name) definitions)) (places : List ℕ) (are : AreTouched old new definitions places) where

@@ -8,9 +8,9 @@ use Rattle.fsm_base.specs.declared.letters.Pair.{Pair}
 use Rattle.name_order.specs.Orders.{IsOrder}
 use Rattle.network_algebra.specs.declared.network.Network.{Network}
 use Rattle.project_meaning.specs.Projects.{names_of}
-use Rattle.project_model.specs.Plain.{body_of}
-use Rattle.project_model.specs.Referring.{body_places, references_of}
-use Rattle.project_model.specs.declared.definition.Definition.{Definition}
+use Rattle.project_definitions.specs.Plain.{body_of}
+use Rattle.project_definitions.specs.Referring.{body_places, references_of}
+use Rattle.project_definitions.specs.declared.definition.Definition.{Definition}
 use Rattle.project_sources.specs.Sources.{Said, project_in}
 use Rattle.project_store.specs.Building.{IsThere}
 use Rattle.project_store.specs.Loaded.{IsLoadedFrom, LoadedView}

@@ -1,5 +1,5 @@
 -- The reply to a word is that of the version that is meant.
-use Rattle.std.proofs.Common.{◌≡◌, ◌<◌, ◌++◌, ℕ, List, Contains, Some, arith, get_or, length, map, refl, Result, IfOk, Vec, Global, codes, slice_get, sym, ap, subst, ◌∙◌}
+use Rattle.std.proofs.Common.{◌≡◌, ◌<◌, ◌++◌, ℕ, List, [], Contains, Some, arith, get_or, length, map, refl, Result, IfOk, Vec, Global, codes, slice_get, sym, ap, subst, ◌∙◌}
 use Rattle.std.proofs.lemmas.List.{length-map}
 use Rattle.std.proofs.lemmas.Option.{slice_get-map, slice_get_read}
 use Rattle.std.specs.Arc.{arc_value}
@@ -11,7 +11,7 @@ use Rattle.fsm_base.specs.declared.letters.Pair.{Pair}
 use Rattle.lookup_answers.specs.declared.direction.Direction.{Direction}
 use Rattle.network_build.specs.Networks.{CompiledView}
 use Rattle.project_meaning.specs.Projects.{Defines, Project}
-use Rattle.project_model.specs.declared.definition.Definition.{Definition}
+use Rattle.project_definitions.specs.declared.definition.Definition.{Definition}
 use Rattle.project_sources.specs.Edits.{Version}
 use Rattle.project_store.specs.Networks.{Shows, ShowsName}
 use Rattle.project_store.proofs.Shown.{name_here, same_name, shows_none}
@@ -30,7 +30,7 @@ net_there items place count shared compiled net within size is is_value is_net =
 module _ (view : VersionView) (meant : Version) (stands : Stands view meant) (direction : Direction) (name word : List ℕ) where
   -- the network at the place of the name shows it
   pub shows_here : AreNetworks view.loaded view.nets → (place : ℕ) (d : Definition) → slice_get view.loaded.definitions place ≡ Some d → d.name ≡ name → (net : Automaton Pair) → slice_get view.nets place ≡ Some net
-      → Shows (record { alphabet = view.loaded.alphabet; name = name; net = Some net }) meant.project
+      → Shows (record { alphabet = view.loaded.alphabet; name = name; net = Some net; glosses = [] }) meant.project
   shows_here networks place d at named net there =
       let from = stands.loaded in
       let here = name_here stands.said view.loaded from place d at ∙ ap (λ (n : List ℕ). Some n) (same_name stands.said view.loaded from place d at ∙ named) in

@@ -9,7 +9,7 @@ ghost use Rattle.project_store.specs.Loaded.{IsLoadedFrom};
 ghost use Rattle.project_versions.specs.Rebuilt.{name_at};
 
 use fsm_base::Text;
-use project_model::Definition;
+use project_definitions::Definition;
 use project_store::Project;
 use std::alloc::{AllocError, Global};
 use touched_names::{Stand, touched};

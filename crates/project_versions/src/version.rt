@@ -37,6 +37,7 @@ pub struct Version {
 impl Model for Version {
     ghost use Rattle.regex_ast.specs.contracts.expr.Atom as atom;
     ghost use Rattle.regex_ast.specs.contracts.expr.Expr as expr;
+    ghost use Rattle.regex_ast.specs.contracts.twolc.PairPart as part;
     ghost use Rattle.std.specs.Prelude.{map};
     ghost use Rattle.std.specs.Coded.{codes};
     ghost use Rattle.project_versions.specs.Networks.{net_of};
@@ -44,7 +45,7 @@ impl Model for Version {
 
     ghost Value = { VersionView };
 
-    ghost coded = { Prim.hlevel (codes, (expr.the_row atom.the_row).coded) };
+    ghost coded = { Prim.hlevel (codes, (expr.the_row atom.the_row).coded, (expr.the_row (part.the_row atom.the_row)).coded) };
 
     ghost view = { λ v. record { number = v.number; files = v.sources; loaded = v.project; nets = map net_of v.networks.items } };
 

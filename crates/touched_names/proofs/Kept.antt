@@ -1,12 +1,12 @@
 -- A definition of the new project is one of the old project's exactly where the old definition at the place of its name has the same body
 -- by numbers.
-use Rattle.std.proofs.Common.{◌≡◌, ◌<◌, ◌≤◌, ◌⊎◌, ◌↔◌, ◌==◌, ◌||◌, ℕ, Bool, true, false, List, [], ◌∷◌, length, map, slice_get, Contains, All, IsTrue, Option, None, Some, is_some, inl, inr, refl, sym, ap, subst, ◌∙◌, arith}
+use Rattle.std.proofs.Common.{◌≡◌, ◌<◌, ◌≤◌, ◌⊎◌, ◌↔◌, ◌==◌, ◌||◌, ℕ, Bool, true, false, List, [], ◌∷◌, length, slice_get, Contains, All, IsTrue, Option, None, Some, is_some, inl, inr, refl, sym, ap, subst, ◌∙◌, arith}
 use Rattle.std.specs.List.{list_any, slice_index_or}
 use Rattle.std.specs.Option.{option_map}
 use Rattle.std.proofs.lemmas.Bool.Decides.{nat_tests}
 use Rattle.std.proofs.lemmas.List.{length-map}
 use Rattle.std.proofs.lemmas.List.Elements.{All-contains, All-contains_itself, All-head, All-tail}
-use Rattle.std.proofs.lemmas.Option.{get_or_from_slice_get, same_Some, slice_get-map, slice_get_within}
+use Rattle.std.proofs.lemmas.Option.{get_or_from_slice_get, slice_get-map, slice_get_within}
 use Rattle.word_relations.specs.Words.{IsDistinct}
 use Rattle.word_relations.proofs.Members.{Contains-map, Contains-map_cases}
 use Rattle.word_relations.proofs.Places.{Contains-from_slice_get, slice_get_from_Contains, same_at}
@@ -16,7 +16,6 @@ use Rattle.fsm_base.specs.declared.letters.Sym.{Sym as Symbol}
 use Rattle.regex_ast.specs.declared.expr.Atom.{Atom}
 use Rattle.regex_ast.specs.declared.expr.Atom.TheVariants.{Sym, Name}
 use Rattle.expr_kinds.specs.Atoms.{is_leaf_at, is_symbol_of}
-use Rattle.expr_kinds.specs.declared.form.Form.{Form}
 use Rattle.expr_equality.specs.Renumbered.{number_at, renumbered}
 use Rattle.expr_equality.specs.declared.renumbering.Renumbering.{Renumbering}
 use Rattle.project_meaning.specs.Leaves.{Leaf, symbol, named, resolved, body_uses_alphabet}
@@ -25,15 +24,16 @@ use Rattle.project_meaning.specs.Trees.{Body}
 use Rattle.project_sources.specs.Built.{BodyIsBuiltBy}
 use Rattle.project_sources.specs.Sources.{Said, project_in}
 use Rattle.name_resolution.specs.Numbered.{numbered}
-use Rattle.project_model.specs.Bodies.{mapped_body}
+use Rattle.project_definitions.specs.Bodies.{mapped_body}
 use Rattle.project_model.specs.Numbered.{numbers_in}
-use Rattle.project_model.specs.Plain.{body_of}
+use Rattle.project_definitions.specs.Plain.{body_of}
 use Rattle.project_model.specs.Plans.{IsSoundOver}
-use Rattle.project_model.specs.Stands.{Entry, entry_in, entry_of}
-use Rattle.project_model.specs.declared.definition.Definition.{Definition}
-use Rattle.project_model.proofs.Alphabets.{at_number, number_within, numbers_held, symbols_of-listed}
-use Rattle.project_model.proofs.Expressions.{names_said}
-use Rattle.project_model.proofs.Referring.{at_map}
+use Rattle.project_definitions.specs.Entries.{Entry, entry_in, entry_of}
+use Rattle.project_definitions.specs.declared.definition.Definition.{Definition}
+use Rattle.project_definitions.proofs.Numbers.{at_number}
+use Rattle.project_model.proofs.Alphabets.{numbers_held, symbols_of-listed}
+use Rattle.project_definitions.proofs.Expressions.{names_said}
+use Rattle.project_definitions.proofs.Referring.{at_map}
 use Rattle.touched_names.specs.Bodies.{uses_symbols}
 use Rattle.touched_names.specs.Itself.{AreNumbers, IsKept, names_in, number_there, places_among}
 use Rattle.touched_names.specs.Touched.{StandFor}

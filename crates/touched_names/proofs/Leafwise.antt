@@ -1,8 +1,7 @@
 -- Bodies whose leaves are replaced: by two replacements one after the other, by two that agree on their leaves, and by one that leaves
--- each as it is. Grammars aren't compiled, so none is among them.
-use Rattle.std.proofs.Common.{◌≡◌, ◌↔◌, ◌||◌, Bool, List, [], ◌∷◌, map, All, IfOk, IsTrue, Result, Ok, Err, refl, sym, ap, subst, ◌∙◌}
+-- each as it is.
+use Rattle.std.proofs.Common.{◌≡◌, ◌↔◌, ◌||◌, Bool, List, [], ◌∷◌, map, IfOk, IsTrue, Result, Ok, Err, refl, sym, ap, subst, ◌∙◌}
 use Rattle.std.specs.List.{list_any}
-use Rattle.std.proofs.lemmas.List.Elements.{All-nil, All-cons, All-head, All-tail}
 use Rattle.expr_leaves.specs.Alphabet.{uses_alphabet}
 use Rattle.expr_leaves.specs.Mapped.{mapped}
 use Rattle.expr_equality.proofs.Alike.{alike, same}
@@ -17,33 +16,16 @@ use Rattle.lexicon_resolution.specs.Plain.{lexicon_of}
 use Rattle.name_resolution.proofs.Mapped.{mapped_twice}
 use Rattle.project_meaning.specs.Leaves.{expressions_of}
 use Rattle.project_meaning.specs.Lexicons.{piece_by}
-use Rattle.project_meaning.specs.Trees.{Piece, letter, flag, Form, sides, pairs, Entry, Lexicon, Body, xfst, lexc, twolc}
+use Rattle.project_meaning.specs.Trees.{Piece, letter, flag, Form, sides, pairs, Entry, Lexicon, Grammar, Body, xfst, lexc, twolc}
 use Rattle.project_sources.specs.Built.{PieceIsBuiltBy, FormIsBuiltBy, LexiconIsBuiltBy, BodyIsBuiltBy}
 use Rattle.lexicon_spelling.specs.Mapped.{mapped_form, mapped_entry, mapped_lexicon}
-use Rattle.project_model.specs.Bodies.{mapped_body}
-use Rattle.project_model.proofs.Bodies.{expressions_mapped}
-use Rattle.project_model.proofs.Mapped.{mapped_built}
+use Rattle.grammar_pairs.specs.Mapped.{mapped_grammar}
+use Rattle.project_definitions.specs.Bodies.{mapped_body}
+use Rattle.project_definitions.proofs.Bodies.{expressions_mapped}
+use Rattle.project_definitions.proofs.Mapped.{mapped_built}
 use Rattle.touched_names.specs.Bodies.{uses_symbols}
-
--- item by item
-each : {X Y : Type 0} (f g : X → Y) (P : X → Type 0) → ((x : X) → P x → f x ≡ g x) → (xs : List X) → All P xs → map f xs ≡ map g xs
-each f g P agree [] all = refl
-each f g P agree (x ∷ xs) all =
-    let first = agree x (All-head P x xs all) in
-    let rest = each f g P agree xs (All-tail P x xs all) in
-    λ i. first i ∷ rest i
-
-each_twice : {X Y Z : Type 0} (g : Y → Z) (f : X → Y) (h : X → Z) → ((x : X) → g (f x) ≡ h x) → (xs : List X) → map g (map f xs) ≡ map h xs
-each_twice g f h agree [] = refl
-each_twice g f h agree (x ∷ xs) = let first = agree x in let rest = each_twice g f h agree xs in λ i. first i ∷ rest i
-
-each_same : {X : Type 0} (f : X → X) → ((x : X) → f x ≡ x) → (xs : List X) → map f xs ≡ xs
-each_same f agree [] = refl
-each_same f agree (x ∷ xs) = let first = agree x in let rest = each_same f agree xs in λ i. first i ∷ rest i
-
-all_under : {X Y : Type 0} (f : X → Y) (P : Y → Type 0) (Q : X → Type 0) → ((x : X) → P (f x) → Q x) → (xs : List X) → All P (map f xs) → All Q xs
-all_under f P Q from [] all = All-nil Q
-all_under f P Q from (x ∷ xs) all = All-cons Q x xs (from x (All-head P (f x) (map f xs) all)) (all_under f P Q from xs (All-tail P (f x) (map f xs) all))
+use Rattle.touched_names.proofs.Each.{all_under, each, each_same, each_twice}
+use Rattle.touched_names.proofs.Grammars.{grammar_alike, grammar_same, grammar_twice, grammar_under}
 
 -- one after the other
 module _ {A B C : Type 0} (g : B → C) (f : A → B) where
@@ -70,7 +52,7 @@ module _ {A B C : Type 0} (g : B → C) (f : A → B) where
   pub body_twice : (b : Body A) → mapped_body g (mapped_body f b) ≡ mapped_body joint b
   body_twice (xfst e) = ap xfst (mapped_twice g f e)
   body_twice (lexc lexicons) = ap lexc (each_twice (mapped_lexicon g g) (mapped_lexicon f f) (mapped_lexicon joint joint) lexicon_twice lexicons)
-  body_twice (twolc grammar) = refl
+  body_twice (twolc grammar) = ap twolc (grammar_twice g f grammar)
 
 -- by two that agree
 module _ {A B : Type 0} (leaf other : A → Bool) (f g : A → B) (on_leaf : (a : A) → IsTrue (leaf a) → f a ≡ g a) (on_other : (a : A) → IsTrue (other a) → f a ≡ g a) where
@@ -96,7 +78,7 @@ module _ {A B : Type 0} (leaf other : A → Bool) (f g : A → B) (on_leaf : (a 
   pub body_alike : (b : Body A) → BodyIsBuiltBy leaf other b → mapped_body f b ≡ mapped_body g b
   body_alike (xfst e) h = ap xfst (alike leaf other f g on_leaf on_other e h)
   body_alike (lexc lexicons) h = ap lexc (each (mapped_lexicon f f) (mapped_lexicon g g) (LexiconIsBuiltBy leaf other) lexicon_alike lexicons h)
-  body_alike (twolc grammar) h = absurd h
+  body_alike (twolc grammar) h = ap twolc (grammar_alike other f g on_other grammar h)
 
 -- by one that leaves each as it is
 module _ {A : Type 0} where
@@ -123,7 +105,7 @@ module _ {A : Type 0} where
   pub body_same : (leaf other : A → Bool) (b : Body A) → BodyIsBuiltBy leaf other b → mapped_body id b ≡ b
   body_same leaf other (xfst e) h = ap xfst (same e)
   body_same leaf other (lexc lexicons) h = ap lexc (each_same (mapped_lexicon id id) lexicon_same lexicons)
-  body_same leaf other (twolc grammar) h = absurd h
+  body_same leaf other (twolc grammar) h = ap twolc (grammar_same grammar)
 
 -- the leaves of a body are such as they become
 module _ {A B : Type 0} (leaf other : B → Bool) (f : A → B) where
@@ -146,7 +128,7 @@ module _ {A B : Type 0} (leaf other : B → Bool) (f : A → B) where
   pub body_under : (b : Body A) → BodyIsBuiltBy leaf other (mapped_body f b) → BodyIsBuiltBy (λ a. leaf (f a)) (λ a. other (f a)) b
   body_under (xfst e) h = subst (λ (T : Type 0). T) (mapped_built leaf other f e) h
   body_under (lexc lexicons) h = all_under (mapped_lexicon f f) (LexiconIsBuiltBy leaf other) (LexiconIsBuiltBy (λ a. leaf (f a)) (λ a. other (f a))) lexicon_under lexicons h
-  body_under (twolc grammar) h = absurd h
+  body_under (twolc grammar) h = grammar_under other f grammar h
 
 -- whether a body uses the alphabet doesn't turn on its leaves
 any_mapped : {X Y : Type 0} (f : X → Y) (p : Y → Bool) (q : X → Bool) → ((x : X) → p (f x) ≡ q x) → (xs : List X) → list_any p (map f xs) ≡ list_any q xs
@@ -173,6 +155,20 @@ lexc_same numbers other body os ls other_is body_is r told = (
     moved =
         ap (mapped_body (renumbered numbers)) body_is
         ∙ ap lexc (each_twice (mapped_lexicon (renumbered numbers) (renumbered numbers)) lexicon_of (renumbered_lexicon numbers) (λ l. refl) ls)
+
+-- grammars that are compared
+pub twolc_same : (numbers : Renumbering) (other body : Body Atom) (o g : Grammar Atom) → other ≡ twolc o → body ≡ twolc g
+    → (r : Bool) → (IsTrue r ↔ (o ≡ mapped_grammar (renumbered numbers) g)) → IsTrue r ↔ (other ≡ mapped_body (renumbered numbers) body)
+twolc_same numbers other body o g other_is body_is r told = (
+  λ yes. other_is ∙ ap twolc (told.0 yes) ∙ sym moved,
+  λ is.
+      let both : twolc o ≡ twolc (mapped_grammar (renumbered numbers) g) = sym other_is ∙ is ∙ moved in
+      let grammars : o ≡ mapped_grammar (renumbered numbers) g = cc in
+      told.1 grammars,
+)
+  where
+    moved : mapped_body (renumbered numbers) body ≡ twolc (mapped_grammar (renumbered numbers) g)
+    moved = ap (mapped_body (renumbered numbers)) body_is
 
 -- what is said of a result is said of another one, where it follows
 pub ok_follows : {X E : Type 0} (result : Result X E) (P Q : X → Type 0) → ((x : X) → P x → Q x) → IfOk result P → IfOk result Q

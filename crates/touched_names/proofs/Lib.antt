@@ -1,4 +1,6 @@
+pub mod Each
 pub mod Found
+pub mod Grammars
 pub mod Kept
 pub mod Leafwise
 pub mod Marked

@@ -2,7 +2,7 @@
 use Rattle.std.proofs.Common.{◌≡◌, ◌<◌, ◌↔◌, ◌+◌, ◌++◌, ◌⊎◌, [], ◌∷◌, ℕ, zero, suc, Bool, true, List, IsTrue, Some, length, length-append, slice_get, inl, inr, refl, sym, ap, subst, ◌∙◌, arith}
 use Rattle.std.proofs.lemmas.Option.{same_Some}
 use Rattle.word_relations.proofs.Places.{slice_get-push, slice_get-append_left}
-use Rattle.project_model.specs.declared.definition.Definition.{Definition}
+use Rattle.project_definitions.specs.declared.definition.Definition.{Definition}
 use Rattle.touched_names.specs.Places.{IsMarked}
 
 below_or_at : (n k : ℕ) → n < k + 1 → (n < k) ⊎ (n ≡ k)

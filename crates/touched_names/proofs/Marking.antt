@@ -1,6 +1,6 @@
 -- Marks along an order in which each place stands behind those that it refers to.
-use Rattle.std.proofs.Common.{◌≡◌, ◌≢◌, ◌↔◌, ℕ, zero, suc, ◌+◌, ◌<◌, ◌≤◌, Bool, true, false, List, [], ◌∷◌, ◌++◌, length, take, set, get_or, slice_get, AllPairs, Contains, Option, Some, ◌⊎◌, inl, inr, refl, sym, ap, subst, ◌∙◌, arith}
-use Rattle.std.proofs.lemmas.Option.{slice_get-get_or, slice_get-map, slice_get_within}
+use Rattle.std.proofs.Common.{◌≡◌, ◌≢◌, ◌↔◌, ℕ, ◌+◌, ◌<◌, ◌≤◌, Bool, true, false, List, [], ◌∷◌, ◌++◌, length, take, set, get_or, slice_get, AllPairs, Contains, Some, ◌⊎◌, inl, inr, sym, ap, subst, ◌∙◌, arith}
+use Rattle.std.proofs.lemmas.Option.{slice_get-map, slice_get_within}
 use Rattle.std.proofs.lemmas.List.Elements.{Contains-append_left, Contains-push, Contains-push_cases, Contains-get_or}
 use Rattle.word_relations.proofs.Members.{Contains-nil_cases}
 use Rattle.std.proofs.lemmas.Bool.{cases_lt}
@@ -8,10 +8,9 @@ use Rattle.std.proofs.lemmas.List.Quantifiers.{all_pairs_push}
 use Rattle.word_relations.proofs.Places.{Contains-from_slice_get, slice_get_from_Contains, slice_get-set_same, slice_get-set_other, same_at}
 use Rattle.std.proofs.lemmas.List.{length-map}
 use Rattle.std.specs.Option.{option_map}
-use Rattle.name_order.specs.Graph.{Refers}
-use Rattle.project_model.specs.Plain.{body_of}
-use Rattle.project_model.specs.Referring.{body_places, references_of}
-use Rattle.project_model.specs.declared.definition.Definition.{Definition}
+use Rattle.project_definitions.specs.Plain.{body_of}
+use Rattle.project_definitions.specs.Referring.{body_places, references_of}
+use Rattle.project_definitions.specs.declared.definition.Definition.{Definition}
 use Rattle.name_order.specs.Orders.{IsOrder}
 use Rattle.touched_names.proofs.Numbers.{front_place}
 use Rattle.touched_names.specs.Places.{AreMarked, ArePlaces, HasMarked, IsMarked, TouchedPlace, by_itself, by_reference}

@@ -1,14 +1,14 @@
 -- The numbers of texts in distinct lists.
-use Rattle.std.proofs.Common.{◌≡◌, ◌≢◌, ◌<◌, ◌↔◌, ◌+◌, ◌==◌, ◌++◌, ℕ, zero, suc, Bool, true, false, cond, List, [], ◌∷◌, length, take, map, get_or, slice_get, All, Contains, Some, inl, inr, refl, sym, ap, subst, ◌∙◌, arith}
+use Rattle.std.proofs.Common.{◌≡◌, ◌≢◌, ◌<◌, ◌↔◌, ◌+◌, ◌==◌, ℕ, zero, suc, Bool, true, false, cond, List, [], ◌∷◌, length, take, get_or, slice_get, All, Contains, Some, inl, inr, sym, ap, subst, ◌∙◌, arith}
 use Rattle.std.proofs.lemmas.List.Elements.{All-contains, All-contains_itself, All-map, All-weaker, Contains-get_or}
 use Rattle.std.proofs.lemmas.List.Sums.{passes_at_first}
-use Rattle.std.proofs.lemmas.Option.{slice_get-map, get_or_from_slice_get, slice_get_read, same_Some}
+use Rattle.std.proofs.lemmas.Option.{slice_get-map, get_or_from_slice_get, same_Some}
 use Rattle.std.proofs.lemmas.Bool.Decides.{nat_tests}
 use Rattle.std.proofs.lemmas.Slice.Eq.{bytes_eq-Decides}
 use Rattle.std.specs.Option.{option_map}
 use Rattle.std.specs.List.{list_any}
 use Rattle.std.specs.Str.{bytes_eq}
-use Rattle.fsm_base.specs.Alphabet.{IsAlphabet, symbols_of, text_of, texts_of}
+use Rattle.fsm_base.specs.Alphabet.{symbols_of, text_of, texts_of}
 use Rattle.fsm_base.specs.Symbols.{number_of, with_text}
 use Rattle.fsm_base.specs.declared.letters.Sym.{Sym}
 use Rattle.word_relations.specs.Words.{IsDistinct}
@@ -16,7 +16,8 @@ use Rattle.word_relations.proofs.Members.{Contains-map}
 use Rattle.word_relations.proofs.Places.{Contains-from_slice_get, slice_get_from_Contains, take_more-slice_get}
 use Rattle.name_resolution.proofs.Texts.{has_from_any, with_text-new}
 use Rattle.expr_equality.specs.Renumbered.{number_at}
-use Rattle.project_model.proofs.Alphabets.{at_number, cases_bool, number_within}
+use Rattle.project_definitions.proofs.Numbers.{at_number, number_within}
+use Rattle.project_model.proofs.Alphabets.{cases_bool}
 use Rattle.project_meaning.specs.Touched.{AreSameSymbols}
 use Rattle.touched_names.specs.Itself.{places_among}
 

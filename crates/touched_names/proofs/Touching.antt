@@ -1,5 +1,5 @@
 -- The touched places are those of the touched names.
-use Rattle.std.proofs.Common.{◌≡◌, ◌<◌, ◌↔◌, ◌++◌, ◌⊎◌, ℕ, zero, suc, Bool, true, List, [], ◌∷◌, length, map, slice_get, Contains, IsTrue, Some, inl, inr, refl, sym, ap, subst, ◌∙◌, arith}
+use Rattle.std.proofs.Common.{◌≡◌, ◌<◌, ◌↔◌, ◌++◌, ℕ, zero, suc, Bool, true, List, [], ◌∷◌, length, slice_get, Contains, IsTrue, Some, inl, inr, refl, sym, ap, subst, ◌∙◌, arith}
 use Rattle.std.specs.List.{flat_map}
 use Rattle.std.proofs.lemmas.Option.{slice_get_within}
 use Rattle.word_relations.proofs.Members.{Contains-map, Contains-map_cases}
@@ -8,20 +8,20 @@ use Rattle.fsm_base.specs.Alphabet.{texts_of}
 use Rattle.fsm_base.specs.Symbols.{number_of}
 use Rattle.fsm_base.specs.declared.letters.Sym.{Sym as Symbol}
 use Rattle.expr_equality.specs.declared.renumbering.Renumbering.{Renumbering}
-use Rattle.name_order.specs.Graph.{Refers as Leads}
 use Rattle.project_manifest.specs.Lines.{symbols_of}
-use Rattle.project_meaning.specs.Leaves.{body_uses_alphabet, names_in as names_within, symbols_in}
-use Rattle.project_meaning.specs.Projects.{Definition as Meant, Project, Refers, Written, definition_in, names_of}
+use Rattle.project_meaning.specs.Leaves.{body_uses_alphabet, symbols_in}
+use Rattle.project_meaning.specs.Projects.{Definition as Meant, Project, Written, definition_in, names_of}
 use Rattle.project_meaning.specs.Touched.{AreSameSymbols, Touched, changed, by_alphabet, by_name}
 use Rattle.project_sources.specs.Sources.{Said, project_in}
-use Rattle.project_model.specs.Forms.{AreDefined}
-use Rattle.project_model.specs.Plain.{body_of}
-use Rattle.project_model.specs.Referring.{body_places, references_of}
-use Rattle.project_model.specs.Stands.{Entry, entry_in, entry_of}
-use Rattle.project_model.specs.declared.definition.Definition.{Definition}
-use Rattle.project_model.proofs.Alphabets.{at_number, put}
-use Rattle.project_model.proofs.Built.{All-front}
-use Rattle.project_model.proofs.Referring.{at_map, from_graph, to_graph}
+use Rattle.project_definitions.specs.Forms.{AreDefined}
+use Rattle.project_definitions.specs.Plain.{body_of}
+use Rattle.project_definitions.specs.Referring.{body_places, references_of}
+use Rattle.project_definitions.specs.Entries.{Entry, entry_in, entry_of}
+use Rattle.project_definitions.specs.declared.definition.Definition.{Definition}
+use Rattle.project_definitions.proofs.Numbers.{at_number}
+use Rattle.project_model.proofs.Alphabets.{put}
+use Rattle.project_definitions.proofs.Built.{All-front}
+use Rattle.project_definitions.proofs.Referring.{at_map, from_graph, to_graph}
 use Rattle.touched_names.specs.Itself.{AreNumbers, IsTouchedItself, number_there}
 use Rattle.touched_names.specs.Places.{ArePlaces, IsMarked, TouchedPlace, by_itself, by_reference}
 use Rattle.touched_names.specs.Touched.{AreTouched, IsNamedAt, IsTouchedAt, StandFor}

@@ -4,9 +4,9 @@ use Rattle.fsm_base.specs.Symbols.{number_of}
 use Rattle.expr_equality.specs.Renumbered.{number_at, renumbered}
 use Rattle.expr_equality.specs.declared.renumbering.Renumbering.{Renumbering}
 use Rattle.word_relations.specs.Words.{IsDistinct}
-use Rattle.project_model.specs.Bodies.{mapped_body}
-use Rattle.project_model.specs.Plain.{body_of}
-use Rattle.project_model.specs.declared.definition.Definition.{Definition}
+use Rattle.project_definitions.specs.Bodies.{mapped_body}
+use Rattle.project_definitions.specs.Plain.{body_of}
+use Rattle.project_definitions.specs.declared.definition.Definition.{Definition}
 use Rattle.touched_names.specs.Bodies.{uses_symbols}
 
 abbrev pub names_in : List Definition → List (List ℕ)

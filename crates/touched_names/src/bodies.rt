@@ -5,17 +5,18 @@ ghost use Rattle.expr_leaves.specs.Alphabet.{uses_alphabet};
 ghost use Rattle.expr_leaves.specs.Leaves.{seen};
 ghost use Rattle.expr_equality.specs.Renumbered.{renumbered};
 ghost use Rattle.lexicon_resolution.specs.Places.{terms_behind};
-ghost use Rattle.project_model.specs.Bodies.{mapped_body};
-ghost use Rattle.project_model.specs.Plain.{body_of};
-ghost use Rattle.project_model.specs.Referring.{body_places, place_in, places_in};
+ghost use Rattle.project_definitions.specs.Bodies.{mapped_body};
+ghost use Rattle.project_definitions.specs.Plain.{body_of};
+ghost use Rattle.project_definitions.specs.Referring.{body_places, place_in, places_in};
 ghost use Rattle.touched_names.specs.Bodies.{uses_symbols};
 ghost use Rattle.touched_names.specs.Places.{HasMarked, IsMarked};
 
 use expr_equality::{Renumbering, same_expr};
 use expr_leaves::{leaves, uses_alphabet};
+use grammar_equality::same_grammar;
 use lexicon_equality::same_lexicons;
 use lexicon_resolution::expressions;
-use project_model::Body;
+use project_definitions::Body;
 use regex_ast::{Atom, Expr};
 use std::alloc::{AllocError, Global};
 
@@ -33,6 +34,7 @@ pub(crate) fn same_body(
         (Body::Lexc(others), Body::Lexc(lexicons)) => same_lexicons(
             alloc, others, lexicons, numbers,
         ),
+        (Body::Twolc(other), Body::Twolc(grammar)) => same_grammar(alloc, other, grammar, numbers),
         _ => Ok(false),
     }
 }
@@ -49,13 +51,14 @@ fn one_uses(exprs: &[&Expr<Atom>]) -> bool
     false
 }
 
-/// Whether an expression of a body uses the alphabet.
+/// Whether an expression of a body uses the alphabet: a grammar reads its own symbols alone.
 pub(crate) fn body_uses(alloc: Global, body: &Body<Atom>) -> Result<bool, AllocError>
     ensures { IfOk result (λ uses. uses ≡ uses_symbols (body_of body.now)) }
 {
     match body {
         Body::Xfst(expr) => Ok(uses_alphabet(expr)),
         Body::Lexc(lexicons) => Ok(one_uses(&expressions(alloc, lexicons)?)),
+        Body::Twolc(_) => Ok(false),
     }
 }
 
@@ -103,7 +106,7 @@ fn one_refers(alloc: Global, exprs: &[&Expr<Atom>], marks: &[bool]) -> Result<bo
     Ok(false)
 }
 
-/// Whether a body refers to a marked place.
+/// Whether a body refers to a marked place: a grammar has no names.
 pub(crate) fn refers_to_marked(
     alloc: Global,
     body: &Body<Atom>,
@@ -114,5 +117,6 @@ pub(crate) fn refers_to_marked(
     match body {
         Body::Xfst(expr) => expr_refers(alloc, expr, marks),
         Body::Lexc(lexicons) => one_refers(alloc, &expressions(alloc, lexicons)?, marks),
+        Body::Twolc(_) => Ok(false),
     }
 }

@@ -2,8 +2,8 @@ ghost use Rattle.std.specs.Prelude.{◌≡◌, ◌↔◌, IfOk, IsTrue, Some, le
 ghost use Rattle.fsm_base.specs.Alphabet.{texts_of};
 ghost use Rattle.name_order.specs.Orders.{IsOrder};
 ghost use Rattle.project_meaning.specs.Touched.{AreSameSymbols};
-ghost use Rattle.project_model.specs.Referring.{references_of};
-ghost use Rattle.project_model.specs.declared.definition.Definition.{Definition};
+ghost use Rattle.project_definitions.specs.Referring.{references_of};
+ghost use Rattle.project_definitions.specs.declared.definition.Definition.{Definition};
 ghost use Rattle.project_sources.specs.Sources.{Said, project_in};
 ghost use Rattle.word_relations.specs.Words.{IsDistinct};
 ghost use Rattle.touched_names.specs.Itself.{AreNumbers, IsKept, IsTouchedItself, number_there};
@@ -16,7 +16,7 @@ use crate::stand::Stand;
 use crate::texts::{are_below, names_in, places_among, texts_in};
 use expr_equality::Renumbering;
 use fsm_base::Text;
-use project_model::Definition;
+use project_definitions::Definition;
 use std::alloc::{AllocError, Global};
 
 /// Whether texts, each of which stands once in its list, are the same in another order.

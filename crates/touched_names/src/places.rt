@@ -1,11 +1,11 @@
 ghost use Rattle.std.specs.Prelude.{◌≡◌, ◌↔◌, ◌⊎◌, IfOk, IsTrue, length};
 ghost use Rattle.name_order.specs.Orders.{IsOrder};
-ghost use Rattle.project_model.specs.Plain.{body_of};
-ghost use Rattle.project_model.specs.Referring.{body_places, references_of};
+ghost use Rattle.project_definitions.specs.Plain.{body_of};
+ghost use Rattle.project_definitions.specs.Referring.{body_places, references_of};
 ghost use Rattle.touched_names.specs.Places.{AreMarked, ArePlaces, HasMarked, IsMarked, TouchedPlace};
 
 use crate::bodies::refers_to_marked;
-use project_model::Definition;
+use project_definitions::Definition;
 use std::alloc::{AllocError, Global};
 
 /// Whether a definition is touched by itself, or refers to a marked place.

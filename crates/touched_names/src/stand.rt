@@ -1,5 +1,5 @@
 use fsm_base::Alphabet;
-use project_model::Definition;
+use project_definitions::Definition;
 
 /// Definitions of a project, their leaves over the numbers of its alphabet.
 #[derive(Clone, Copy)]

@@ -6,7 +6,7 @@ ghost use Rattle.word_relations.specs.Words.{IsDistinct};
 
 use fsm_base::{Alphabet, Text};
 use indexmap::IndexSet;
-use project_model::Definition;
+use project_definitions::Definition;
 use std::alloc::{AllocError, Global};
 use std::marker::Model;
 

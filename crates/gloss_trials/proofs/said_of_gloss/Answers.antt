@@ -1,5 +1,5 @@
 use Rattle.std.proofs.Common.{arith}
-use Rattle.gloss_trials.proofs.Pieces.{few_lines}
+use Rattle.interlinear.proofs.Pieces.{few_lines}
 use Rattle.gloss_trials.proofs.said_of_gloss.Goals as goal
 
 pub read-requires : goal.read-requires

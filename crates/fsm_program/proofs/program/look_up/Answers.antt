@@ -21,7 +21,7 @@ returns-in-Err-clause-ends g c = ends_unloaded _ (for_look _) tt _ _ _ c.in-Err.
 
 pub returns-in-Ok-of-clause-ends : goal.returns-in-Ok-of-clause-ends
 returns-in-Ok-of-clause-ends g c =
-    ends_answered _ _ _ _ _ c.in-Ok-load.ready c.in-Ok-of.network.name c.in-Ok-load.ensures.loaded c.in-Ok-of.ensures.name
+    ends_answered _ _ _ _ _ c.in-Ok-load.ready c.in-Ok-of.network.name c.in-Ok-of.network.glosses c.in-Ok-load.ensures.loaded c.in-Ok-of.ensures.name c.in-Ok-of.ensures.glosses
     (λ said from. c.answered.ensures.answered (project_in said) (c.in-Ok-of.ensures.shows said from))
 
 pub returns-in-Ok-of-clause-unread : goal.returns-in-Ok-of-clause-unread

@@ -1,4 +1,4 @@
-use Rattle.fsm_program.proofs.Endings.{answer, check, completes, fault_cause, help, refusal, serve, spent_cause, unsaid, usage_cause}
+use Rattle.fsm_program.proofs.Endings.{check, completes, fault_cause, gloss, help, look, refusal, serve, spent_cause, unsaid, usage_cause}
 use Rattle.fsm_program.proofs.program.run.Goals as goal
 
 pub returns-clause-usage : goal.returns-clause-usage
@@ -20,7 +20,10 @@ pub returns-clause-checked : goal.returns-clause-checked
 returns-clause-checked g c = check c.ended.ensures.ends
 
 pub returns-clause-answered : goal.returns-clause-answered
-returns-clause-answered g c = answer c.ended.ensures.ends
+returns-clause-answered g c = look c.ended.ensures.ends
+
+pub returns-clause-glossed : goal.returns-clause-glossed
+returns-clause-glossed g c = gloss c.ended.ensures.ends
 
 pub returns-clause-served : goal.returns-clause-served
 returns-clause-served g c = serve c.ended.ensures.ends

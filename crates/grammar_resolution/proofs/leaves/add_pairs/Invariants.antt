@@ -3,7 +3,7 @@ use Rattle.std.specs.List.{flat_map}
 use Rattle.expr_leaves.specs.Leaves.{seen}
 use Rattle.grammar_resolution.proofs.leaves.add_pairs.Given as goal
 use Rattle.grammar_resolution.specs.Leaves.{leaves_in_pair}
-use Rattle.grammar_resolution.specs.Plain.{pair_of}
+use Rattle.grammar_pairs.specs.Plain.{pair_of}
 
 -- what was found, and what is in the other items
 abbrev pub invariant-pairs : goal.invariant-pairs

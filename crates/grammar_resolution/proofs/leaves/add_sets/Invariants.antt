@@ -2,7 +2,7 @@ use Rattle.std.proofs.Common.{◌≡◌, ◌++◌, drop, map}
 use Rattle.std.specs.List.{flat_map}
 use Rattle.expr_leaves.specs.Leaves.{seen}
 use Rattle.grammar_resolution.proofs.leaves.add_sets.Given as goal
-use Rattle.grammar_resolution.specs.Plain.{set_of}
+use Rattle.grammar_pairs.specs.Plain.{set_of}
 
 -- what was found, and what is in the other items
 abbrev pub invariant-sets : goal.invariant-sets

@@ -4,7 +4,7 @@ use Rattle.expr_leaves.specs.Leaves.{listed, listed_contexts}
 use Rattle.expr_leaves.specs.Mapped.{mapped, mapped_contexts}
 use Rattle.grammar_resolution.proofs.pairs.add_contexts.Goals as goal
 use Rattle.grammar_resolution.specs.Leaves.{pairs_behind, pairs_in_part}
-use Rattle.grammar_resolution.specs.Plain.{part_of}
+use Rattle.grammar_pairs.specs.Plain.{part_of}
 use Rattle.regex_ast.specs.Terms.{contexts_of, term}
 use Rattle.word_relations.proofs.Behind.{left_behind}
 

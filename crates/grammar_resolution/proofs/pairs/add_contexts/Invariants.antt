@@ -3,7 +3,7 @@ use Rattle.expr_leaves.specs.Leaves.{listed_contexts}
 use Rattle.expr_leaves.specs.Mapped.{mapped_contexts}
 use Rattle.grammar_resolution.proofs.pairs.add_contexts.Given as goal
 use Rattle.grammar_resolution.specs.Leaves.{pairs_behind, pairs_in_part}
-use Rattle.grammar_resolution.specs.Plain.{part_of}
+use Rattle.grammar_pairs.specs.Plain.{part_of}
 use Rattle.regex_ast.specs.Terms.{contexts_of}
 
 -- what was found, and what is in the other items

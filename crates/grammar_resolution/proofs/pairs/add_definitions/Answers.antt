@@ -3,7 +3,7 @@ use Rattle.std.specs.List.{flat_map}
 use Rattle.expr_leaves.proofs.Behind.{go_on}
 use Rattle.grammar_resolution.proofs.pairs.add_definitions.Goals as goal
 use Rattle.grammar_resolution.specs.Leaves.{pairs_behind, pairs_in_definition}
-use Rattle.grammar_resolution.specs.Plain.{definition_of}
+use Rattle.grammar_pairs.specs.Plain.{definition_of}
 use Rattle.word_relations.proofs.Behind.{left_behind}
 
 pub definitions-preserved : goal.definitions-preserved

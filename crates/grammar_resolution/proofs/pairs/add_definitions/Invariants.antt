@@ -2,7 +2,7 @@ use Rattle.std.proofs.Common.{◌≡◌, ◌++◌, drop, map}
 use Rattle.std.specs.List.{flat_map}
 use Rattle.grammar_resolution.proofs.pairs.add_definitions.Given as goal
 use Rattle.grammar_resolution.specs.Leaves.{pairs_behind, pairs_in_definition}
-use Rattle.grammar_resolution.specs.Plain.{definition_of}
+use Rattle.grammar_pairs.specs.Plain.{definition_of}
 
 -- what was found, and what is in the other items
 abbrev pub invariant-definitions : goal.invariant-definitions

@@ -4,7 +4,7 @@ use Rattle.expr_leaves.specs.Leaves.{seen}
 use Rattle.grammar_resolution.proofs.Listing.{parts_listed}
 use Rattle.grammar_resolution.proofs.pairs.add_expression.Goals as goal
 use Rattle.grammar_resolution.specs.Leaves.{pairs_behind, pairs_in_part}
-use Rattle.grammar_resolution.specs.Plain.{part_of}
+use Rattle.grammar_pairs.specs.Plain.{part_of}
 use Rattle.regex_ast.specs.Terms.{term}
 
 pub returns : goal.returns

@@ -3,7 +3,7 @@ use Rattle.std.specs.List.{flat_map}
 use Rattle.expr_leaves.specs.Leaves.{seen}
 use Rattle.grammar_resolution.proofs.pairs.add_parts.Given as goal
 use Rattle.grammar_resolution.specs.Leaves.{pairs_behind, pairs_in_part}
-use Rattle.grammar_resolution.specs.Plain.{part_of}
+use Rattle.grammar_pairs.specs.Plain.{part_of}
 
 -- what was found, and what is in the other items
 abbrev pub invariant-parts : goal.invariant-parts

@@ -5,7 +5,7 @@ use Rattle.expr_leaves.specs.Mapped.{mapped_contexts}
 use Rattle.grammar_resolution.proofs.Listing.{pushed}
 use Rattle.grammar_resolution.proofs.pairs.add_rule.Goals as goal
 use Rattle.grammar_resolution.specs.Leaves.{pairs_behind, pairs_in_part}
-use Rattle.grammar_resolution.specs.Plain.{pair_of, part_of}
+use Rattle.grammar_pairs.specs.Plain.{pair_of, part_of}
 use Rattle.regex_ast.specs.Terms.{contexts_of}
 
 pub returns : goal.returns

@@ -3,7 +3,7 @@ use Rattle.std.specs.List.{flat_map}
 use Rattle.expr_leaves.proofs.Behind.{go_on}
 use Rattle.grammar_resolution.proofs.pairs.add_rules.Goals as goal
 use Rattle.grammar_resolution.specs.Leaves.{pairs_behind, pairs_in_rule}
-use Rattle.grammar_resolution.specs.Plain.{rule_of}
+use Rattle.grammar_pairs.specs.Plain.{rule_of}
 use Rattle.word_relations.proofs.Behind.{left_behind}
 
 pub rules-preserved : goal.rules-preserved

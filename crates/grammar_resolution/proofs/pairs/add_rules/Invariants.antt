@@ -2,7 +2,7 @@ use Rattle.std.proofs.Common.{◌≡◌, ◌++◌, drop, map}
 use Rattle.std.specs.List.{flat_map}
 use Rattle.grammar_resolution.proofs.pairs.add_rules.Given as goal
 use Rattle.grammar_resolution.specs.Leaves.{pairs_behind, pairs_in_rule}
-use Rattle.grammar_resolution.specs.Plain.{rule_of}
+use Rattle.grammar_pairs.specs.Plain.{rule_of}
 
 -- what was found, and what is in the other items
 abbrev pub invariant-rules : goal.invariant-rules

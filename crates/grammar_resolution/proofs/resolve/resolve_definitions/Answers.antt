@@ -1,7 +1,7 @@
 use Rattle.std.proofs.Common.{arith}
 use Rattle.grammar_resolution.proofs.resolve.resolve_definitions.Goals as goal
-use Rattle.grammar_resolution.specs.Mapped.{mapped_definition}
-use Rattle.grammar_resolution.specs.Plain.{definition_of}
+use Rattle.grammar_pairs.specs.Mapped.{mapped_definition}
+use Rattle.grammar_pairs.specs.Plain.{definition_of}
 use Rattle.name_resolution.proofs.Rows.{row_more, twice_ended}
 use Rattle.name_resolution.specs.Resolved.{letter_of}
 

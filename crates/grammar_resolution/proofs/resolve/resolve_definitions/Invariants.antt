@@ -1,7 +1,7 @@
 use Rattle.std.proofs.Common.{◌≡◌, map, take}
 use Rattle.grammar_resolution.proofs.resolve.resolve_definitions.Given as goal
-use Rattle.grammar_resolution.specs.Mapped.{mapped_definition}
-use Rattle.grammar_resolution.specs.Plain.{definition_of}
+use Rattle.grammar_pairs.specs.Mapped.{mapped_definition}
+use Rattle.grammar_pairs.specs.Plain.{definition_of}
 use Rattle.name_resolution.specs.Resolved.{letter_of}
 
 -- those so far

@@ -1,8 +1,8 @@
 use Rattle.std.proofs.Common.{arith}
 use Rattle.grammar_resolution.proofs.Parts.{pair_made}
 use Rattle.grammar_resolution.proofs.resolve.resolve_pairs.Goals as goal
-use Rattle.grammar_resolution.specs.Mapped.{mapped_pair}
-use Rattle.grammar_resolution.specs.Plain.{pair_of}
+use Rattle.grammar_pairs.specs.Mapped.{mapped_pair}
+use Rattle.grammar_pairs.specs.Plain.{pair_of}
 use Rattle.name_resolution.proofs.Rows.{row_more, twice_ended}
 use Rattle.name_resolution.specs.Resolved.{letter_of}
 

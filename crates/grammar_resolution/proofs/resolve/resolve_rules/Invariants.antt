@@ -1,7 +1,8 @@
 use Rattle.std.proofs.Common.{◌≡◌, map, take}
 use Rattle.grammar_resolution.proofs.resolve.resolve_rules.Given as goal
-use Rattle.grammar_resolution.specs.Mapped.{mapped_rule}
-use Rattle.grammar_resolution.specs.Plain.{lines_of, rule_of}
+use Rattle.grammar_pairs.specs.Mapped.{mapped_rule}
+use Rattle.grammar_resolution.specs.Lines.{lines_of}
+use Rattle.grammar_pairs.specs.Plain.{rule_of}
 use Rattle.name_resolution.specs.Resolved.{letter_of}
 
 -- those so far

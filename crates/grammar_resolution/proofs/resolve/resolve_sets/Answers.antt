@@ -1,7 +1,7 @@
 use Rattle.std.proofs.Common.{arith}
 use Rattle.grammar_resolution.proofs.resolve.resolve_sets.Goals as goal
-use Rattle.grammar_resolution.specs.Mapped.{mapped_set}
-use Rattle.grammar_resolution.specs.Plain.{set_of}
+use Rattle.grammar_pairs.specs.Mapped.{mapped_set}
+use Rattle.grammar_pairs.specs.Plain.{set_of}
 use Rattle.name_resolution.proofs.Rows.{row_more, twice_ended}
 use Rattle.name_resolution.specs.Resolved.{letter_of}
 

@@ -1,5 +1,4 @@
-use Rattle.std.proofs.Common.{drop, List, [], sym, subst, append-nil, arith}
-use Rattle.lexc_forms.specs.Forms.{CutsInto, ended}
+use Rattle.std.proofs.Common.{List, sym, subst}
 use Rattle.lexc_forms.specs.declared.letters.Letter.{Letter}
 use Rattle.lexc_forms.proofs.Pieces.{SoFar, longest_taken, one_taken, text_behind, text_behind_one, all_taken}
 use Rattle.lexc_forms.proofs.cutting.cut.Goals as goal

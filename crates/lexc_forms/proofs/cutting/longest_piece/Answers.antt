@@ -1,4 +1,4 @@
-use Rattle.std.proofs.Common.{take, sym, subst}
+use Rattle.std.proofs.Common.{sym, subst}
 use Rattle.regex_ast.specs.declared.expr.Raw.{Raw}
 use Rattle.regex_ast.specs.declared.lexc.Piece.{Piece}
 use Rattle.lexc_forms.specs.Forms.{IsLongestPiece}

@@ -1,5 +1,5 @@
 use Rattle.std.proofs.Common.{inr}
-use Rattle.project_model.specs.Plain.{body_of}
+use Rattle.project_definitions.specs.Plain.{body_of}
 use Rattle.network_build.proofs.Sounds.{network_made, ready_over_alphabet}
 use Rattle.network_build.proofs.body.over_alphabet.Goals as goal
 
@@ -10,4 +10,4 @@ network_of_ready-requires-clause-ready c =
 pub returns : goal.returns
 returns c =
     let alphabet = c.args.alphabet.now in
-    network_made c.args.parts.now alphabet alphabet (body_of c.args.body.now) c.network_of_ready.result (λ s at. at) (λ s at. inr (c.requires.uses, at)) (λ u w. (λ r. r, λ r. r)) c.network_of_ready.ensures
+    network_made c.args.parts.now alphabet alphabet (body_of c.args.body.now) c.network_of_ready.result (λ s at. at) (λ s at. inr (c.requires.uses, at)) (λ R is. is) c.network_of_ready.ensures

@@ -1,5 +1,5 @@
 use Rattle.std.proofs.Common.{inl}
-use Rattle.project_model.specs.Plain.{body_of}
+use Rattle.project_definitions.specs.Plain.{body_of}
 use Rattle.network_build.proofs.Sounds.{AreOwn, body_free, ground_over_own, network_made, own_by_leaves, own_within, ready_over_own}
 use Rattle.network_build.proofs.body.over_own_symbols.Goals as goal
 

@@ -3,7 +3,7 @@ use Rattle.expr_kinds.specs.Atoms.{is_symbol_of}
 use Rattle.expr_kinds.specs.Built.{IsBuiltBy}
 use Rattle.network_centres.specs.Centres.{terms_seen}
 use Rattle.network_expr.specs.Parts.{is_leaf_of}
-use Rattle.project_model.specs.Plain.{body_of}
+use Rattle.project_definitions.specs.Plain.{body_of}
 use Rattle.network_build.proofs.Bodies.{expressions_built}
 use Rattle.network_build.proofs.network.network_if_filled.Goals as goal
 

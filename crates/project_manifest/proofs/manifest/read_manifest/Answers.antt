@@ -1,6 +1,6 @@
 use Rattle.std.proofs.Common.{List, ◌++◌, map, sym, ap, subst, ◌∙◌, arith}
 use Rattle.std.proofs.lemmas.List.{take_all}
-use Rattle.project_manifest.specs.Lines.{SayingsFault, files_in, line_in, line_rows_so_far, lines_in, placed_in}
+use Rattle.project_manifest.specs.Lines.{SayingsFault, files_in, line_in, line_rows, lines_in, placed_in}
 use Rattle.project_manifest.specs.Manifests.{Saying, statements_in}
 use Rattle.project_manifest.specs.Reading.{IsManifest}
 use Rattle.project_manifest.specs.Sayings.{HaveTexts, placed_of, saying_of}
@@ -50,4 +50,4 @@ returns-clause-lines c =
 pub returns-clause-faultless : goal.returns-clause-faultless
 returns-clause-faultless c found h =
     let all = ap (map saying_of) (take_all c.all.one-index c.deref-one-items.result.now (omega arith)) ∙ ap (map saying_of) c.deref-one-items.ensures.value ∙ c.in_ok-said.ensures ∙ ap statements_in c.as_bytes.ensures.value in
-    c.all.invariant.free found (subst (λ (z : List Saying). SayingsFault line_rows_so_far z found) (sym all) h)
+    c.all.invariant.free found (subst (λ (z : List Saying). SayingsFault line_rows z found) (sym all) h)

@@ -1,7 +1,7 @@
 use Rattle.std.proofs.Common.{subst}
 use Rattle.fsm_base.specs.Normal.{IsWhyNoText, source_text}
 use Rattle.project_sources.specs.Faults.{HasNoText}
-use Rattle.project_model.proofs.NameSteps.{refused_by}
+use Rattle.project_definitions.proofs.Steps.{refused_by}
 use Rattle.project_model.proofs.Reading.{text_controlled, text_no_utf8}
 use Rattle.project_model.proofs.content.no_text.Goals as goal
 

@@ -2,7 +2,7 @@ use Rattle.std.proofs.Common.{arith}
 use Rattle.regex_ast.specs.declared.fault.Why.TheVariants as why
 use Rattle.project_sources.specs.Faults.{fault, HasNoText}
 use Rattle.project_sources.specs.Limits.{most_bytes}
-use Rattle.project_model.proofs.NameSteps.{refused_by}
+use Rattle.project_definitions.proofs.Steps.{refused_by}
 use Rattle.project_model.proofs.Reading.{text_large}
 use Rattle.project_model.proofs.content.text_of_file.Goals as goal
 

@@ -1,6 +1,6 @@
 use Rattle.std.proofs.Common.{refl}
 use Rattle.project_sources.specs.Faults.{fault}
-use Rattle.project_model.proofs.NameSteps.{refused_by}
+use Rattle.project_definitions.proofs.Steps.{refused_by}
 use Rattle.project_model.proofs.Plain.{says_lexicons}
 use Rattle.project_model.proofs.Reading.{newlines_short}
 use Rattle.project_model.proofs.files.lexicons_in.Goals as goal

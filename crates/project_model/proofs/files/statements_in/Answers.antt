@@ -1,6 +1,6 @@
 use Rattle.std.proofs.Common.{refl}
 use Rattle.project_sources.specs.Faults.{fault}
-use Rattle.project_model.proofs.NameSteps.{refused_by}
+use Rattle.project_definitions.proofs.Steps.{refused_by}
 use Rattle.project_model.proofs.Reading.{newlines_short}
 use Rattle.project_model.proofs.files.statements_in.Goals as goal
 

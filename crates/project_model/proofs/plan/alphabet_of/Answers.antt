@@ -6,7 +6,7 @@ use Rattle.project_manifest.specs.Sayings.{line_of, placed_of}
 use Rattle.project_manifest.specs.declared.manifest.ManifestLine.{ManifestLine}
 use Rattle.project_model.specs.Answers.{written_of}
 use Rattle.project_model.specs.Gathered.{gathered, symbols_of_all}
-use Rattle.project_model.proofs.Built.{All-front}
+use Rattle.project_definitions.proofs.Built.{All-front}
 use Rattle.project_model.proofs.Gathering.{gather_more, gathered-append, gathered_all, still_short}
 use Rattle.project_model.proofs.Requiring.{All-behind, line_symbols}
 use Rattle.project_model.proofs.plan.alphabet_of.Goals as goal

@@ -1,26 +1,25 @@
 use Rattle.std.proofs.Common.{inl, inr}
-use Rattle.regex_ast.specs.declared.fault.Why.TheVariants as why
 use Rattle.project_manifest.specs.Rows.{First}
-use Rattle.project_sources.specs.Faults.{fault}
-use Rattle.project_model.specs.Answers.{DemandFault, demands}
-use Rattle.project_model.specs.declared.demands.Demand.TheVariants as demand
-use Rattle.project_model.proofs.NameSteps.{refused_by}
-use Rattle.project_model.proofs.Projecting.{all_pass}
+use Rattle.project_definitions.specs.Demands.{DemandFault, demands}
+use Rattle.project_definitions.specs.declared.demands.Demand.TheVariants as demand
+use Rattle.project_definitions.proofs.Steps.{all_pass}
+use Rattle.project_model.proofs.Projecting.{refused_or, refused_so}
 use Rattle.project_model.proofs.plan.check.Goals as goal
 
-pub returns-in-Some-clause-error : goal.returns-in-Some-clause-error
-returns-in-Some-clause-error c =
-    let d = c.in-Some.definition.now in
-    refused_by (First (DemandFault c.args.definitions.now c.args.forms.now) demands) (fault d.file d.line why.NotALanguage) c.refused_at.result (inl c.in-Some.ensures) c.refused_at.ensures
+pub returns-in-Err-clause-error : goal.returns-in-Err-clause-error
+returns-in-Err-clause-error c =
+    let fault = DemandFault c.args.definitions.now c.args.forms.now in
+    refused_so (fault demand.Fits) (First fault demands) c.in-Err.error (λ found h. inl h) c.in-Err.ensures.error
 
-pub returns-in-Some-first_failing-clause-error : goal.returns-in-Some-first_failing-clause-error
-returns-in-Some-first_failing-clause-error c =
-    let d = c.in-Some-first_failing.definition.now in
-    refused_by (First (DemandFault c.args.definitions.now c.args.forms.now) demands) (fault d.file d.line why.LimitWeight) c.refused_at-in-Some-first_failing.result
-    (inr (all_pass c.args.forms.now demand.Fits c.args.definitions.now c.in_default.ensures, inl c.in-Some-first_failing.ensures)) c.refused_at-in-Some-first_failing.ensures
+pub returns-in-Err-meet-clause-error : goal.returns-in-Err-meet-clause-error
+returns-in-Err-meet-clause-error c =
+    let fault = DemandFault c.args.definitions.now c.args.forms.now in
+    let fits = all_pass c.args.forms.now demand.Fits c.args.definitions.now c.in-Ok.ensures.met in
+    refused_so (fault demand.Light) (First fault demands) c.in-Err-meet.error (λ found h. inr (fits, inl h)) c.in-Err-meet.ensures.error
 
-pub returns-in-Some-first_failing-2-clause-error : goal.returns-in-Some-first_failing-2-clause-error
-returns-in-Some-first_failing-2-clause-error c =
-    let d = c.in-Some-first_failing-2.definition.now in
-    refused_by (First (DemandFault c.args.definitions.now c.args.forms.now) demands) (fault d.file d.line why.NotBuilt) c.refused_at-in-Some-first_failing-2.result
-    (inr (all_pass c.args.forms.now demand.Fits c.args.definitions.now c.in_default.ensures, inr (all_pass c.args.forms.now demand.Light c.args.definitions.now c.in_default-first_failing.ensures, inl c.in-Some-first_failing-2.ensures))) c.refused_at-in-Some-first_failing-2.ensures
+pub returns-clause-error : goal.returns-clause-error
+returns-clause-error c =
+    let fault = DemandFault c.args.definitions.now c.args.forms.now in
+    let fits = all_pass c.args.forms.now demand.Fits c.args.definitions.now c.in-Ok.ensures.met in
+    let light = all_pass c.args.forms.now demand.Light c.args.definitions.now c.in-Ok-meet.ensures.met in
+    refused_or (fault demand.Built) (First fault demands) c.meet-3.result (λ found h. inr (fits, inr (light, inl h))) c.meet-3.ensures.error

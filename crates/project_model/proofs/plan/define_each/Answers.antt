@@ -1,7 +1,7 @@
 use Rattle.std.proofs.Common.{map, ap, ◌∙◌, arith}
 use Rattle.std.proofs.lemmas.List.{take_all}
 use Rattle.project_model.specs.Answers.{written_of}
-use Rattle.project_model.specs.Stands.{entry_in, entry_of}
+use Rattle.project_definitions.specs.Entries.{entry_in, entry_of}
 use Rattle.project_model.proofs.Projecting.{made_both}
 use Rattle.project_model.proofs.plan.define_each.Goals as goal
 

@@ -1,6 +1,6 @@
 use Rattle.std.proofs.Common.{◌≡◌, map, take}
 use Rattle.project_model.specs.Answers.{written_of}
-use Rattle.project_model.specs.Stands.{entry_in, entry_of}
+use Rattle.project_definitions.specs.Entries.{entry_in, entry_of}
 use Rattle.project_model.proofs.plan.define_each.Given as goal
 
 -- the definitions so far

@@ -1,6 +1,6 @@
-use Rattle.project_sources.specs.Laws.{readers_so_far}
-use Rattle.project_sources.proofs.Once.{one_fault, exact_so_far}
+use Rattle.project_sources.specs.Laws.{all_readers}
+use Rattle.project_sources.proofs.Once.{one_fault, all_exact}
 use Rattle.project_sources.proofs.laws.one_fault.Goals as goal
 
 pub returns : goal.returns
-returns c files = one_fault readers_so_far exact_so_far files
+returns c files = one_fault all_readers all_exact files

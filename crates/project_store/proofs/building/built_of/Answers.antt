@@ -1,5 +1,5 @@
 use Rattle.std.proofs.Common.{◌<◌, ◌∙◌, List, length, rules, subst, sym}
-use Rattle.project_model.specs.declared.definition.Definition.{Definition}
+use Rattle.project_definitions.specs.declared.definition.Definition.{Definition}
 use Rattle.project_store.proofs.Named.{stands_at}
 use Rattle.project_store.proofs.Networks.{built_as, built_over, filled_as, fits, formed, ground, why_as}
 use Rattle.project_store.proofs.building.built_of.Goals as goal

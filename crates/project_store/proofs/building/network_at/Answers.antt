@@ -1,7 +1,7 @@
 use Rattle.std.proofs.Common.{◌≡◌, List, Option, Some, slice_get, subst, sym}
 use Rattle.network_algebra.specs.declared.network.Network.{Network}
 use Rattle.name_order.specs.Orders.{IsOrder}
-use Rattle.project_model.specs.Referring.{references_of}
+use Rattle.project_definitions.specs.Referring.{references_of}
 use Rattle.project_store.proofs.Networks.{built_here, built_more, never_past, none_so_far, parts_there, place_within}
 use Rattle.project_store.specs.Building.{IsThere}
 use Rattle.project_store.proofs.building.network_at.Goals as goal

@@ -1,8 +1,8 @@
 use Rattle.std.proofs.Common.{◌≡◌, ◌+◌, [], arith, get_or, refl, subst, sym}
 use Rattle.std.proofs.lemmas.Option.{slice_get-get_or, slice_get_read, slice_get_within}
 use Rattle.project_store.specs.Centres.{body_centres}
-use Rattle.project_model.specs.Plain.{body_of}
-use Rattle.project_model.specs.declared.definition.Definition.{Definition}
+use Rattle.project_definitions.specs.Plain.{body_of}
+use Rattle.project_definitions.specs.declared.definition.Definition.{Definition}
 use Rattle.project_store.proofs.Trying.{NoneFrom, ends_before, ends_here}
 use Rattle.project_store.proofs.centres.end_of_centres.Goals as goal
 use Rattle.project_store.proofs.centres.end_of_centres.Goals.{then-branch, else-branch}

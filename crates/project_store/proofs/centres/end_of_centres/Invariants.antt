@@ -1,7 +1,7 @@
 use Rattle.std.proofs.Common.{◌≡◌, ◌≤◌, ◌<◌, ℕ, [], Some, slice_get}
 use Rattle.project_store.specs.Centres.{body_centres}
-use Rattle.project_model.specs.Plain.{body_of}
-use Rattle.project_model.specs.declared.definition.Definition.{Definition}
+use Rattle.project_definitions.specs.Plain.{body_of}
+use Rattle.project_definitions.specs.declared.definition.Definition.{Definition}
 use Rattle.project_store.proofs.centres.end_of_centres.Given as goal
 
 -- no definition from the end so far on has a centre

@@ -1,9 +1,9 @@
 use Rattle.project_store.specs.Building.{expression_leaves}
-use Rattle.project_model.specs.Plain.{body_of}
+use Rattle.project_definitions.specs.Plain.{body_of}
 use Rattle.project_store.specs.Centres.{HasNoNetwork}
 use Rattle.std.proofs.Common.{All, Contains, ◌<◌, ◌∙◌, List, length, rules, subst, sym}
 use Rattle.regex_ast.specs.declared.expr.Atom.{Atom}
-use Rattle.project_model.specs.declared.definition.Definition.{Definition}
+use Rattle.project_definitions.specs.declared.definition.Definition.{Definition}
 use Rattle.project_store.proofs.Trying.{behind_one, is_empty, is_free, none_behind}
 use Rattle.project_store.proofs.Named.{stands_at}
 use Rattle.project_store.proofs.centres.outcome_of.Goals as goal

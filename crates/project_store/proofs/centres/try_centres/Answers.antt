@@ -1,8 +1,8 @@
 use Rattle.std.proofs.Common.{◌≡◌, ◌<◌, ◌+◌, ◌∙◌, All, Bool, List, Option, arith, get_or, length, refl, subst, sym, take}
 use Rattle.network_algebra.specs.declared.network.Network.{Network}
 use Rattle.name_order.specs.Orders.{IsOrder}
-use Rattle.project_model.specs.Referring.{references_of}
-use Rattle.project_model.specs.declared.definition.Definition.{Definition}
+use Rattle.project_definitions.specs.Referring.{references_of}
+use Rattle.project_definitions.specs.declared.definition.Definition.{Definition}
 use Rattle.project_store.specs.Centres.{IsOutcome, with_empty, with_network}
 use Rattle.project_store.proofs.Trying.{TriedSoFar, all_within, front_more, here_within, tried_front, tried_none}
 use Rattle.project_store.proofs.centres.try_centres.Goals as goal

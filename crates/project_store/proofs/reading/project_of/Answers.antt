@@ -1,21 +1,23 @@
-use Rattle.project_sources.specs.Laws.{readers_so_far}
+use Rattle.project_sources.specs.Laws.{all_readers}
 use Rattle.project_sources.specs.Sources.{project_in}
 use Rattle.project_sources.proofs.Sound.{sound_read}
-use Rattle.std.proofs.Common.{refl}
+use Rattle.std.proofs.Common.{refl, subst, sym}
+use Rattle.project_store.specs.Projects.{HasTable}
 use Rattle.project_store.proofs.Trying.{first_of_read, loads_project, why_not_loaded}
 use Rattle.project_store.proofs.reading.project_of.Goals as goal
 
 pub returns-in-Ok-clause-project : goal.returns-in-Ok-clause-project
 returns-in-Ok-clause-project c =
     let is = rw c.new-table.ensures at c.in-Ok.ensures.plan in
-    let sound = sound_read readers_so_far c.args.sources.now (project_in is.said) (is.faultless, is.said, is.says, refl) in
-    loads_project c.args.sources.now is.said is.faultless is.says c.in_ok-of-in-Ok.field-0 (c.in_ok-of-in-Ok.ensures is.said is.stands sound) c.with_centres.result c.with_centres.ensures.same c.with_centres.ensures.filled
+    let sound = sound_read all_readers c.args.sources.now (project_in is.said) (is.faultless, is.said, is.says, refl) in
+    loads_project c.args.sources.now is.said is.faultless is.says c.in_ok-of-in-Ok.field-0 (c.in_ok-of-in-Ok.ensures.loaded is.said is.stands sound)
+    (subst (HasTable c.args.sources.now) (sym c.in_ok-of-in-Ok.ensures.glosses) is.glosses) c.with_centres.result c.with_centres.ensures.same c.with_centres.ensures.filled
 
 pub returns-in-Ok-clause-error : goal.returns-in-Ok-clause-error
 returns-in-Ok-clause-error c =
     let is = rw c.new-table.ensures at c.in-Ok.ensures.plan in
-    let sound = sound_read readers_so_far c.args.sources.now (project_in is.said) (is.faultless, is.said, is.says, refl) in
-    why_not_loaded c.args.sources.now is.said is.faultless is.says c.in_ok-of-in-Ok.field-0 (c.in_ok-of-in-Ok.ensures is.said is.stands sound) c.with_centres.result c.with_centres.ensures.error
+    let sound = sound_read all_readers c.args.sources.now (project_in is.said) (is.faultless, is.said, is.says, refl) in
+    why_not_loaded c.args.sources.now is.said is.faultless is.says c.in_ok-of-in-Ok.field-0 (c.in_ok-of-in-Ok.ensures.loaded is.said is.stands sound) c.with_centres.result c.with_centres.ensures.error
 
 pub returns-in-Err-Refused-clause-error : goal.returns-in-Err-Refused-clause-error
 returns-in-Err-Refused-clause-error c =

@@ -1,5 +1,5 @@
 use Rattle.std.proofs.Common.{◌∙◌, ◌<◌, List, length, subst, sym}
-use Rattle.project_model.specs.declared.definition.Definition.{Definition}
+use Rattle.project_definitions.specs.declared.definition.Definition.{Definition}
 use Rattle.project_store.proofs.Trying.{first_empty, first_within, none_empty, none_marked}
 use Rattle.project_store.proofs.Named.{stands_at}
 use Rattle.project_store.proofs.reading.with_centres.Goals as goal

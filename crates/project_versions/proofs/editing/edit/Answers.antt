@@ -14,7 +14,7 @@ use Rattle.project_versions.proofs.editing.edit.Goals as goal
 
 pub returns-clause-edited : goal.returns-clause-edited
 returns-clause-edited c meant stands =
-    let (said, from, says) = c.in_ok-next.ensures.project in
+    let (said, from, says, table) = c.in_ok-next.ensures.project in
     let old = c.args.old.now in
     let new = c.in_ok-sources.sources in
     let few : old.number ≤ most_edits = (let is = c.number-number.ensures.number in omega (arith, is)) in

@@ -1,6 +1,6 @@
 use Rattle.std.proofs.Common.{length, subst}
 use Rattle.name_order.specs.Orders.{IsOrder}
-use Rattle.project_model.specs.Referring.{references_of}
+use Rattle.project_definitions.specs.Referring.{references_of}
 use Rattle.project_store.proofs.Networks.{built_more, none_so_far, parts_there, place_within}
 use Rattle.project_versions.proofs.Readying.{all_there, not_past}
 use Rattle.project_versions.proofs.networks.all_built.Goals as goal

@@ -2,8 +2,8 @@ use Rattle.std.proofs.Common.{◌↔◌, IsTrue, length, sym, ap, subst, ◌∙�
 use Rattle.std.specs.List.{flat_map}
 use Rattle.regex_ast.specs.Terms.{term}
 use Rattle.expr_leaves.specs.Leaves.{seen}
-use Rattle.project_model.specs.Referring.{place_in}
-use Rattle.project_model.proofs.Gathering.{listed_is}
+use Rattle.project_definitions.specs.Referring.{place_in}
+use Rattle.name_resolution.proofs.Listed.{listed_is}
 use Rattle.touched_names.specs.Places.{HasMarked}
 use Rattle.touched_names.proofs.bodies.expr_refers.Goals as goal
 

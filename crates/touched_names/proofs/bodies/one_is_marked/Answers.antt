@@ -1,9 +1,9 @@
-use Rattle.std.proofs.Common.{◌≡◌, true, false, length, refl, sym, ◌∙◌, true≢false}
+use Rattle.std.proofs.Common.{length, refl, sym, ◌∙◌, true≢false}
 use Rattle.std.specs.Borrow.{Bor}
 use Rattle.std.specs.List.{flat_map}
 use Rattle.regex_ast.specs.declared.expr.Atom.{Atom}
 use Rattle.expr_leaves.specs.Leaves.{seen}
-use Rattle.project_model.specs.Referring.{place_in}
+use Rattle.project_definitions.specs.Referring.{place_in}
 use Rattle.touched_names.proofs.Found.{found, left_at, none_here}
 use Rattle.touched_names.proofs.bodies.one_is_marked.Goals as goal
 

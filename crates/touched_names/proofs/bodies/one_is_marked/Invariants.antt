@@ -1,7 +1,7 @@
 use Rattle.std.proofs.Common.{◌↔◌, drop, length}
 use Rattle.std.specs.List.{flat_map}
 use Rattle.expr_leaves.specs.Leaves.{seen}
-use Rattle.project_model.specs.Referring.{place_in}
+use Rattle.project_definitions.specs.Referring.{place_in}
 use Rattle.touched_names.specs.Places.{HasMarked}
 use Rattle.touched_names.proofs.bodies.one_is_marked.Given as goal
 

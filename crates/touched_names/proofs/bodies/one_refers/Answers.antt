@@ -1,4 +1,4 @@
-use Rattle.std.proofs.Common.{◌≡◌, true, false, length, refl, sym, ◌∙◌, true≢false}
+use Rattle.std.proofs.Common.{length, refl, sym, ◌∙◌, true≢false}
 use Rattle.std.specs.Borrow.{Bor}
 use Rattle.std.specs.List.{flat_map}
 use Rattle.word_relations.proofs.Behind.{left_behind}
@@ -6,7 +6,7 @@ use Rattle.regex_ast.specs.Terms.{term}
 use Rattle.regex_ast.specs.declared.expr.Atom.{Atom}
 use Rattle.regex_ast.specs.declared.expr.Expr.{Expr}
 use Rattle.lexicon_resolution.specs.Places.{terms_behind}
-use Rattle.project_model.specs.Referring.{places_in}
+use Rattle.project_definitions.specs.Referring.{places_in}
 use Rattle.touched_names.proofs.Found.{found, none_here}
 use Rattle.touched_names.proofs.bodies.one_refers.Goals as goal
 

@@ -1,7 +1,7 @@
 use Rattle.std.proofs.Common.{◌↔◌, drop, length}
 use Rattle.std.specs.List.{flat_map}
 use Rattle.lexicon_resolution.specs.Places.{terms_behind}
-use Rattle.project_model.specs.Referring.{places_in}
+use Rattle.project_definitions.specs.Referring.{places_in}
 use Rattle.touched_names.specs.Places.{HasMarked}
 use Rattle.touched_names.proofs.bodies.one_refers.Given as goal
 

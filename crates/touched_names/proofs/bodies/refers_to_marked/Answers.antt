@@ -4,8 +4,8 @@ use Rattle.lexicon_resolution.specs.Places.{terms_behind}
 use Rattle.lexicon_resolution.specs.Plain.{lexicon_of}
 use Rattle.project_meaning.specs.Leaves.{expressions_of}
 use Rattle.project_meaning.specs.Trees.{lexc}
-use Rattle.project_model.specs.Plain.{body_of}
-use Rattle.project_model.specs.Referring.{places_in}
+use Rattle.project_definitions.specs.Plain.{body_of}
+use Rattle.project_definitions.specs.Referring.{places_in}
 use Rattle.touched_names.specs.Places.{HasMarked}
 use Rattle.touched_names.proofs.bodies.refers_to_marked.Goals as goal
 

@@ -1,8 +1,8 @@
 use Rattle.std.proofs.Common.{◌≡◌, ◌↔◌, IsTrue, length, refl}
 use Rattle.std.proofs.lemmas.Option.{slice_get_read}
 use Rattle.expr_equality.specs.Renumbered.{renumbered}
-use Rattle.project_model.specs.Bodies.{mapped_body}
-use Rattle.project_model.specs.Plain.{body_of}
+use Rattle.project_definitions.specs.Bodies.{mapped_body}
+use Rattle.project_definitions.specs.Plain.{body_of}
 use Rattle.touched_names.specs.Itself.{IsKept}
 use Rattle.touched_names.proofs.Kept.{kept_here, kept_nowhere}
 use Rattle.touched_names.proofs.Leafwise.{ok_follows}

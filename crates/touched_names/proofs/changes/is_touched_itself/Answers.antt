@@ -1,5 +1,5 @@
 use Rattle.std.proofs.Common.{◌≡◌, ◌↔◌, IsTrue}
-use Rattle.project_model.specs.Plain.{body_of}
+use Rattle.project_definitions.specs.Plain.{body_of}
 use Rattle.touched_names.specs.Bodies.{uses_symbols}
 use Rattle.touched_names.specs.Itself.{IsTouchedItself}
 use Rattle.touched_names.proofs.Kept.{itself_by_alphabet}

@@ -1,4 +1,4 @@
-use Rattle.std.proofs.Common.{◌≡◌, ◌↔◌, ◌<◌, ℕ, IsTrue, All, length, sym, ap, subst, ◌∙◌, true≢false}
+use Rattle.std.proofs.Common.{◌↔◌, IsTrue, sym, ◌∙◌, true≢false}
 use Rattle.project_meaning.specs.Touched.{AreSameSymbols}
 use Rattle.touched_names.proofs.Numbers.{same_texts}
 use Rattle.touched_names.proofs.changes.same_symbols.Goals as goal

@@ -1,9 +1,8 @@
-use Rattle.std.proofs.Common.{◌≡◌, ◌↔◌, IfOk, IsTrue, ap, subst, ◌∙◌}
+use Rattle.std.proofs.Common.{◌↔◌, IfOk, IsTrue, subst}
 use Rattle.fsm_base.specs.Alphabet.{texts_of}
 use Rattle.project_meaning.specs.Touched.{AreSameSymbols}
-use Rattle.project_model.specs.Referring.{references_of}
+use Rattle.project_definitions.specs.Referring.{references_of}
 use Rattle.project_sources.specs.Sources.{project_in}
-use Rattle.touched_names.specs.Itself.{AreNumbers}
 use Rattle.touched_names.specs.Places.{ArePlaces, TouchedPlace}
 use Rattle.touched_names.specs.Touched.{AreTouched}
 use Rattle.touched_names.proofs.Leafwise.{ok_follows}

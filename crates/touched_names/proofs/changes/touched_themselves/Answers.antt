@@ -1,9 +1,7 @@
-use Rattle.std.proofs.Common.{◌≡◌, ◌<◌, ◌↔◌, ◌+◌, ◌++◌, [], ◌∷◌, ℕ, Bool, true, List, IsTrue, Some, length, length-append, slice_get, inl, inr, refl, sym, ap, subst, ◌∙◌, arith}
-use Rattle.std.proofs.lemmas.Option.{get_or_from_slice_get, slice_get_read, slice_get_within, same_Some}
+use Rattle.std.proofs.Common.{◌≡◌, IsTrue, Some, length, slice_get, refl, sym, arith}
+use Rattle.std.proofs.lemmas.Option.{get_or_from_slice_get, slice_get_read, slice_get_within}
 use Rattle.touched_names.proofs.Marked.{count_more, right_more}
-use Rattle.project_model.specs.declared.definition.Definition.{Definition}
 use Rattle.touched_names.specs.Itself.{IsTouchedItself, number_there}
-use Rattle.touched_names.specs.Places.{IsMarked}
 use Rattle.touched_names.proofs.changes.touched_themselves.Goals as goal
 
 pub definitions-preserved : goal.definitions-preserved

@@ -1,5 +1,5 @@
 use Rattle.std.proofs.Common.{◌≡◌, ◌<◌, ◌↔◌, ℕ, IsTrue, Some, length, slice_get}
-use Rattle.project_model.specs.declared.definition.Definition.{Definition}
+use Rattle.project_definitions.specs.declared.definition.Definition.{Definition}
 use Rattle.touched_names.specs.Itself.{IsTouchedItself, number_there}
 use Rattle.touched_names.specs.Places.{IsMarked}
 use Rattle.touched_names.proofs.changes.touched_themselves.Given as goal

@@ -1,5 +1,5 @@
 use Rattle.std.proofs.Common.{◌≡◌, length}
-use Rattle.project_model.specs.Referring.{references_of}
+use Rattle.project_definitions.specs.Referring.{references_of}
 use Rattle.touched_names.proofs.Marking.{AreRight}
 use Rattle.touched_names.proofs.places.marks_of.Given as goal
 

@@ -1,8 +1,8 @@
 use Rattle.std.proofs.Common.{refl, None}
-use Rattle.reply_meaning.specs.Replies.{long}
 use Rattle.fsm_io.proofs.Streams.{settled_by}
 use Rattle.fsm_program.specs.Steps.{steps}
 use Rattle.fsm_program.proofs.Sending.{sends_as}
+use Rattle.fsm_program.proofs.Tasks.{of_long}
 use Rattle.fsm_program.proofs.Runs.{turn_sent, sofar_same}
 use Rattle.fsm_program.proofs.session.Session.answer_line.Goals as goal
 
@@ -14,7 +14,7 @@ returns-in-Line-clause-turns g c project budget left0 held0 shown sofar =
 pub returns-in-Long-clause-turns : goal.returns-in-Long-clause-turns
 returns-in-Long-clause-turns g c project budget left0 held0 shown sofar =
     turn_sent (steps project c.args.self.now.look_up) tt _ _ _ _ _ _ _ _ _ _ _ None _ _ c.ending_of-in-Long.ensures sofar tt (c.in-Long.ensures.told left0 budget sofar.lines sofar.told) (settled_by _ _ _ _ _ c.in-Long.ensures.next) c.in-Long.ensures.few
-    (sends_as _ _ (long refl) refl c.reply_long.ensures.bytes)
+    (sends_as _ _ (of_long c.args.self.now.look_up.task project c.args.self.now.look_up.network.glosses c.args.self.now.look_up.version c.args.self.now.look_up.network.name) refl c.reply_long.ensures.bytes)
 
 pub returns-in-End-clause-turns : goal.returns-in-End-clause-turns
 returns-in-End-clause-turns g c project budget left0 held0 shown sofar =

@@ -5,8 +5,8 @@ use Rattle.std.specs.Bool.{if◌then◌else◌}
 use Rattle.std.specs.Cmp.Lexicographic.{pointwise}
 use Rattle.std.specs.List.{list_any}
 use Rattle.std.specs.Str.{bytes_eq}
-use Rattle.fsm_base.specs.Symbols.{with_text}
-use Rattle.lexc_forms.specs.Kept.{kept, IsWithin, AreWithin}
+use Rattle.lexc_forms.specs.Kept.{kept, IsWithin, AreWithin, IsMarkedFor, AreMarked}
+use Rattle.lexc_forms.proofs.Begins.{with_marked}
 use Rattle.lexc_forms.proofs.Symbols.{any_kept, held, new, within-more}
 use Rattle.lexc_forms.proofs.table.DeclaredSymbols.add.Goals as goal
 
@@ -26,9 +26,12 @@ invariant_of-self-2 c =
     let grown : map kept c.insert_full.new.self.keys ≡ map kept keys ++ symbol ∷ [] =
     ap (map kept) (c.in_ok-insert_full.ensures.keys ∙ ap (λ b. if b then keys else keys ++ c.args.symbol ∷ []) absent) ∙ map-append kept keys (c.args.symbol ∷ []) in
     let most = c.max-self-inside.result in
-    let is : most ≡ max c.self.inside.longest c.len.result = search rules in
-    subst (AreWithin most) (sym grown)
-    (All-push (IsWithin most) (map kept keys) symbol (within-more c.self.inside.longest most (map kept keys) (omega (arith, is)) c.self.invariant) (c.requires, omega (arith, is, c.len.ensures, c.args.symbol.ok)))
+    let is : most ≡ max c.self.inside.longest c.len.result = search rules in (
+      subst (AreWithin most) (sym grown)
+          (All-push (IsWithin most) (map kept keys) symbol (within-more c.self.inside.longest most (map kept keys) (omega (arith, is)) c.self.invariant.0) (c.requires, omega (arith, is, c.len.ensures, c.args.symbol.ok))),
+      subst (AreMarked c.with_mark-begins.result.items) (sym grown)
+          (with_marked c.in_ok-marks.field-0.items c.with_mark-begins.result.items (map kept keys) symbol c.with_mark-begins.ensures.kept (subst (AreMarked c.in_ok-marks.field-0.items) (sym c.self.view_is) c.in_ok-marks.ensures) (subst (IsMarkedFor c.with_mark-begins.result.items) c.as_slice-2.ensures.value c.with_mark-begins.ensures.marked)),
+    )
 
 pub returns : goal.returns
 returns c =

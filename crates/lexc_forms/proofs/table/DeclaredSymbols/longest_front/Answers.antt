@@ -1,4 +1,4 @@
-use Rattle.std.proofs.Common.{◌≡◌, false, true, length, min, take, Bool, List, ℕ, rules, arith, sym, ap, subst, ◌∙◌}
+use Rattle.std.proofs.Common.{◌≡◌, false, true, length, min, take, rules, arith, sym, ap, subst, ◌∙◌}
 use Rattle.std.specs.List.{list_any}
 use Rattle.std.specs.Str.{bytes_eq}
 use Rattle.lexc_forms.specs.Kept.{AreWithin}
@@ -7,7 +7,7 @@ use Rattle.lexc_forms.proofs.table.DeclaredSymbols.longest_front.Goals as goal
 
 pub lengths-init : goal.lengths-init
 lengths-init c =
-    let within = subst (AreWithin c.self.inside.longest) c.self.view_is c.self.invariant in
+    let within = subst (AreWithin c.self.inside.longest) c.self.view_is c.self.invariant.0 in
     let is : c.min-length.result ≡ min c.self.inside.longest (length c.args.text.now) = search rules in
     record {
       fits = omega (arith, is);
@@ -33,5 +33,5 @@ lengths-preserved c =
 
 pub returns : goal.returns
 returns c =
-    let within = subst (AreWithin c.self.inside.longest) c.self.view_is c.self.invariant in
+    let within = subst (AreWithin c.self.inside.longest) c.self.view_is c.self.invariant.0 in
     none_left c.args.self.now c.args.text.now c.self.inside.longest within c.lengths.length c.lengths-test.false c.lengths.invariant.none_longer

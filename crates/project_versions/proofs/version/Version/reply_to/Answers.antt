@@ -1,4 +1,4 @@
-use Rattle.std.proofs.Common.{ℕ, List, Vec, Global, sym, subst}
+use Rattle.std.proofs.Common.{ℕ, List, [], Vec, Global, sym, subst}
 use Rattle.std.proofs.lemmas.Option.{slice_get_within}
 use Rattle.std.specs.Prelude.{Some}
 use Rattle.fsm_base.specs.declared.letters.Sym.{Sym}
@@ -28,7 +28,7 @@ returns-in-Some c meant stands =
     let there = net_there c.self.inside.networks.items c.in-Some.place _ c.index-compiled.result.now c.deref.result.now net within networks.count c.index-compiled.ensures c.deref.ensures c.net.ensures in
     let shown = shows_here _ meant own c.args.direction name c.args.word.now networks c.in-Some.place d at named net there in
     numbered _ meant own c.args.direction name c.args.word.now c.reply_in.result
-    (c.reply_in.ensures meant.project name (subst (λ (alphabet : List (Sym × List ℕ)). Shows (record { alphabet = alphabet; name = name; net = Some net }) meant.project) (sym c.alphabet.ensures) shown))
+    (c.reply_in.ensures meant.project name [] (subst (λ (alphabet : List (Sym × List ℕ)). Shows (record { alphabet = alphabet; name = name; net = Some net; glosses = [] }) meant.project) (sym c.alphabet.ensures) shown))
 
 pub returns-in-None : goal.returns-in-None
 returns-in-None c meant stands =

@@ -1,4 +1,4 @@
-use Rattle.std.proofs.Common.{◌≡◌, map, sym, ap, ◌∙◌}
+use Rattle.std.proofs.Common.{map, sym, ap, ◌∙◌}
 use Rattle.std.specs.String.{string_bytes}
 use Rattle.fsm_base.proofs.TableLemmas.{with_text-held, with_text-strings}
 use Rattle.touched_names.proofs.texts.Texts.add.Goals as goal

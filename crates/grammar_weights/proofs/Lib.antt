@@ -1,0 +1,6 @@
+pub mod Replaced
+mod Listed
+mod Letters
+pub mod Lawful
+mod Counted
+mod Weighing

@@ -1,0 +1,4 @@
+pub mod Weights
+pub mod Counting
+pub mod Weighed
+pub mod Laws

@@ -1,0 +1,44 @@
+-- What a lane's output gets for its input over a list of published values. The first value has the number 1. `Replies` says which
+-- bytes are a reply to a line at a value; a line is `None` where it is too long to be told.
+use Rattle.std.specs.Prelude.{◌≡◌, ◌≤◌, ◌+◌, ◌++◌, ℕ, List, [], ◌∷◌, length, Option, None, Some, codes}
+use Rattle.reply_meaning.specs.Replies.{without_return}
+use Rattle.reply_meaning.specs.Transcripts.{HasAnswered}
+use Rattle.reply_meaning.specs.declared.ending.Ending.{Ending}
+
+-- the line is the mark `---`; a carriage return at its end is dropped
+abbrev pub IsMark : Option (List ℕ) → Type 0
+IsMark None = ⊥
+IsMark (Some line) = without_return line ≡ codes "---"
+
+-- where a lane is: before its first mark, with the number of the value at which it was answered last, which is 0 at first; or
+-- behind that mark
+pub data Place : Type 0 where
+  beside : ℕ → Place
+  behind : Place
+
+abbrev pub start : Place
+start = beside 0
+
+-- the value with this number
+pub record HasNumber {V : Type 0} (values : List V) (number : ℕ) (value : V) : Type 0 where
+  pub front : List V
+  pub back : List V
+  pub values_are : values ≡ front ++ value ∷ back
+  pub number_is : number ≡ length front + 1
+
+-- A line before the first mark is answered at any value whose number is no smaller than the one before. That mark has no reply.
+-- Each line behind it is answered at the last value.
+abbrev pub Answers : {V : Type 0} → (V → Option (List ℕ) → List ℕ → Type 0) → List V → Place → Option (List ℕ) → List ℕ → Place → Type 0
+Answers {V} Replies values (beside seen) line reply (beside number) = (value : V) × (IsMark line → ⊥) × (seen ≤ number) × HasNumber values number value × Replies value line reply
+Answers Replies values (beside seen) line reply behind = IsMark line × (reply ≡ [])
+Answers Replies values behind line reply (beside number) = ⊥
+Answers {V} Replies values behind line reply behind = (value : V) × HasNumber values (length values) value × Replies value line reply
+
+-- the same up to the mark, which is what a lane does while further values may be published
+abbrev pub AnswersBeside : {V : Type 0} → (V → Option (List ℕ) → List ℕ → Type 0) → List V → Place → Option (List ℕ) → List ℕ → Place → Type 0
+AnswersBeside Replies values (beside seen) line reply place = Answers Replies values (beside seen) line reply place
+AnswersBeside Replies values behind line reply place = ⊥
+
+-- what a lane's output got for the bytes that were taken of its input, by how the answering ended
+abbrev pub HasLane : {V : Type 0} → (V → Option (List ℕ) → List ℕ → Type 0) → List V → ℕ → Option (List ℕ) → Option (List ℕ) → Option (List ℕ) → Option (List ℕ) → Ending → Type 0
+HasLane Replies values budget left0 left held0 held ending = HasAnswered (Answers Replies values) start budget left0 left held0 held ending

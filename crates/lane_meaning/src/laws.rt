@@ -1,0 +1,13 @@
+ghost use Rattle.lane_meaning.specs.Laws.{LaneGrows, NumbersNeverFall};
+
+use crate::replying::Replying;
+
+/// What a lane's output gets over the values so far is what it gets over all values.
+pub fn lane_grows<V: Replying>()
+    ensures { LaneGrows V.replies }
+{}
+
+/// The numbers of a lane's replies never fall.
+pub fn numbers_never_fall<V: Replying>()
+    ensures { NumbersNeverFall V.replies }
+{}

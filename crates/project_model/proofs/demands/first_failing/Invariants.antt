@@ -1,7 +1,0 @@
-use Rattle.std.proofs.Common.{All, take}
-use Rattle.project_model.specs.Answers.{DoesMeet}
-use Rattle.project_model.proofs.demands.first_failing.Given as goal
-
--- the definitions so far meet it
-abbrev pub invariant-definitions : goal.invariant-definitions
-invariant-definitions l = All (DoesMeet l.forms l.demand) (take l.definition-index l.definitions)

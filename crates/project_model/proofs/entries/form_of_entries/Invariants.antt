@@ -1,7 +1,0 @@
-use Rattle.std.proofs.Common.{take}
-use Rattle.project_model.proofs.Telling.{EntriesTell}
-use Rattle.project_model.proofs.entries.form_of_entries.Given as goal
-
--- the form tells of the entries so far
-abbrev pub invariant-entries : goal.invariant-entries
-invariant-entries l = EntriesTell l.names (take l.entry-index l.entries) l.form
