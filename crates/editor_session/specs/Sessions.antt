@@ -4,7 +4,7 @@ use Rattle.std.specs.Io.KnownBytes.{Appends, Consumes, IsAtEnd}
 use Rattle.fsm_io.specs.Buffers.{most_ahead}
 use Rattle.fsm_io.specs.Lines.{raw_lines}
 use Rattle.project_sources.specs.Edits.{Version}
-use Rattle.project_sources.specs.Faults.{rows_so_far}
+use Rattle.project_sources.specs.Faults.{rows}
 use Rattle.project_sources.specs.Laws.{all_readers}
 use Rattle.edit_script.specs.Commands.{IsCommand}
 use Rattle.edit_script.specs.declared.commands.EditCommand.TheVariants as commands
@@ -30,9 +30,9 @@ pub data HearsAll (left : Option (List ℕ)) (taken : List ℕ) (heard : List (L
   to_end : IsAtEnd left → raw_lines true taken ≡ heard → HearsAll left taken heard
   to_command : IsHeard false taken heard → EndsByCommand heard → HearsAll left taken heard
 
--- the bytes are what an editor's output gets for these lines, by the readers and the rows that there are so far
+-- the bytes are what an editor's output gets for these lines, by all readers and rows
 abbrev pub Edits : Version → Bool → List (List ℕ) → List ℕ → List Version → Type 0
-Edits loaded ended lines bytes versions = IsEdited all_readers rows_so_far loaded ended lines bytes versions
+Edits loaded ended lines bytes versions = IsEdited all_readers rows loaded ended lines bytes versions
 
 -- the bytes are a front of what the output gets for lines that were heard
 pub record IsCutShort (loaded : Version) (taken written : List ℕ) (versions : List Version) : Type 0 where
@@ -50,11 +50,10 @@ IsWritten loaded WriteFailed left taken written versions = IsCutShort loaded tak
 IsWritten loaded ReadFailed left taken written versions = Edits loaded false (raw_lines false taken) written versions
 IsWritten loaded Spent left taken written versions = Edits loaded false (raw_lines false taken) written versions
 
--- the bytes taken from the input, and what the output got for them
-pub record HasEdited (loaded : Version) (budget : ℕ) (left0 left held0 held : Option (List ℕ)) (ending : Ending) : Type 0 where
+-- the bytes taken from the input, what the output got for them, and the versions from the loaded one on
+pub record HasEdited (loaded : Version) (versions : List Version) (budget : ℕ) (left0 left held0 held : Option (List ℕ)) (ending : Ending) : Type 0 where
   pub taken : List ℕ
   pub written : List ℕ
-  pub versions : List Version
   pub consumed : Consumes left0 left taken
   pub appended : Appends held0 held written
   pub output : IsWritten loaded ending left taken written versions

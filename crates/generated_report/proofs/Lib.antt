@@ -1,0 +1,7 @@
+mod Counting
+mod Found
+mod Lines
+mod Made
+mod Nets
+mod SameFiles
+mod Telling
