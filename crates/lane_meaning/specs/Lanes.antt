@@ -1,6 +1,6 @@
 -- What a lane's output gets for its input over a list of published values. The first value has the number 1. `Replies` says which
 -- bytes are a reply to a line at a value; a line is `None` where it is too long to be told.
-use Rattle.std.specs.Prelude.{◌≡◌, ◌≤◌, ◌+◌, ◌++◌, ℕ, List, [], ◌∷◌, length, Option, None, Some, codes}
+use Rattle.std.specs.Prelude.{◌≡◌, ◌≤◌, ◌+◌, ◌-◌, ◌^◌, ◌++◌, ℕ, List, [], ◌∷◌, length, min, Option, None, Some, codes}
 use Rattle.reply_meaning.specs.Replies.{without_return}
 use Rattle.reply_meaning.specs.Transcripts.{HasAnswered}
 use Rattle.reply_meaning.specs.declared.ending.Ending.{Ending}
@@ -10,14 +10,18 @@ abbrev pub IsMark : Option (List ℕ) → Type 0
 IsMark None = ⊥
 IsMark (Some line) = without_return line ≡ codes "---"
 
--- where a lane is: before its first mark, with the number of the value at which it was answered last, which is 0 at first; or
--- behind that mark
+-- where a lane is: before its first mark, with the number of the value at which it was answered last, which is 0 at first, and how
+-- many of its lines were answered; or behind that mark
 pub data Place : Type 0 where
-  beside : ℕ → Place
+  beside : (seen answered : ℕ) → Place
   behind : Place
 
 abbrev pub start : Place
-start = beside 0
+start = beside 0 0
+
+-- a seat that entered so often did so for each of this many lines; its count of 64 bits stays at the last number
+abbrev pub HasEnteredFor : ℕ → ℕ → Type 0
+HasEnteredFor lines entered = min lines (2 ^ 64 - 1) ≤ entered
 
 -- the value with this number
 pub record HasNumber {V : Type 0} (values : List V) (number : ℕ) (value : V) : Type 0 where

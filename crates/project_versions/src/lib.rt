@@ -4,11 +4,13 @@
 //! - [`Version`]: its number, its files, its names, and the replies to words that are looked up in it.
 //! - [`edit`]: the next version and the names that are rebuilt, as [`Edited`], or why there is none, an [`EditError`].
 //!
-//! Inside, `networks` builds the network of each definition, and `rebuilt` lists the names that an edit touches.
+//! Inside, `networks` builds the network of each definition, `rebuilt` lists the names that an edit touches, and `looks` answers the
+//! lines of a lane.
 #![tactic(auto)]
 
 mod edit_error;
 mod editing;
+mod looks;
 mod networks;
 mod rebuilt;
 mod version;

@@ -1,10 +1,12 @@
-ghost use Rattle.std.specs.Prelude.{◌≡◌, ◌≤◌, ◌<◌, ◌+◌, ◌-◌, ◌^◌, Ok, IfOk, length, map};
+ghost use Rattle.std.specs.Prelude.{◌≡◌, ◌≤◌, ◌<◌, ◌+◌, ◌-◌, ◌^◌, List, Ok, IfOk, length, map};
 ghost use Rattle.editor_meaning.specs.Editing.{AreNames, most_edits};
+ghost use Rattle.interlinear.specs.Glosses.{Entry};
+ghost use Rattle.interlinear.specs.Replies.{GlossesText};
 ghost use Rattle.project_meaning.specs.Projects.{Defines};
 ghost use Rattle.project_sources.specs.Edits.{Version as Meant};
 ghost use Rattle.project_sources.specs.Sources.{Said, project_in};
 ghost use Rattle.project_store.specs.Loaded.{IsLoadedFrom};
-ghost use Rattle.project_store.specs.Projects.{IsOfSources, Reads};
+ghost use Rattle.project_store.specs.Projects.{HasTable, IsOfSources, Reads};
 ghost use Rattle.project_versions.specs.Networks.{AreNetworks, net_of};
 ghost use Rattle.project_versions.specs.Versions.{IsVersion, Stands};
 ghost use Rattle.reply_meaning.specs.Replies.{RepliesToWord};
@@ -14,7 +16,7 @@ use fsm_base::Text;
 use lookup_answers::Direction;
 use network_build::Compiled;
 use project_files::Sources;
-use project_store::{Project, Ready, reply_in};
+use project_store::{Project, Ready, gloss_in, reply_in};
 use reply_text::no_net;
 use std::alloc::{AllocError, Global};
 use std::marker::Model;
@@ -124,6 +126,27 @@ impl Version {
                     direction,
                     self.number,
                     word,
+                )
+            }
+            None => no_net(alloc, self.number, net),
+        }
+    }
+
+    /// The reply to a text whose words are looked up in a name and told in glosses, both in Normalization Form C.
+    pub fn gloss(&self, alloc: Global, net: &str, text: &str) -> Result<Vec<u8>, AllocError>
+        requires { length text.now < 2 ^ 32 - 1 }
+        ensures { (meant : Meant) (table : List Entry) → Stands self.now meant → HasTable meant.files table → IfOk result (λ bytes. GlossesText meant.project table meant.number net.now text.now bytes.items) }
+    {
+        match self.project.find(net) {
+            Some(place) => {
+                let compiled = &self.networks[place];
+                gloss_in(
+                    alloc,
+                    self.project.alphabet(),
+                    compiled.net(),
+                    self.project.glosses(),
+                    self.number,
+                    text,
                 )
             }
             None => no_net(alloc, self.number, net),
