@@ -26,13 +26,15 @@ def write(path, text):
 
 
 def copy_examples():
-    """Copies the projects of examples/, and removes those that are there no more."""
+    """Copies the projects of examples/ without their scripts, and removes those that are there no more."""
     source, target = os.path.join(ROOT, 'examples'), os.path.join(CRATE, 'data', 'examples')
     for name in set(os.listdir(target)) - set(os.listdir(source)):
         shutil.rmtree(os.path.join(target, name))
     for name in os.listdir(source):
         os.makedirs(os.path.join(target, name), exist_ok=True)
         for file in os.listdir(os.path.join(source, name)):
+            if file.endswith('.sh'):
+                continue
             write(os.path.join(target, name, file), read(os.path.join(source, name, file)))
 
 

@@ -8,7 +8,6 @@ definitions give: `refused` with the fault that `check` names in the edited file
 the next number, and just the names that the edit touches, which are worked out here by their definition. Then each network is looked up
 in both directions, and the replies must be those of `up` and `down` on the same files, at the version's number. Prints how many edits were
 accepted and refused, and the first difference, if there is one."""
-import argparse
 import os
 import random
 import re
@@ -275,12 +274,7 @@ def walk(program, edits, seed, folder):
 
 
 def main():
-    words = argparse.ArgumentParser(description=__doc__.split('\n', maxsplit=1)[0])
-    words.add_argument('program', nargs='?')
-    words.add_argument('--edits', type=int, default=2000)
-    words.add_argument('--seed', type=int, default=1)
-    asked = words.parse_args()
-    program = measure.program([asked.program] if asked.program else [])
+    program, asked = measure.program_of_walk(__doc__, edits=2000)
     with tempfile.TemporaryDirectory() as folder:
         found = walk(program, asked.edits, asked.seed, folder)
     if found:

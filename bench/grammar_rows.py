@@ -6,7 +6,6 @@ looked up, there are finitely many.
   grammar_rows.py [PROGRAM] [--grammars N] [--seed N]
 
 Says how many look-ups were answered so, and the first that wasn't, if there is one."""
-import argparse
 import itertools
 import os
 import random
@@ -130,12 +129,7 @@ def wanted(grammar, side):
 
 
 def main():
-    words = argparse.ArgumentParser(description=__doc__.split('\n', maxsplit=1)[0])
-    words.add_argument('program', nargs='?')
-    words.add_argument('--grammars', type=int, default=50)
-    words.add_argument('--seed', type=int, default=1)
-    asked = words.parse_args()
-    path = measure.program([asked.program] if asked.program else [])
+    path, asked = measure.program_of_walk(__doc__, grammars=50)
     draw, looked = random.Random(asked.seed), 0
     with tempfile.TemporaryDirectory() as folder:
         with open(os.path.join(folder, 'project'), 'w') as manifest:

@@ -1,5 +1,6 @@
 """What the scripts beside it share: the program that they time, a project in a folder, foma's network of an expression, and the
 time and peak memory of a command."""
+import argparse
 import os
 import shutil
 import subprocess
@@ -17,6 +18,16 @@ def program(words):
         return os.path.abspath(words[0])
     subprocess.run([os.path.join(ROOT, 'morph'), 'help'], stdout=subprocess.DEVNULL, check=True)
     return os.path.join(ROOT, 'crates', 'morph', 'out', 'morph')
+
+
+def program_of_walk(about, **counts):
+    """The program, and the numbers, of the words of a script that walks by chance: so many steps and a seed, or these by default."""
+    words = argparse.ArgumentParser(description=about.split('\n', maxsplit=1)[0])
+    words.add_argument('program', nargs='?')
+    for name, count in {**counts, 'seed': 1}.items():
+        words.add_argument('--' + name, type=int, default=count)
+    asked = words.parse_args()
+    return program([asked.program] if asked.program else []), asked
 
 
 def has_foma():
@@ -70,9 +81,9 @@ def timed(command, source=None, statuses=(0,), most=None):
     return time.monotonic() - start, memory
 
 
-def spent(command, given, most):
-    """The processor seconds and the peak memory, in bytes, of a command with this input; infinitely many seconds where it takes
-    more than `most`, and is ended."""
+def spent(command, given, most, statuses=(0,)):
+    """The processor seconds and the peak memory, in bytes, of a command with this input, which ends with one of the statuses;
+    infinitely many seconds where it takes more than `most`, and is ended."""
     with tempfile.TemporaryFile() as source:
         source.write(given)
         source.seek(0)
@@ -82,7 +93,9 @@ def spent(command, given, most):
         memory = max(memory, peak_of(child.pid))
         done, status, usage = os.wait4(child.pid, os.WNOHANG)
         if done:
-            child.returncode = status
+            child.returncode = os.waitstatus_to_exitcode(status)
+            if child.returncode not in statuses:
+                sys.exit('%s: status %d' % (' '.join(command), child.returncode))
             return usage.ru_utime + usage.ru_stime, memory
         if time.monotonic() - start > most:
             child.kill()

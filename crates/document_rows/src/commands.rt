@@ -1,9 +1,11 @@
 use fsm_base::Text;
 use fsm_io::{DirFolder, Folder, Found, MemorySink, MemorySource};
-use fsm_program::run;
+use fsm_program::{Lane, run};
 use row_texts::undone;
 use std::alloc::{AllocError, Global};
 use std::io;
+use std::sync::Wait;
+use std::thread::Threads;
 
 /// A size that is more than any example needs.
 const WHOLE: usize = 1_000_000;
@@ -28,8 +30,13 @@ fn content_of(rt: &HostRuntime, path: &str) -> io::Result<Vec<u8>> {
     }
 }
 
-/// What the program writes for these words and this input.
-fn answer_of_program(rt: &HostRuntime, words: &str, input: &str) -> io::Result<Vec<u8>> {
+/// What the program writes for these words and this input. There are no lanes.
+fn answer_of_program<T: Threads + Wait + Sync>(
+    threads: &T,
+    rt: &HostRuntime,
+    words: &str,
+    input: &str,
+) -> io::Result<Vec<u8>> {
     let alloc = rt.alloc();
     let words = words_in(alloc, words)?;
     let path = match words.get(1) {
@@ -39,7 +46,16 @@ fn answer_of_program(rt: &HostRuntime, words: &str, input: &str) -> io::Result<V
     let mut folder = DirFolder::new(rt, path);
     let mut source = MemorySource::new(undone(alloc, input)?, WHOLE, Vec::new(alloc));
     let mut sink = MemorySink::new(alloc, WHOLE, WHOLE, Vec::new(alloc))?;
-    let _status = run(alloc, &words, &mut folder, &mut source, &mut sink);
+    let lanes: &mut [Lane<MemorySource, MemorySink>] = &mut [];
+    let _status = run(
+        threads,
+        alloc,
+        &words,
+        &mut folder,
+        &mut source,
+        &mut sink,
+        lanes,
+    );
     Ok(Vec::from_slice(alloc, sink.bytes())?)
 }
 
@@ -51,12 +67,18 @@ fn split_input(line: &str) -> (&str, &str) {
     }
 }
 
-/// What a command writes. One of another form writes nothing.
-pub fn answer_to(rt: &HostRuntime, line: &str) -> io::Result<Vec<u8>> {
+/// What a command writes. One of another form writes nothing, and so does one with lanes.
+pub fn answer_to<T: Threads + Wait + Sync>(
+    threads: &T,
+    rt: &HostRuntime,
+    line: &str,
+) -> io::Result<Vec<u8>> {
     let (input, command) = split_input(line);
     match command.split_once(' ') {
         Some(("cat", path)) => content_of(rt, path),
-        Some(("./morph" | "./try", words)) => answer_of_program(rt, words, input),
+        Some(("./morph" | "./try", words)) if !words.contains(" -- ") => {
+            answer_of_program(threads, rt, words, input)
+        }
         _ => Ok(Vec::new(rt.alloc())),
     }
 }

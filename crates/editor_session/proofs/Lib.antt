@@ -3,4 +3,5 @@ mod Hearing
 mod Shortness
 mod Requests
 mod Replies
+mod Publishing
 mod Runs

@@ -57,15 +57,14 @@ module _ (left0 left : Option (List ℕ)) (budget : ℕ) (reader : LinesView) (l
 
 -- ---- what was written
 
-module _ (loaded present : Version) (budget : ℕ) (left0 left held0 held : Option (List ℕ)) (reader : LinesView) (s : Sofar loaded present budget left0 left held0 held reader) where
+module _ (loaded present : Version) (made : List Version) (budget : ℕ) (left0 left held0 held : Option (List ℕ)) (reader : LinesView) (s : Sofar loaded present made budget left0 left held0 held reader) where
   -- whatever is known of the output
-  untold : Sofar loaded present budget left0 left None None reader
+  untold : Sofar loaded present made budget left0 left None None reader
   untold = record {
     lines = s.lines;
     orders = s.orders;
     names = s.names;
     replies = s.replies;
-    made = s.made;
     heard = s.heard;
     says = s.says;
     are_names = s.are_names;
@@ -74,25 +73,24 @@ module _ (loaded present : Version) (budget : ℕ) (left0 left held0 held : Opti
   }
 
   -- what the output got for all lines, where those behind are no order
-  edits : (ended : Bool) (more : List (List ℕ)) → (reader.ended ≡ true → (ended ≡ true) × (more ≡ [])) → AreOrders ended more [] → Edits loaded ended (s.lines ++ more) (accepted_line loaded.number s.names ++ s.replies) (loaded ∷ s.made)
+  edits : (ended : Bool) (more : List (List ℕ)) → (reader.ended ≡ true → (ended ≡ true) × (more ≡ [])) → AreOrders ended more [] → Edits loaded ended (s.lines ++ more) (accepted_line loaded.number s.names ++ s.replies) (loaded ∷ made)
   edits ended more last orders = record {
     names = s.names;
     orders = s.orders ++ [];
     replies = s.replies ++ [];
-    made = s.made ++ [];
+    made = made ++ [];
     are_names = s.are_names;
     are_orders = s.says ended more [] last orders;
     are_replies = s.are_replies [] [] [] (refl, refl);
     bytes_are = ap (λ (l : List ℕ). accepted_line loaded.number s.names ++ l) (sym (append-nil s.replies));
-    versions_are = ap (λ (l : List Version). loaded ∷ l) (sym (append-nil s.made));
+    versions_are = ap (λ (l : List Version). loaded ∷ l) (sym (append-nil made));
   }
 
   -- the output failed behind a front of it
-  pub cut_short : (held1 held2 : Option (List ℕ)) (written rest : List ℕ) → accepted_line loaded.number s.names ++ s.replies ≡ written ++ rest → Appends held1 held2 written → HasEdited loaded budget left0 left held1 held2 WriteFailed
+  pub cut_short : (held1 held2 : Option (List ℕ)) (written rest : List ℕ) → accepted_line loaded.number s.names ++ s.replies ≡ written ++ rest → Appends held1 held2 written → HasEdited loaded (loaded ∷ made) budget left0 left held1 held2 WriteFailed
   cut_short held1 held2 written rest is appended = record {
     taken = s.heard.read.taken;
     written = written;
-    versions = loaded ∷ s.made;
     consumed = s.heard.read.consumed;
     appended = appended;
     output = record {
@@ -100,20 +98,19 @@ module _ (loaded present : Version) (budget : ℕ) (left0 left held0 held : Opti
       heard = s.lines ++ [];
       rest = rest;
       is_heard = subst (λ (l : List (List ℕ)). IsHeard reader.ended s.heard.read.taken l) (sym (append-nil s.lines)) (heard_so left0 left budget reader s.lines s.heard reader.ended refl);
-      edits = subst (λ (l : List ℕ). Edits loaded reader.ended (s.lines ++ []) l (loaded ∷ s.made)) is (edits reader.ended [] (λ closed. (closed, refl)) Rattle.editor_meaning.specs.Orders.none);
+      edits = subst (λ (l : List ℕ). Edits loaded reader.ended (s.lines ++ []) l (loaded ∷ made)) is (edits reader.ended [] (λ closed. (closed, refl)) Rattle.editor_meaning.specs.Orders.none);
     };
     spends = λ (is : WriteFailed ≡ Spent). cc;
   }
 
 -- the first line is written, and nothing was read
 pub sofar_start : (loaded : Version) (names : List (List ℕ)) (budget : ℕ) (left held0 held : Option (List ℕ)) (reader : LinesView) → reader ≡ at_start budget → AreNames (Defines loaded.project) names
-    → Appends held0 held (accepted_line loaded.number names) → Sofar loaded loaded budget left left held0 held reader
+    → Appends held0 held (accepted_line loaded.number names) → Sofar loaded loaded [] budget left left held0 held reader
 sofar_start loaded names budget left held0 held reader start are_names appended = record {
   lines = [];
   orders = [];
   names = names;
   replies = [];
-  made = [];
   heard = heard_start left budget reader start;
   says = λ ended more later last orders. orders;
   are_names = are_names;
@@ -123,15 +120,15 @@ sofar_start loaded names budget left held0 held reader start are_names appended 
 
 -- and the first line failed
 pub failed_start : (loaded : Version) (names : List (List ℕ)) (budget : ℕ) (left held1 held2 : Option (List ℕ)) (reader : LinesView) (written rest : List ℕ) → reader ≡ at_start budget → AreNames (Defines loaded.project) names
-    → accepted_line loaded.number names ≡ written ++ rest → Appends held1 held2 written → HasEdited loaded budget left left held1 held2 WriteFailed
+    → accepted_line loaded.number names ≡ written ++ rest → Appends held1 held2 written → HasEdited loaded (loaded ∷ []) budget left left held1 held2 WriteFailed
 unfolding sofar_start
 failed_start loaded names budget left held1 held2 reader written rest start are_names is appended =
-    cut_short loaded loaded budget left left None None reader (sofar_start loaded names budget left None None reader start are_names tt) held1 held2 written rest (append-nil (accepted_line loaded.number names) ∙ is) appended
+    cut_short loaded loaded [] budget left left None None reader (sofar_start loaded names budget left None None reader start are_names tt) held1 held2 written rest (append-nil (accepted_line loaded.number names) ∙ is) appended
 
 -- ---- a reply more
 
-module _ (loaded present next : Version) (budget : ℕ) (left0 left1 left held0 held1 held : Option (List ℕ)) (old new : LinesView) (s : Sofar loaded present budget left0 left1 held0 held1 old) (request : Request)
-    (a : HasAsked left0 left budget old new s.lines request) (reply : List ℕ) (made : Option Version) (next_is : next ≡ unwrap_or made present) (replies : RepliesToRequest present request reply made) where
+module _ (loaded present : Version) (made : List Version) (budget : ℕ) (left0 left1 left held0 held1 held : Option (List ℕ)) (old new : LinesView) (s : Sofar loaded present made budget left0 left1 held0 held1 old) (request : Request)
+    (a : HasAsked left0 left budget old new s.lines request) (reply : List ℕ) (next : Option Version) (replies : RepliesToRequest present request reply next) where
   says_more : Say new.ended (s.lines ++ a.more) (s.orders ++ a.order ∷ [])
   says_more ended more later last orders =
       let inner = a.says ended more later last orders in
@@ -140,22 +137,20 @@ module _ (loaded present next : Version) (budget : ℕ) (left0 left1 left held0 
       subst (λ (l : List (List ℕ)). AreOrders ended l ((s.orders ++ a.order ∷ []) ++ later)) (sym (append_assoc s.lines a.more more))
       (subst (λ (l : List Order). AreOrders ended (s.lines ++ (a.more ++ more)) l) (sym (append_assoc s.orders (a.order ∷ []) later)) outer)
 
-  replies_more : AreRepliesSofar loaded (s.orders ++ a.order ∷ []) (s.replies ++ reply) (s.made ++ option_to_list made) next
+  replies_more : AreRepliesSofar loaded (s.orders ++ a.order ∷ []) (s.replies ++ reply) (made ++ option_to_list next) (unwrap_or next present)
   replies_more later rest more h =
-      let inner : AreReplies all_readers rows_so_far present (a.order ∷ later) (reply ++ rest) (option_to_list made ++ more) =
-      (reply, rest, made, more, refl, refl, a.is_for present reply made replies, subst (λ (v : Version). AreReplies all_readers rows_so_far v later rest more) next_is h) in
-      let outer = s.are_replies (a.order ∷ later) (reply ++ rest) (option_to_list made ++ more) inner in
-      subst (λ (l : List Order). AreReplies all_readers rows_so_far loaded l ((s.replies ++ reply) ++ rest) ((s.made ++ option_to_list made) ++ more)) (sym (append_assoc s.orders (a.order ∷ []) later))
-      (subst (λ (l : List ℕ). AreReplies all_readers rows_so_far loaded (s.orders ++ (a.order ∷ later)) l ((s.made ++ option_to_list made) ++ more)) (sym (append_assoc s.replies reply rest))
-      (subst (λ (l : List Version). AreReplies all_readers rows_so_far loaded (s.orders ++ (a.order ∷ later)) (s.replies ++ (reply ++ rest)) l) (sym (append_assoc s.made (option_to_list made) more)) outer))
+      let inner : AreReplies all_readers rows_so_far present (a.order ∷ later) (reply ++ rest) (option_to_list next ++ more) = (reply, rest, next, more, refl, refl, a.is_for present reply next replies, h) in
+      let outer = s.are_replies (a.order ∷ later) (reply ++ rest) (option_to_list next ++ more) inner in
+      subst (λ (l : List Order). AreReplies all_readers rows_so_far loaded l ((s.replies ++ reply) ++ rest) ((made ++ option_to_list next) ++ more)) (sym (append_assoc s.orders (a.order ∷ []) later))
+      (subst (λ (l : List ℕ). AreReplies all_readers rows_so_far loaded (s.orders ++ (a.order ∷ later)) l ((made ++ option_to_list next) ++ more)) (sym (append_assoc s.replies reply rest))
+      (subst (λ (l : List Version). AreReplies all_readers rows_so_far loaded (s.orders ++ (a.order ∷ later)) (s.replies ++ (reply ++ rest)) l) (sym (append_assoc made (option_to_list next) more)) outer))
 
-  pub sofar_more : Appends held1 held reply → Sofar loaded next budget left0 left held0 held new
+  pub sofar_more : Appends held1 held reply → Sofar loaded (unwrap_or next present) (made ++ option_to_list next) budget left0 left held0 held new
   sofar_more appended = record {
     lines = s.lines ++ a.more;
     orders = s.orders ++ a.order ∷ [];
     names = s.names;
     replies = s.replies ++ reply;
-    made = s.made ++ option_to_list made;
     heard = a.heard_all;
     says = says_more;
     are_names = s.are_names;
@@ -165,20 +160,20 @@ module _ (loaded present next : Version) (budget : ℕ) (left0 left1 left held0 
   }
 
 -- the reply failed
-pub failed_more : (loaded present next : Version) (budget : ℕ) (left0 left1 left held0 held1 held : Option (List ℕ)) (old new : LinesView) (s : Sofar loaded present budget left0 left1 held0 held1 old) (request : Request)
-    → HasAsked left0 left budget old new s.lines request → (reply : List ℕ) (made : Option Version) → next ≡ unwrap_or made present → RepliesToRequest present request reply made
-    → (front rest : List ℕ) → reply ≡ front ++ rest → Appends held1 held front → HasEdited loaded budget left0 left held0 held WriteFailed
+pub failed_more : (loaded present : Version) (made : List Version) (budget : ℕ) (left0 left1 left held0 held1 held : Option (List ℕ)) (old new : LinesView) (s : Sofar loaded present made budget left0 left1 held0 held1 old) (request : Request)
+    → HasAsked left0 left budget old new s.lines request → (reply : List ℕ) (next : Option Version) → RepliesToRequest present request reply next
+    → (front rest : List ℕ) → reply ≡ front ++ rest → Appends held1 held front → HasEdited loaded (loaded ∷ made ++ option_to_list next) budget left0 left held0 held WriteFailed
 unfolding untold sofar_more
-failed_more loaded present next budget left0 left1 left held0 held1 held old new s request a reply made next_is replies front rest is appended =
+failed_more loaded present made budget left0 left1 left held0 held1 held old new s request a reply next replies front rest is appended =
     let first = accepted_line loaded.number s.names in
-    let grown = sofar_more loaded present next budget left0 left1 left None None None old new (untold loaded present budget left0 left1 held0 held1 old s) request a reply made next_is replies tt in
-    cut_short loaded next budget left0 left None None new grown held0 held ((first ++ s.replies) ++ front) rest
+    let grown = sofar_more loaded present made budget left0 left1 left None None None old new (untold loaded present made budget left0 left1 held0 held1 old s) request a reply next replies tt in
+    cut_short loaded (unwrap_or next present) (made ++ option_to_list next) budget left0 left None None new grown held0 held ((first ++ s.replies) ++ front) rest
     (sym (append_assoc first s.replies reply) ∙ ap (λ (l : List ℕ). (first ++ s.replies) ++ l) is ∙ sym (append_assoc (first ++ s.replies) front rest))
     (appends_more held0 held1 held (first ++ s.replies) front s.appended appended)
 
 -- ---- the end of it all
 
-module _ (loaded present : Version) (budget : ℕ) (left0 left1 left held0 held : Option (List ℕ)) (old new : LinesView) (s : Sofar loaded present budget left0 left1 held0 held old) where
+module _ (loaded present : Version) (made : List Version) (budget : ℕ) (left0 left1 left held0 held : Option (List ℕ)) (old new : LinesView) (s : Sofar loaded present made budget left0 left1 held0 held old) where
   hears : (more : List (List ℕ)) (read : HasRead left0 left budget new (s.lines ++ more)) → ((new.ended ≡ true) ⊎ (IsSettled new × EndsByCommand more)) → (closed : Bool) → new.ended ≡ closed → HearsAll left read.taken (s.lines ++ more)
   hears more read last true is = let ends = read.ends is in to_end ends.3 ends.0
   hears more read (inl closed) false is = let both : true ≡ false = sym closed ∙ is in absurd (cc)
@@ -194,26 +189,24 @@ module _ (loaded present : Version) (budget : ℕ) (left0 left1 left held0 held 
   not_closed more going is = let both : false ≡ true = sym going ∙ is in absurd (cc)
 
   so_far : (more : List (List ℕ)) (read : HasRead left0 left budget new (s.lines ++ more)) → AreOrders false more [] → old.ended ≡ false → HasFailed new
-      → Edits loaded false (raw_lines false read.taken) (accepted_line loaded.number s.names ++ s.replies) (loaded ∷ s.made)
+      → Edits loaded false (raw_lines false read.taken) (accepted_line loaded.number s.names ++ s.replies) (loaded ∷ made)
   so_far more read orders going failed =
-      subst (λ (l : List (List ℕ)). Edits loaded false l (accepted_line loaded.number s.names ++ s.replies) (loaded ∷ s.made)) (sym (all_read left0 left budget new (s.lines ++ more) read failed))
-      (edits loaded present budget left0 left1 held0 held old s false more (not_closed more going) orders)
+      subst (λ (l : List (List ℕ)). Edits loaded false l (accepted_line loaded.number s.names ++ s.replies) (loaded ∷ made)) (sym (all_read left0 left budget new (s.lines ++ more) read failed))
+      (edits loaded present made budget left0 left1 held0 held old s false more (not_closed more going) orders)
 
-  pub ended : (ending : Ending) → HasEnded left0 left budget old new s.lines ending → HasEdited loaded budget left0 left held0 held ending
+  pub ended : (ending : Ending) → HasEnded left0 left budget old new s.lines ending → HasEdited loaded (loaded ∷ made) budget left0 left held0 held ending
   ended Finished e = record {
     taken = e.read.taken;
     written = accepted_line loaded.number s.names ++ s.replies;
-    versions = loaded ∷ s.made;
     consumed = e.read.consumed;
     appended = s.appended;
-    output = (s.lines ++ e.more, hears e.more e.read e.last.2 new.ended refl, edits loaded present budget left0 left1 held0 held old s true e.more (λ closed. (refl, e.last.1 closed)) e.last.0);
+    output = (s.lines ++ e.more, hears e.more e.read e.last.2 new.ended refl, edits loaded present made budget left0 left1 held0 held old s true e.more (λ closed. (refl, e.last.1 closed)) e.last.0);
     spends = λ (is : Finished ≡ Spent). cc;
   }
   ended WriteFailed e = absurd e.last
   ended ReadFailed e = record {
     taken = e.read.taken;
     written = accepted_line loaded.number s.names ++ s.replies;
-    versions = loaded ∷ s.made;
     consumed = e.read.consumed;
     appended = s.appended;
     output = so_far e.more e.read e.last.0 e.last.1 e.last.2;
@@ -222,7 +215,6 @@ module _ (loaded present : Version) (budget : ℕ) (left0 left1 left held0 held 
   ended Spent e = record {
     taken = e.read.taken;
     written = accepted_line loaded.number s.names ++ s.replies;
-    versions = loaded ∷ s.made;
     consumed = e.read.consumed;
     appended = s.appended;
     output = so_far e.more e.read e.last.0 e.last.1 e.last.2;
@@ -234,24 +226,29 @@ module _ (loaded present : Version) (budget : ℕ) (left0 left1 left held0 held 
 appended_all : {T E : Type 0} (held1 held : Option (List ℕ)) (reply : List ℕ) (v : T) → WritesAll {T = T} {E = E} held1 held reply (Ok v) → Appends held1 held reply
 appended_all held1 held reply v w = subst (λ (l : List ℕ). Appends held1 held l) (sym (w.whole ∙ ap (λ (l : List ℕ). w.front ++ l) w.all ∙ append-nil w.front)) w.appended
 
-pub turned : {T E : Type 0} (Stand : Version → Type 0) (loaded present next : Version) (budget : ℕ) (left0 left1 left held0 held1 held : Option (List ℕ)) (old new : LinesView) (s : Sofar loaded present budget left0 left1 held0 held1 old) (request : Request)
-    → HasAsked left0 left budget old new s.lines request → (reply : List ℕ) (made : Option Version) → next ≡ unwrap_or made present → RepliesToRequest present request reply made → Stand next
+-- of a fact of the present version, and of two of all versions: one that holds where the answering goes on, and one that holds always
+pub turned : {T E : Type 0} (Stand : Version → Type 0) (Shown Standing : List Version → Type 0) (loaded present : Version) (made : List Version) (budget : ℕ) (left0 left1 left held0 held1 held : Option (List ℕ)) (old new : LinesView)
+    (s : Sofar loaded present made budget left0 left1 held0 held1 old) (request : Request) → HasAsked left0 left budget old new s.lines request → (reply : List ℕ) (next : Option Version) → RepliesToRequest present request reply next
+    → Stand (unwrap_or next present) → Shown (loaded ∷ made ++ option_to_list next) → Standing (loaded ∷ made ++ option_to_list next)
     → (r : Result T E) (o : Option Ending) → o ≡ (if is_ok r then None else Some WriteFailed) → WritesAll held1 held reply r
-    → MatchOption o ((later : Version) × Stand later × Sofar loaded later budget left0 left held0 held new) (HasEdited loaded budget left0 left held0 held)
-turned {T} {E} Stand loaded present next budget left0 left1 left held0 held1 held old new s request a reply made next_is replies stand (Ok v) o is w =
-    subst (λ (o : Option Ending). MatchOption o ((later : Version) × Stand later × Sofar loaded later budget left0 left held0 held new) (HasEdited loaded budget left0 left held0 held)) (sym is)
-    (next, stand, sofar_more loaded present next budget left0 left1 left held0 held1 held old new s request a reply made next_is replies (appended_all held1 held reply v w))
-turned {T} {E} Stand loaded present next budget left0 left1 left held0 held1 held old new s request a reply made next_is replies stand (Err e) o is w =
-    subst (λ (o : Option Ending). MatchOption o ((later : Version) × Stand later × Sofar loaded later budget left0 left held0 held new) (HasEdited loaded budget left0 left held0 held)) (sym is)
-    (failed_more loaded present next budget left0 left1 left held0 held1 held old new s request a reply made next_is replies w.front w.rest w.whole w.appended)
+    → MatchOption o ((later : Version) × (all : List Version) × Stand later × Shown (loaded ∷ all) × Sofar loaded later all budget left0 left held0 held new)
+    (λ ending. (all : List Version) × Standing (loaded ∷ all) × HasEdited loaded (loaded ∷ all) budget left0 left held0 held ending)
+turned {T} {E} Stand Shown Standing loaded present made budget left0 left1 left held0 held1 held old new s request a reply next replies stand shown standing (Ok v) o is w =
+    subst (λ (o : Option Ending). MatchOption o ((later : Version) × (all : List Version) × Stand later × Shown (loaded ∷ all) × Sofar loaded later all budget left0 left held0 held new)
+    (λ ending. (all : List Version) × Standing (loaded ∷ all) × HasEdited loaded (loaded ∷ all) budget left0 left held0 held ending)) (sym is)
+    (unwrap_or next present, made ++ option_to_list next, stand, shown, sofar_more loaded present made budget left0 left1 left held0 held1 held old new s request a reply next replies (appended_all held1 held reply v w))
+turned {T} {E} Stand Shown Standing loaded present made budget left0 left1 left held0 held1 held old new s request a reply next replies stand shown standing (Err e) o is w =
+    subst (λ (o : Option Ending). MatchOption o ((later : Version) × (all : List Version) × Stand later × Shown (loaded ∷ all) × Sofar loaded later all budget left0 left held0 held new)
+    (λ ending. (all : List Version) × Standing (loaded ∷ all) × HasEdited loaded (loaded ∷ all) budget left0 left held0 held ending)) (sym is)
+    (made ++ option_to_list next, standing, failed_more loaded present made budget left0 left1 left held0 held1 held old new s request a reply next replies w.front w.rest w.whole w.appended)
 
 -- the first line, by whether it was written
 pub started : {T E : Type 0} (loaded : Version) (names : List (List ℕ)) (budget : ℕ) (left held1 held : Option (List ℕ)) (reader : LinesView) (bytes : List ℕ) (v : T) → reader ≡ at_start budget → AreNames (Defines loaded.project) names
-    → bytes ≡ accepted_line loaded.number names → WritesAll {T = T} {E = E} held1 held bytes (Ok v) → Sofar loaded loaded budget left left held1 held reader
+    → bytes ≡ accepted_line loaded.number names → WritesAll {T = T} {E = E} held1 held bytes (Ok v) → Sofar loaded loaded [] budget left left held1 held reader
 started {T} {E} loaded names budget left held1 held reader bytes v start are_names is w =
     sofar_start loaded names budget left held1 held reader start are_names (subst (λ (l : List ℕ). Appends held1 held l) is (appended_all {T = T} {E = E} held1 held bytes v w))
 
 pub not_started : {T E : Type 0} (loaded : Version) (names : List (List ℕ)) (budget : ℕ) (left held1 held : Option (List ℕ)) (reader : LinesView) (bytes : List ℕ) (e : E) → reader ≡ at_start budget → AreNames (Defines loaded.project) names
-    → bytes ≡ accepted_line loaded.number names → WritesAll {T = T} {E = E} held1 held bytes (Err e) → HasEdited loaded budget left left held1 held WriteFailed
+    → bytes ≡ accepted_line loaded.number names → WritesAll {T = T} {E = E} held1 held bytes (Err e) → HasEdited loaded (loaded ∷ []) budget left left held1 held WriteFailed
 not_started {T} {E} loaded names budget left held1 held reader bytes e start are_names is w =
     failed_start loaded names budget left held1 held reader w.front w.rest start are_names (sym is ∙ w.whole) w.appended

@@ -1,26 +1,12 @@
 -- The word of a command is no longer than its line.
-use Rattle.std.proofs.Common.{◌≡◌, ℕ, ◌<◌, ◌≤◌, ◌==◌, Bool, true, false, List, [], ◌∷◌, length, ◌⊎◌, inl, inr, ap, arith, length-append, if◌then◌else◌}
+use Rattle.std.proofs.Common.{ℕ, ◌<◌, ◌≤◌, List, ◌∷◌, length, ap, arith, length-append}
 use Rattle.fsm_io.specs.Lines.{most_line}
-use Rattle.reply_meaning.specs.Replies.{without_last, without_return}
-use Rattle.edit_script.specs.Commands.{IsCommand, IsNetAndWord, Orders, SpellsCommand, ends, orders, spaced}
+use Rattle.reply_meaning.specs.Replies.{without_return}
+use Rattle.edit_script.specs.Commands.{IsCommand, Orders, SpellsCommand, ends, orders}
 use Rattle.edit_script.specs.declared.commands.EditCommand.{EditCommand}
 use Rattle.edit_script.specs.declared.commands.EditCommand.TheVariants as commands
+use Rattle.project_versions.proofs.Shortness.{no_longer, short_word}
 use Rattle.editor_session.specs.Reading.{IsShortCommand}
-
-no_longer : (last : ℕ) (bytes : List ℕ) → length (without_last last bytes) ≤ length bytes
-no_longer last [] = omega arith
-no_longer last (b ∷ []) = at (b == last) where
-  at : (t : Bool) → length (if t then [] else b ∷ []) ≤ 1
-  at true = omega arith
-  at false = omega arith
-no_longer last (b ∷ c ∷ bytes) = omega (arith, no_longer last (c ∷ bytes))
-
-short_word : (net word rest : List ℕ) → IsNetAndWord net word rest → length word ≤ length rest
-short_word net word rest h = by h.words
-  where
-    by : ((rest ≡ spaced net word) ⊎ ((word ≡ []) × (rest ≡ net))) → length word ≤ length rest
-    by (inl is) = omega (arith, ap length is, length-append net (32 ∷ word))
-    by (inr is) = omega (arith, ap length is.0)
 
 short_order : (keyword rest : List ℕ) (command : EditCommand) → length rest ≤ most_line → Orders keyword rest command → IsShortCommand command
 short_order keyword rest (commands.Put file n) short h = tt

@@ -2,3 +2,4 @@ pub mod Sessions
 pub mod Replying
 pub mod Reading
 pub mod Running
+pub mod Publishing

@@ -1,5 +1,5 @@
 -- What was read and written so far while the commands of an input are answered.
-use Rattle.std.specs.Prelude.{◌++◌, ℕ, List, Option}
+use Rattle.std.specs.Prelude.{◌≡◌, ◌++◌, ℕ, List, Option}
 use Rattle.std.specs.Io.KnownBytes.{Appends}
 use Rattle.fsm_io.specs.Reading.{LinesView}
 use Rattle.project_meaning.specs.Projects.{Defines}
@@ -16,15 +16,18 @@ abbrev pub AreRepliesSofar : Version → List Order → List ℕ → List Versio
 AreRepliesSofar loaded orders bytes made present =
     (later : List Order) (rest : List ℕ) (more : List Version) → AreReplies all_readers rows_so_far present later rest more → AreReplies all_readers rows_so_far loaded (orders ++ later) (bytes ++ rest) (made ++ more)
 
--- every command so far has its reply, and these are written behind the first line
-pub record Sofar (loaded present : Version) (budget : ℕ) (left0 left held0 held : Option (List ℕ)) (reader : LinesView) : Type 0 where
+-- every command so far has its reply, and these are written behind the first line; they made these versions
+pub record Sofar (loaded present : Version) (made : List Version) (budget : ℕ) (left0 left held0 held : Option (List ℕ)) (reader : LinesView) : Type 0 where
   pub lines : List (List ℕ)
   pub orders : List Order
   pub names : List (List ℕ)
   pub replies : List ℕ
-  pub made : List Version
   pub heard : HasHeard left0 left budget reader lines
   pub says : Say reader.ended lines orders
   pub are_names : AreNames (Defines loaded.project) names
   pub are_replies : AreRepliesSofar loaded orders replies made present
   pub appended : Appends held0 held (accepted_line loaded.number names ++ replies)
+
+-- the first line of an editor's output: that this version is loaded, with all its names
+abbrev pub IsLoadedLine : Version → List ℕ → Type 0
+IsLoadedLine loaded bytes = (names : List (List ℕ)) × AreNames (Defines loaded.project) names × (bytes ≡ accepted_line loaded.number names)

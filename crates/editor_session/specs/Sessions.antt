@@ -50,11 +50,10 @@ IsWritten loaded WriteFailed left taken written versions = IsCutShort loaded tak
 IsWritten loaded ReadFailed left taken written versions = Edits loaded false (raw_lines false taken) written versions
 IsWritten loaded Spent left taken written versions = Edits loaded false (raw_lines false taken) written versions
 
--- the bytes taken from the input, and what the output got for them
-pub record HasEdited (loaded : Version) (budget : ℕ) (left0 left held0 held : Option (List ℕ)) (ending : Ending) : Type 0 where
+-- the bytes taken from the input, what the output got for them, and the versions from the loaded one on
+pub record HasEdited (loaded : Version) (versions : List Version) (budget : ℕ) (left0 left held0 held : Option (List ℕ)) (ending : Ending) : Type 0 where
   pub taken : List ℕ
   pub written : List ℕ
-  pub versions : List Version
   pub consumed : Consumes left0 left taken
   pub appended : Appends held0 held written
   pub output : IsWritten loaded ending left taken written versions

@@ -2,7 +2,8 @@
 //! Read `specs/Sessions.antt` first: what the output got, by how the answering ended. What commands are replied is said by
 //! editor_meaning.
 //!
-//! - [`edit_session`]: answers all commands of an input.
+//! - [`EditorSession`]: answers all commands of an input, and publishes the version that each accepted edit makes on a board.
+//! - [`loaded_line`]: the first line of the output.
 //!
 //! Inside, `payload` reads the lines that follow a command, `request` reads a command with them, `reply` makes its reply and the
 //! version that it leaves, and `session` goes from command to command.
@@ -13,4 +14,4 @@ mod reply;
 mod request;
 mod session;
 
-pub use session::edit_session;
+pub use session::{EditorSession, loaded_line};

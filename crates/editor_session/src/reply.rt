@@ -1,5 +1,6 @@
-ghost use Rattle.std.specs.Prelude.{◌≡◌, ◌≤◌, ℕ, List, Option, length, IfOk};
-ghost use Rattle.std.specs.Option.{unwrap_or};
+ghost use Rattle.std.specs.Prelude.{◌≡◌, ◌≤◌, ◌+◌, ◌++◌, ◌∷◌, [], ℕ, List, Option, length, OnOk, OnErr};
+ghost use Rattle.std.specs.Arc.{arc_value};
+ghost use Rattle.std.specs.Option.{option_to_list, unwrap_or};
 ghost use Rattle.fsm_base.specs.Normal.{nfc_of};
 ghost use Rattle.fsm_io.specs.Causes.{HasCause};
 ghost use Rattle.fsm_io.specs.Lines.{most_line};
@@ -9,18 +10,22 @@ ghost use Rattle.project_sources.specs.Edits.{Version as Meant};
 ghost use Rattle.project_sources.specs.Faults.{rows_so_far};
 ghost use Rattle.project_sources.specs.Laws.{all_readers};
 ghost use Rattle.project_versions.specs.Versions.{Stands};
+ghost use Rattle.publish_board.specs.Published.{published};
 ghost use Rattle.editor_meaning.specs.Editing.{RepliesToEdit};
 ghost use Rattle.reply_meaning.specs.Replies.{RepliesToWord, headed, line_of};
+ghost use Rattle.editor_session.specs.Publishing.{ArePublished};
 ghost use Rattle.editor_session.specs.Replying.{IsShort, RepliesToRequest, bytes_of, edit_reply};
 
 use crate::request::Request;
-use fsm_base::{Text, nfc};
+use fsm_base::Text;
 use fsm_io::{Failed, Sink, write_all};
 use lookup_answers::Direction;
 use project_edits::Edit;
-use project_versions::{EditError, Version, edit};
+use project_versions::{EditError, Version, edit, reply_to_word};
+use publish_board::Editor;
 use reply_text::{Head, accepted, refused, short};
 use std::alloc::{AllocError, Global};
+use std::sync::{Arc, Wait};
 
 /// A reply.
 #[derive(Drop)]
@@ -74,37 +79,53 @@ fn reply_to_error(alloc: Global, error: EditError) -> Reply
     }
 }
 
-/// The reply to an edit. The version that it makes stands in the place of the one before, which else stays.
-fn reply_to_edit(alloc: Global, version: &mut Version, change: &Edit) -> Reply
-    ensures { (present : Meant) → Stands version.old present → (next : Meant) × (new : Option Meant) × Stands version.new next × (next ≡ unwrap_or new present)
+/// Publishes the next version, which stands in the place of the one before then.
+///
+/// # Errors
+///
+/// Where there was no memory. Then nothing was published, and the version stays.
+fn publish<R: Wait>(
+    rt: &R,
+    alloc: Global,
+    editor: &mut Editor<Version>,
+    version: &mut Arc<Version>,
+    next: Version,
+) -> Result<(), AllocError>
+    requires number { next.number ≡ length editor.old.values + 1 }
+    ensures published { OnOk result ((editor.new ≡ published editor.old.board (editor.old.values ++ next ∷ [])) × (arc_value version.new ≡ next)) }
+    ensures none { OnErr result ((editor.new ≡ editor.old) × (version.new ≡ version.old)) }
+{
+    let next = Arc::new(alloc, next)?;
+    editor.release(rt, Arc::try_clone(&next)?)?;
+    *version = next;
+    Ok(())
+}
+
+/// The reply to an edit. The version that it makes is published, and stands in the place of the one before, which else stays.
+fn reply_to_edit<R: Wait>(
+    rt: &R,
+    alloc: Global,
+    editor: &mut Editor<Version>,
+    version: &mut Arc<Version>,
+    change: &Edit,
+) -> Reply
+    requires number { (arc_value version.old).number ≡ length editor.old.values }
+    ensures replies { (present : Meant) (versions : List Meant) → Stands (arc_value version.old) present → ArePublished editor.old.values versions (arc_value version.old)
+        → (new : Option Meant) × Stands (arc_value version.new) (unwrap_or new present) × ArePublished editor.new.values (versions ++ option_to_list new) (arc_value version.new)
         × RepliesToEdit all_readers rows_so_far present (edit_of change.now) (bytes_of result) new }
+    ensures board { editor.new.board ≡ editor.old.board }
+    ensures number { (arc_value version.new).number ≡ length editor.new.values }
 {
     match edit(alloc, version, change) {
         Ok(edited) => match accepted(alloc, edited.version.number(), &edited.rebuilt) {
-            Ok(bytes) => {
-                *version = edited.version;
-                Reply::Bytes(bytes)
-            }
+            Ok(bytes) => match publish(rt, alloc, editor, version, edited.version) {
+                Ok(()) => Reply::Bytes(bytes),
+                Err(_) => Reply::Memory,
+            },
             Err(_) => Reply::Memory,
         },
         Err(error) => reply_to_error(alloc, error),
     }
-}
-
-/// The reply to a word that is looked up in a name. Both are put into Normalization Form C first.
-fn reply_to_word(
-    alloc: Global,
-    version: &Version,
-    direction: Direction,
-    net: &str,
-    word: &str,
-) -> Result<Vec<u8>, AllocError>
-    requires { length word.now ≤ most_line }
-    ensures { (present : Meant) → Stands version.now present → IfOk result (λ bytes. RepliesToWord present.project direction present.number (nfc_of net.now) (nfc_of word.now) bytes.items) }
-{
-    let net = nfc(alloc, net)?;
-    let word = nfc(alloc, word)?;
-    version.reply_to(alloc, direction, net.as_str(), word.as_str())
 }
 
 /// The reply to a look-up, where want of memory is a reply too.
@@ -124,14 +145,25 @@ fn reply_to_look_up(
     }
 }
 
-/// The reply to a request at the present version. The version that it makes, if it makes one, is the present one then.
-pub fn reply_to(alloc: Global, version: &mut Version, request: &Request) -> Reply
-    requires { IsShort request.now }
-    ensures { (present : Meant) → Stands version.old present → (next : Meant) × (new : Option Meant) × Stands version.new next × (next ≡ unwrap_or new present)
+/// The reply to a request at the present version. The version that it makes, if it makes one, is published and is the present one
+/// then.
+pub fn reply_to<R: Wait>(
+    rt: &R,
+    alloc: Global,
+    editor: &mut Editor<Version>,
+    version: &mut Arc<Version>,
+    request: &Request,
+) -> Reply
+    requires short { IsShort request.now }
+    requires number { (arc_value version.old).number ≡ length editor.old.values }
+    ensures replies { (present : Meant) (versions : List Meant) → Stands (arc_value version.old) present → ArePublished editor.old.values versions (arc_value version.old)
+        → (new : Option Meant) × Stands (arc_value version.new) (unwrap_or new present) × ArePublished editor.new.values (versions ++ option_to_list new) (arc_value version.new)
         × RepliesToRequest present request.now (bytes_of result) new }
+    ensures board { editor.new.board ≡ editor.old.board }
+    ensures number { (arc_value version.new).number ≡ length editor.new.values }
 {
     match request {
-        Request::Edit(change) => reply_to_edit(alloc, version, change),
+        Request::Edit(change) => reply_to_edit(rt, alloc, editor, version, change),
         Request::LookUp {
             direction,
             net,

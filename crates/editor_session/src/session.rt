@@ -1,21 +1,22 @@
-ghost use Rattle.std.specs.Prelude.{◌≡◌, ◌≤◌, ◌<◌, ℕ, List, Option, Some, None, Ok, IfOk, IfNone, OnErr, MatchOption, is_ok, if◌then◌else◌};
+ghost use Rattle.std.specs.Prelude.{◌≡◌, ◌≤◌, ◌<◌, ◌∷◌, [], ℕ, List, Option, Some, None, IfOk, IfNone, MatchOption, is_ok, if◌then◌else◌, length};
+ghost use Rattle.std.specs.Arc.{arc_value};
 ghost use Rattle.fsm_io.specs.Causes.{Rose};
 ghost use Rattle.fsm_io.specs.Reading.{at_start, size_of};
-ghost use Rattle.editor_meaning.specs.Editing.{AreNames};
-ghost use Rattle.project_meaning.specs.Projects.{Defines};
 ghost use Rattle.project_sources.specs.Edits.{Version as Meant};
 ghost use Rattle.project_versions.specs.Versions.{Stands};
-ghost use Rattle.reply_text.specs.Projects.{accepted_line};
 ghost use Rattle.editor_session.specs.Sessions.{HasEdited};
-ghost use Rattle.editor_session.specs.Running.{Sofar};
+ghost use Rattle.editor_session.specs.Publishing.{ArePublished, AreStanding};
+ghost use Rattle.editor_session.specs.Running.{IsLoadedLine, Sofar};
 
 use crate::reply::reply_to;
 use crate::request::{Next, next_request};
 use fsm_io::{Failed, Lines, Sink, Source, write_all};
 use project_versions::Version;
+use publish_board::Editor;
 use reply_meaning::Ending;
 use reply_text::accepted;
 use std::alloc::{AllocError, Global};
+use std::sync::{Arc, Wait};
 
 /// How a reply that was written, or wasn't, ends the answering.
 fn ending_of(written: Result<(), Failed>) -> Option<Ending>
@@ -27,28 +28,33 @@ fn ending_of(written: Result<(), Failed>) -> Option<Ending>
     }
 }
 
-/// An editor's session.
+/// An editor's session: its present version, which is the last one that is published, and the lines of its input.
 #[derive(Drop)]
-struct Session {
+pub struct EditorSession {
     /// The present version.
-    version: Version,
+    pub version: Arc<Version>,
     /// The lines of the input.
-    lines: Lines,
+    pub lines: Lines,
 }
 
-impl Session {
+impl EditorSession {
     /// Answers the next command, or says how the answering ended.
-    fn turn<I: Source, O: Sink>(
+    fn turn<I: Source, O: Sink, R: Wait>(
         &mut self,
+        rt: &R,
         alloc: Global,
+        editor: &mut Editor<Version>,
         input: &mut I,
         output: &mut O,
     ) -> Option<Ending>
-        ensures turns { (loaded present : Meant) (budget : ℕ) (left0 held0 : Option (List ℕ)) → Stands self.old.version present
-            → Sofar loaded present budget left0 (I.left input.old) held0 (O.held output.old) self.old.lines
+        requires number { (arc_value self.old.version).number ≡ length editor.old.values }
+        ensures turns { (loaded present : Meant) (made : List Meant) (budget : ℕ) (left0 held0 : Option (List ℕ)) → Stands (arc_value self.old.version) present → ArePublished editor.old.values (loaded ∷ made) (arc_value self.old.version)
+            → Sofar loaded present made budget left0 (I.left input.old) held0 (O.held output.old) self.old.lines
             → MatchOption result
-            ((next : Meant) × Stands self.new.version next × Sofar loaded next budget left0 (I.left input.new) held0 (O.held output.new) self.new.lines)
-            (HasEdited loaded budget left0 (I.left input.new) held0 (O.held output.new)) }
+            ((next : Meant) × (all : List Meant) × Stands (arc_value self.new.version) next × ArePublished editor.new.values (loaded ∷ all) (arc_value self.new.version) × Sofar loaded next all budget left0 (I.left input.new) held0 (O.held output.new) self.new.lines)
+            (λ ending. (all : List Meant) × AreStanding editor.new.values (loaded ∷ all) × HasEdited loaded (loaded ∷ all) budget left0 (I.left input.new) held0 (O.held output.new) ending) }
+        ensures board { editor.new.board ≡ editor.old.board }
+        ensures number { (arc_value self.new.version).number ≡ length editor.new.values }
         ensures progress { IfNone result (size_of self.new.lines < size_of self.old.lines) }
         ensures read { result ≡ Some Ending.ReadFailed → Rose (I.faults input.old) (I.faults input.new) }
         ensures write { result ≡ Some Ending.WriteFailed → Rose (O.faults output.old) (O.faults output.new) }
@@ -57,7 +63,7 @@ impl Session {
     {
         match next_request(alloc, &mut self.lines, input) {
             Next::Asks(request) => {
-                let reply = reply_to(alloc, &mut self.version, &request);
+                let reply = reply_to(rt, alloc, editor, &mut self.version, &request);
                 ending_of(reply.write(output))
             }
             Next::Ends(ending) => Some(ending),
@@ -65,64 +71,64 @@ impl Session {
     }
 
     /// Answers all commands.
-    fn answer_all<I: Source, O: Sink>(
-        mut self,
+    fn answer_all<I: Source, O: Sink, R: Wait>(
+        &mut self,
+        rt: &R,
         alloc: Global,
+        editor: &mut Editor<Version>,
         input: &mut I,
         output: &mut O,
     ) -> Ending
-        ensures edited { (loaded present : Meant) (budget : ℕ) (left0 held0 : Option (List ℕ)) → Stands self.version present
-            → Sofar loaded present budget left0 (I.left input.old) held0 (O.held output.old) self.lines
-            → HasEdited loaded budget left0 (I.left input.new) held0 (O.held output.new) result }
+        requires number { (arc_value self.old.version).number ≡ length editor.old.values }
+        ensures edited { (loaded present : Meant) (made : List Meant) (budget : ℕ) (left0 held0 : Option (List ℕ)) → Stands (arc_value self.old.version) present → ArePublished editor.old.values (loaded ∷ made) (arc_value self.old.version)
+            → Sofar loaded present made budget left0 (I.left input.old) held0 (O.held output.old) self.old.lines
+            → (all : List Meant) × AreStanding editor.new.values (loaded ∷ all) × HasEdited loaded (loaded ∷ all) budget left0 (I.left input.new) held0 (O.held output.new) result }
+        ensures board { editor.new.board ≡ editor.old.board }
         ensures read { result ≡ Ending.ReadFailed → Rose (I.faults input.old) (I.faults input.new) }
         ensures write { result ≡ Ending.WriteFailed → Rose (O.faults output.old) (O.faults output.new) }
         ensures later_input { I.faults input.old ≤ I.faults input.new }
         ensures later_output { O.faults output.old ≤ O.faults output.new }
     {
         'commands: loop {
-            if let Some(ending) = self.turn(alloc, input, output) {
+            if let Some(ending) = self.turn(rt, alloc, editor, input, output) {
                 return ending;
             }
         }
     }
+
+    /// Writes the first line, which says that the version is loaded, and answers the commands of the input, one after another,
+    /// until `end` or the end of the input. Each accepted edit is published before its reply is written, and each reply is written
+    /// before the next command is read. After a failed write no further command is read. It may wait as the editor does.
+    pub fn answer<I: Source, O: Sink, R: Wait>(
+        &mut self,
+        rt: &R,
+        alloc: Global,
+        line: &[u8],
+        editor: &mut Editor<Version>,
+        input: &mut I,
+        output: &mut O,
+    ) -> Ending
+        requires start { self.old.lines ≡ at_start self.old.lines.budget }
+        requires number { (arc_value self.old.version).number ≡ length editor.old.values }
+        ensures edited { (loaded : Meant) → ArePublished editor.old.values (loaded ∷ []) (arc_value self.old.version) → IsLoadedLine loaded line.now
+            → (made : List Meant) × AreStanding editor.new.values (loaded ∷ made) × HasEdited loaded (loaded ∷ made) self.old.lines.budget (I.left input.old) (I.left input.new) (O.held output.old) (O.held output.new) result }
+        ensures board { editor.new.board ≡ editor.old.board }
+        ensures read { result ≡ Ending.ReadFailed → Rose (I.faults input.old) (I.faults input.new) }
+        ensures write { result ≡ Ending.WriteFailed → Rose (O.faults output.old) (O.faults output.new) }
+        ensures later_input { I.faults input.old ≤ I.faults input.new }
+        ensures later_output { O.faults output.old ≤ O.faults output.new }
+    {
+        match write_all(output, line) {
+            Ok(()) => self.answer_all(rt, alloc, editor, input, output),
+            Err(Failed) => Ending::WriteFailed,
+        }
+    }
 }
 
-/// That a version is loaded, with all its names.
-fn loaded_line(alloc: Global, version: &Version) -> Result<Vec<u8>, AllocError>
-    ensures { (loaded : Meant) → Stands version.now loaded → IfOk result (λ bytes. (names : List (List ℕ)) × AreNames (Defines loaded.project) names × (bytes.items ≡ accepted_line loaded.number names)) }
+/// The first line: that a version is loaded, with all its names.
+pub fn loaded_line(alloc: Global, version: &Version) -> Result<Vec<u8>, AllocError>
+    ensures { (loaded : Meant) → Stands version.now loaded → IfOk result (λ bytes. IsLoadedLine loaded bytes.items) }
 {
     let names = version.names(alloc)?;
     accepted(alloc, version.number(), &names)
-}
-
-/// Writes that the version is loaded, and answers the commands of the input, one after another, until `end` or the end of the
-/// input. Each reply is written before the next command is read. After a failed write no further command is read.
-///
-/// # Errors
-///
-/// Where there was no memory for the first line. Then nothing was read and nothing written.
-pub fn edit_session<I: Source, O: Sink>(
-    alloc: Global,
-    version: Version,
-    lines: Lines,
-    input: &mut I,
-    output: &mut O,
-) -> Result<Ending, AllocError>
-    requires { lines ≡ at_start lines.budget }
-    ensures edited { (loaded : Meant) → Stands version loaded
-        → IfOk result (HasEdited loaded lines.budget (I.left input.old) (I.left input.new) (O.held output.old) (O.held output.new)) }
-    ensures none { OnErr result ((input.new ≡ input.old) × (output.new ≡ output.old)) }
-    ensures read { result ≡ Ok Ending.ReadFailed → Rose (I.faults input.old) (I.faults input.new) }
-    ensures write { result ≡ Ok Ending.WriteFailed → Rose (O.faults output.old) (O.faults output.new) }
-    ensures later_input { I.faults input.old ≤ I.faults input.new }
-    ensures later_output { O.faults output.old ≤ O.faults output.new }
-{
-    let line = loaded_line(alloc, &version)?;
-    match write_all(output, &line) {
-        Ok(()) => {
-            let session = Session { version, lines };
-            Ok(session.answer_all(alloc, input, output))
-        }
-        Err(Failed) => Ok(Ending::WriteFailed),
-    }
 }

@@ -1,8 +1,10 @@
+pub mod Beside
 pub mod Endings
 pub mod LastByte
 pub mod Loading
 pub mod Gathering
 pub mod Runs
 pub mod Sending
+pub mod Stems
 pub mod Tasks
 pub mod Unread

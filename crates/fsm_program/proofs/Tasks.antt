@@ -1,5 +1,5 @@
 -- Replies to a line that are lawful whatever is done with lines.
-use Rattle.std.proofs.Common.{◌≡◌, ℕ, List, None, Some, codes}
+use Rattle.std.proofs.Common.{ℕ, List, None, Some, codes}
 use Rattle.interlinear.specs.Glosses.{Entry}
 use Rattle.interlinear.specs.Replies.{glossed_line, no_text}
 use Rattle.interlinear.specs.Replies.{long as long_text, no_memory as no_memory_for}

@@ -7,3 +7,4 @@ pub mod Gathered
 pub mod Outside
 pub mod Serving
 pub mod Ends
+pub mod Beside

@@ -1,7 +1,7 @@
 -- What was read and written so far while the lines of an input are answered.
 use Rattle.std.specs.Prelude.{◌≡◌, ◌⊎◌, ◌≤◌, ◌++◌, ◌^◌, ℕ, true, false, List, [], length, Option, None, Some, Contains, Result, Ok, Err}
 use Rattle.fsm_io.specs.declared.source.Failed.{Failed}
-use Rattle.std.specs.Io.KnownBytes.{Appends}
+use Rattle.std.specs.Io.KnownBytes.{Appends, Consumes}
 use Rattle.fsm_io.specs.Buffers.{most_ahead}
 use Rattle.fsm_io.specs.Reading.{LinesView, HasTold}
 use Rattle.reply_meaning.specs.Transcripts.{IsTranscript, HasAnswered}
@@ -42,3 +42,7 @@ flushed Spent = Ok tt
 -- the greatest number of bytes taken from one source in a run
 unfoldable pub most_taken : ℕ
 most_taken = 2 ^ 40
+
+-- as many bytes were taken as are taken of one source in a run
+abbrev pub HasSpent : Option (List ℕ) → Option (List ℕ) → Type 0
+HasSpent left0 left = (taken : List ℕ) × Consumes left0 left taken × (length taken ≡ most_taken)

@@ -1,4 +1,5 @@
-ghost use Rattle.std.specs.Prelude.{◌≡◌, ◌≤◌, ℕ, List, All, Contains, None, Ok, MatchOption, IfOk, IfErr};
+ghost use Rattle.std.specs.Prelude.{◌≡◌, ◌≤◌, ℕ, List, All, Contains, None, Ok, MatchOption, IfOk, IfErr, OnOk};
+ghost use Rattle.fsm_io.specs.Causes.{Rose};
 ghost use Rattle.fsm_io.specs.Folders.{Finds, HasAsked, Told, file_of};
 ghost use Rattle.fsm_program.specs.Files.{AskedForFiles, AsksForFront, IsLoadError, IsLoaded, IsReadError, most_read};
 ghost use Rattle.fsm_program.specs.Gathered.{HasAdded, IsGathered, IsSeen, SourcesDeclare};
@@ -8,6 +9,7 @@ ghost use Rattle.project_model.specs.Answers.{IsManifestFile};
 ghost use Rattle.project_sources.specs.Edits.{Version as Meant};
 ghost use Rattle.project_store.specs.Projects.{Reads};
 ghost use Rattle.project_versions.specs.Versions.{Stands};
+ghost use Rattle.reply_meaning.specs.Transcripts.{first_version};
 ghost use Rattle.word_relations.specs.Words.{IsDistinct};
 
 use fsm_base::Text;
@@ -191,6 +193,8 @@ pub fn load_version<F: Folder>(
 ) -> Result<Version, LoadError>
     requires { most ≡ most_read }
     ensures loaded { IfOk result (λ version. (meant : Meant) × Stands version meant × (Told (F.files folder.old) (λ files. Reads files (Ok meant.project)) × Told (F.files folder.old) (IsFirstVersion meant))) }
+    ensures first { IfOk result (λ version. version.number ≡ first_version) }
+    ensures whole { OnOk result (¬ (Rose (F.faults folder.old) (F.faults folder.new))) }
     ensures error { IfErr result (λ error. IsLoadError error (F.files folder.old) (F.faults folder.old) (F.faults folder.new)) }
     ensures asked { AskedForFiles (F.files folder.old) (F.asked folder.old) (F.asked folder.new) }
     ensures later { F.faults folder.old ≤ F.faults folder.new }

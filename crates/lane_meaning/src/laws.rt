@@ -1,4 +1,4 @@
-ghost use Rattle.lane_meaning.specs.Laws.{LaneGrows, NumbersNeverFall};
+ghost use Rattle.lane_meaning.specs.Laws.{EntersForEach, LaneGrows, NumbersNeverFall};
 
 use crate::replying::Replying;
 
@@ -10,4 +10,9 @@ pub fn lane_grows<V: Replying>()
 /// The numbers of a lane's replies never fall.
 pub fn numbers_never_fall<V: Replying>()
     ensures { NumbersNeverFall V.replies }
+{}
+
+/// The seat of a lane entered for each of its lines before the first mark.
+pub fn enters_for_each<V: Replying>()
+    ensures { EntersForEach V.replies }
 {}

@@ -1,5 +1,5 @@
 -- How what was read and written so far grows from line to line, and what it is at the end.
-use Rattle.std.proofs.Common.{◌≡◌, ◌≤◌, ◌⊎◌, ◌+◌, ◌++◌, ◌∷◌, [], ℕ, true, false, inl, List, Option, None, Some, Result, Ok, Err, is_ok, if◌then◌else◌, refl, sym, ap, subst, ◌∙◌, append_assoc, append-nil, length, length-append, arith}
+use Rattle.std.proofs.Common.{◌≡◌, ◌≤◌, ◌⊎◌, ◌+◌, ◌-◌, ◌^◌, ◌++◌, min, ◌∷◌, [], ℕ, true, false, inl, List, Option, None, Some, Result, Ok, Err, is_ok, if◌then◌else◌, refl, sym, ap, subst, ◌∙◌, append_assoc, append-nil, length, length-append, arith}
 use Rattle.std.specs.Io.KnownBytes.{Appends}
 use mathlib.Core.List.{IsPrefix}
 use Rattle.fsm_io.specs.Buffers.{most_ahead}
@@ -9,9 +9,10 @@ use Rattle.fsm_io.proofs.Streams.{told_all, told_behind, told_so_far, told_start
 use Rattle.reply_meaning.specs.Transcripts.{HasAnswered, IsTranscript}
 use Rattle.reply_meaning.specs.declared.ending.Ending.{Ending}
 use Rattle.reply_meaning.specs.declared.ending.Ending.TheVariants.{Finished, WriteFailed, ReadFailed, Spent}
-use Rattle.lane_meaning.specs.Lanes.{Answers, AnswersBeside, HasLane, HasNumber, IsMark, Place, beside, behind, start}
+use Rattle.lane_meaning.specs.Lanes.{Answers, HasEnteredFor, HasLane, HasNumber, IsMark, Place, beside, behind, start}
 use Rattle.lane_meaning.proofs.Growing.{lane_more, step_beside_more, step_more, transcript_by}
-use Rattle.lane_session.specs.Running.{HasStopped, IsBehind, IsBeside, IsRest, Sofar, TurnsBehind, TurnsBeside}
+use Rattle.publish_board.specs.Boards.{Seated}
+use Rattle.lane_session.specs.Running.{HasStopped, IsBehind, IsBeside, IsRest, Sofar, StepsBeside, TurnsBehind, TurnsBeside}
 use Rattle.lane_session.specs.Sending.{AnswersLine, RepliesBeside, Sends}
 use Rattle.lane_session.specs.declared.session.Stop.{Stop}
 use Rattle.lane_session.specs.declared.session.Stop.TheVariants.{Marked, Ended}
@@ -136,58 +137,81 @@ sofar_by A B more place budget left0 left held0 held reader s = record {
 
 -- ---- beside the publishing
 
+-- the count of a seat that entered once more is of the lines before and of one more
+still_entered : (before now : ℕ) → now ≡ min (before + 1) (2 ^ 64 - 1) → (lines : ℕ) → HasEnteredFor lines before → HasEnteredFor lines now
+still_entered before now is lines h = omega (arith, is, h)
+
+entered_again : (before now : ℕ) → now ≡ min (before + 1) (2 ^ 64 - 1) → (lines : ℕ) → HasEnteredFor lines before → HasEnteredFor (lines + 1) now
+entered_again before now is lines h = omega (arith, is, h)
+
 module _ {V : Type 0} (Replies : V → Option (List ℕ) → List ℕ → Type 0) where
-  pub beside_start : (values : List V) (budget : ℕ) (left held : Option (List ℕ)) (reader : LinesView) → reader ≡ at_start budget → IsBeside Replies values budget left left held held reader
-  beside_start values budget left held reader begins = record { seen = 0; published = omega arith; sofar = sofar_start (AnswersBeside Replies values) budget left held reader begins }
+  pub beside_start : (seat : Seated V) (budget : ℕ) (left held : Option (List ℕ)) (reader : LinesView) → reader ≡ at_start budget → IsBeside Replies seat budget left left held held reader
+  beside_start seat budget left held reader begins =
+      record { seen = 0; answered = 0; published = omega arith; entered_for = omega arith; sofar = sofar_start (StepsBeside Replies seat) budget left held reader begins }
 
   prefix_length : (before values : List V) → IsPrefix before values → length before ≤ length values
   prefix_length before values p = omega (arith, ap length p.1, length-append before p.0)
 
-  module _ (before values : List V) (budget : ℕ) (left0 left1 left held0 held1 held : Option (List ℕ)) (old new : LinesView) (s : IsBeside Replies before budget left0 left1 held0 held1 old) where
+  module _ (before now : Seated V) (budget : ℕ) (left0 left1 left held0 held1 held : Option (List ℕ)) (old new : LinesView) (s : IsBeside Replies before budget left0 left1 held0 held1 old) where
     -- the next line's reply is lawful over the values that there are then
-    module _ (line : Option (List ℕ)) (r : RepliesBeside Replies before values line) where
-      abbrev lifted : Sofar (AnswersBeside Replies values) (beside s.seen) budget left0 left1 held0 held1 old
-      lifted = sofar_by (AnswersBeside Replies before) (AnswersBeside Replies values) (step_beside_more Replies before values r.goes_on) (beside s.seen) budget left0 left1 held0 held1 old s.sofar
+    module _ (line : Option (List ℕ)) (r : RepliesBeside Replies before now line) where
+      abbrev lifted : Sofar (StepsBeside Replies now) (beside s.seen s.answered) budget left0 left1 held0 held1 old
+      lifted = sofar_by (StepsBeside Replies before) (StepsBeside Replies now)
+          (step_beside_more Replies before.values now.values r.enters.goes_on before.entered now.entered (still_entered before.entered now.entered r.enters.entered)) (beside s.seen s.answered) budget left0 left1 held0 held1 old s.sofar
 
-      step : AnswersBeside Replies values (beside s.seen) line r.reply (beside (length values))
-      step = (r.value, r.unmarked, omega (arith, s.published, prefix_length before values r.goes_on), r.has, r.lawful)
+      step : StepsBeside Replies now (beside s.seen s.answered) line r.reply (beside (length now.values) (s.answered + 1))
+      step = record {
+        value = r.value;
+        unmarked = r.unmarked;
+        later = omega (arith, s.published, prefix_length before.values now.values r.enters.goes_on);
+        counted = refl;
+        entered_for = entered_again before.entered now.entered r.enters.entered s.answered s.entered_for;
+        has = r.has;
+        lawful = r.lawful;
+      }
 
     module _ (line : Option (List ℕ)) (told : HasTold left0 left budget new (s.sofar.lines ++ line ∷ [])) (settled : (new.begun ≡ []) ⊎ (new.ahead ≡ [])) (few : length new.ahead ≤ most_ahead) where
-      marked : IsMark line → values ≡ before → held ≡ held1 → IsBehind Replies values budget left0 left held0 held new
+      marked : IsMark line → now ≡ before → held ≡ held1 → IsBehind Replies now budget left0 left held0 held new
       marked is same written =
-          subst (λ (l : List V). IsBehind Replies l budget left0 left held0 held new) (sym same)
-          (sofar_more (AnswersBeside Replies before) budget left0 left1 left held0 held1 held old new (beside s.seen) behind s.sofar line told settled few [] (is, refl) (subst (λ (h : Option (List ℕ)). Appends held1 h []) (sym written) (appends_none held1)))
+          subst (λ (seat : Seated V). IsBehind Replies seat budget left0 left held0 held new) (sym same)
+          (sofar_more (StepsBeside Replies before) budget left0 left1 left held0 held1 held old new (beside s.seen s.answered) behind s.sofar line told settled few [] (is, refl) (subst (λ (h : Option (List ℕ)). Appends held1 h []) (sym written) (appends_none held1)))
 
-      pub turned : (stop : Option Stop) → AnswersLine Replies before values line held1 held stop → TurnsBeside Replies values budget left0 left held0 held new stop
+      pub turned : (stop : Option Stop) → AnswersLine Replies before now line held1 held stop → TurnsBeside Replies now budget left0 left held0 held new stop
       turned None (r, appended) = record {
-        seen = length values;
+        seen = length now.values;
+        answered = s.answered + 1;
         published = omega arith;
-        sofar = sofar_more (AnswersBeside Replies values) budget left0 left1 left held0 held1 held old new (beside s.seen) (beside (length values)) (lifted line r) line told settled few r.reply (step line r) appended;
+        entered_for = entered_again before.entered now.entered r.enters.entered s.answered s.entered_for;
+        sofar = sofar_more (StepsBeside Replies now) budget left0 left1 left held0 held1 held old new (beside s.seen s.answered) (beside (length now.values) (s.answered + 1)) (lifted line r) line told settled few r.reply (step line r) appended;
       }
       turned (Some Marked) (is, same, written) = marked is same written
       turned (Some (Ended Finished)) a = absurd a
       turned (Some (Ended WriteFailed)) (r, front, rest, is, appended) =
-          cut_short (AnswersBeside Replies values) budget left0 left1 left held0 held1 held old new (beside s.seen) (beside (length values)) (lifted line r) line told settled few r.reply (step line r) front rest is appended
+          cut_short (StepsBeside Replies now) budget left0 left1 left held0 held1 held old new (beside s.seen s.answered) (beside (length now.values) (s.answered + 1)) (lifted line r) line told settled few r.reply (step line r) front rest is appended
       turned (Some (Ended ReadFailed)) a = absurd a
       turned (Some (Ended Spent)) a = absurd a
 
 -- ---- behind the mark
 
-module _ {V : Type 0} (Replies : V → Option (List ℕ) → List ℕ → Type 0) (values : List V) where
-  pub turned_behind : {T E : Type 0} (budget : ℕ) (left0 left1 left held0 held1 held : Option (List ℕ)) (old new : LinesView) (s : IsRest Replies values budget left0 left1 held0 held1 old) (line : Option (List ℕ))
-      → HasTold left0 left budget new (s.lines ++ line ∷ []) → (new.begun ≡ []) ⊎ (new.ahead ≡ []) → length new.ahead ≤ most_ahead → (value : V) → HasNumber values (length values) value
-      → (r : Result T E) → Sends (Replies value line) held1 held r → (ending : Option Ending) → ending ≡ (if is_ok r then None else Some WriteFailed) → TurnsBehind Replies values budget left0 left held0 held new ending
+module _ {V : Type 0} (Replies : V → Option (List ℕ) → List ℕ → Type 0) (seat : Seated V) where
+  abbrev Rest : Place → Option (List ℕ) → List ℕ → Place → Type 0
+  Rest = Answers Replies seat.values seat.entered
+
+  pub turned_behind : {T E : Type 0} (budget : ℕ) (left0 left1 left held0 held1 held : Option (List ℕ)) (old new : LinesView) (s : IsRest Replies seat budget left0 left1 held0 held1 old) (line : Option (List ℕ))
+      → HasTold left0 left budget new (s.lines ++ line ∷ []) → (new.begun ≡ []) ⊎ (new.ahead ≡ []) → length new.ahead ≤ most_ahead → (value : V) → HasNumber seat.values (length seat.values) value
+      → (r : Result T E) → Sends (Replies value line) held1 held r → (ending : Option Ending) → ending ≡ (if is_ok r then None else Some WriteFailed) → TurnsBehind Replies seat budget left0 left held0 held new ending
   turned_behind {T} {E} budget left0 left1 left held0 held1 held old new s line told settled few value has (Ok v) sends ending is =
-      subst (λ (e : Option Ending). TurnsBehind Replies values budget left0 left held0 held new e) (sym is)
-      (sofar_more (Answers Replies values) budget left0 left1 left held0 held1 held old new behind behind s line told settled few sends.reply (value, has, sends.lawful) (appends_all {T = T} {E = E} held1 held sends.reply v sends.sent))
+      subst (λ (e : Option Ending). TurnsBehind Replies seat budget left0 left held0 held new e) (sym is)
+      (sofar_more Rest budget left0 left1 left held0 held1 held old new behind behind s line told settled few sends.reply (value, has, sends.lawful) (appends_all {T = T} {E = E} held1 held sends.reply v sends.sent))
   turned_behind {T} {E} budget left0 left1 left held0 held1 held old new s line told settled few value has (Err e) sends ending is =
-      subst (λ (e : Option Ending). TurnsBehind Replies values budget left0 left held0 held new e) (sym is)
-      (cut_short (Answers Replies values) budget left0 left1 left held0 held1 held old new behind behind s line told settled few sends.reply (value, has, sends.lawful) sends.sent.front sends.sent.rest sends.sent.whole sends.sent.appended)
+      subst (λ (e : Option Ending). TurnsBehind Replies seat budget left0 left held0 held new e) (sym is)
+      (cut_short Rest budget left0 left1 left held0 held1 held old new behind behind s line told settled few sends.reply (value, has, sends.lawful) sends.sent.front sends.sent.rest sends.sent.whole sends.sent.appended)
 
--- what was answered beside the publishing is so over all values
-module _ {V : Type 0} (Replies : V → Option (List ℕ) → List ℕ → Type 0) (values all : List V) (prefix : IsPrefix values all) (budget : ℕ) (left0 left held0 held : Option (List ℕ)) (reader : LinesView) where
-  pub rest_begins : IsBehind Replies values budget left0 left held0 held reader → IsRest Replies all budget left0 left held0 held reader
-  rest_begins s = sofar_by (AnswersBeside Replies values) (Answers Replies all) (step_more Replies values all prefix) behind budget left0 left held0 held reader s
+-- what was answered beside the publishing is so over all values, which the seat learns without entering
+module _ {V : Type 0} (Replies : V → Option (List ℕ) → List ℕ → Type 0) (seat : Seated V) (all : List V) (prefix : IsPrefix seat.values all) (budget : ℕ) (left0 left held0 held : Option (List ℕ)) (reader : LinesView) where
+  pub rest_begins : IsBehind Replies seat budget left0 left held0 held reader → IsRest Replies (record seat { values = all }) budget left0 left held0 held reader
+  rest_begins s =
+      sofar_by (StepsBeside Replies seat) (Answers Replies all seat.entered) (step_more Replies seat.values all prefix seat.entered seat.entered (λ lines h. h)) behind budget left0 left held0 held reader s
 
-  pub stopped_whole : (ending : Ending) → HasStopped Replies values budget left0 left held0 held reader (Ended ending) → HasLane Replies all budget left0 left held0 held ending
-  stopped_whole ending h = lane_more Replies values all prefix budget left0 left held0 held ending h
+  pub stopped_whole : (ending : Ending) → HasStopped Replies seat budget left0 left held0 held reader (Ended ending) → HasLane Replies all seat.entered budget left0 left held0 held ending
+  stopped_whole ending h = lane_more Replies seat.values all prefix seat.entered seat.entered (λ lines h. h) budget left0 left held0 held ending h

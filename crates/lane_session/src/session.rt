@@ -1,11 +1,10 @@
-ghost use Rattle.std.specs.Prelude.{◌≡◌, ◌<◌, ◌≤◌, ◌+◌, ◌-◌, ◌^◌, ℕ, List, Option, None, Some, IfNone, is_ok, if◌then◌else◌, length, min};
-ghost use mathlib.Core.List.{IsPrefix};
+ghost use Rattle.std.specs.Prelude.{◌≡◌, ◌<◌, ◌≤◌, ℕ, List, Option, None, Some, IfNone, is_ok, if◌then◌else◌, length};
 ghost use Rattle.fsm_io.specs.Causes.{HasCause, Rose};
 ghost use Rattle.fsm_io.specs.Lines.{most_line};
 ghost use Rattle.fsm_io.specs.Reading.{size_of};
 ghost use Rattle.lane_meaning.specs.Lanes.{HasLane};
 ghost use Rattle.lane_session.specs.Running.{HasStopped, IsBeside, IsRest, TurnsBehind, TurnsBeside};
-ghost use Rattle.lane_session.specs.Sending.{AnswersLine};
+ghost use Rattle.lane_session.specs.Sending.{AnswersLine, EntersOnce};
 
 use crate::answers::Answers;
 use crate::sending::{send_long, send_reply};
@@ -46,9 +45,7 @@ fn ending_of(sent: Result<(), Failed>) -> Option<Ending>
 
 /// The seat takes up what is published.
 fn take_up<V: Answers>(seat: &mut Seat<V>)
-    ensures values { IsPrefix seat.old.values seat.new.values }
-    ensures board { seat.new.board ≡ seat.old.board }
-    ensures entered { seat.new.entered ≡ min (seat.old.entered + 1) (2 ^ 64 - 1) }
+    ensures { EntersOnce seat.old seat.new }
 {
     seat.enter();
 }
@@ -66,9 +63,8 @@ impl<V: Answers> LaneSession<V> {
     /// Answers the line that was read, at the value that the seat has after it entered. The mark has no reply, and stops the lane.
     fn answer_line<K: Sink>(&mut self, alloc: Global, sink: &mut K) -> Option<Stop>
         requires short { length self.old.lines.text ≤ most_line }
-        ensures answers { AnswersLine V.replies self.old.seat.values self.new.seat.values (Some self.old.lines.text) (K.held sink.old) (K.held sink.new) result }
+        ensures answers { AnswersLine V.replies self.old.seat self.new.seat (Some self.old.lines.text) (K.held sink.old) (K.held sink.new) result }
         ensures board { self.new.seat.board ≡ self.old.seat.board }
-        ensures entered { IfNone result (self.new.seat.entered ≡ min (self.old.seat.entered + 1) (2 ^ 64 - 1)) }
         ensures lines { self.new.lines ≡ self.old.lines }
         ensures write { result ≡ Some (Stop.Ended Ending.WriteFailed) → Rose (K.faults sink.old) (K.faults sink.new) }
         ensures later_output { K.faults sink.old ≤ K.faults sink.new }
@@ -83,9 +79,8 @@ impl<V: Answers> LaneSession<V> {
 
     /// The same of a long line.
     fn answer_long<K: Sink>(&mut self, sink: &mut K) -> Option<Stop>
-        ensures answers { AnswersLine V.replies self.old.seat.values self.new.seat.values None (K.held sink.old) (K.held sink.new) result }
+        ensures answers { AnswersLine V.replies self.old.seat self.new.seat None (K.held sink.old) (K.held sink.new) result }
         ensures board { self.new.seat.board ≡ self.old.seat.board }
-        ensures entered { IfNone result (self.new.seat.entered ≡ min (self.old.seat.entered + 1) (2 ^ 64 - 1)) }
         ensures lines { self.new.lines ≡ self.old.lines }
         ensures write { result ≡ Some (Stop.Ended Ending.WriteFailed) → Rose (K.faults sink.old) (K.faults sink.new) }
         ensures later_output { K.faults sink.old ≤ K.faults sink.new }
@@ -101,10 +96,9 @@ impl<V: Answers> LaneSession<V> {
         source: &mut S,
         sink: &mut K,
     ) -> Option<Stop>
-        ensures turns { (budget : ℕ) (left0 held0 : Option (List ℕ)) → IsBeside V.replies self.old.seat.values budget left0 (S.left source.old) held0 (K.held sink.old) self.old.lines
-            → TurnsBeside V.replies self.new.seat.values budget left0 (S.left source.new) held0 (K.held sink.new) self.new.lines result }
+        ensures turns { (budget : ℕ) (left0 held0 : Option (List ℕ)) → IsBeside V.replies self.old.seat budget left0 (S.left source.old) held0 (K.held sink.old) self.old.lines
+            → TurnsBeside V.replies self.new.seat budget left0 (S.left source.new) held0 (K.held sink.new) self.new.lines result }
         ensures board { self.new.seat.board ≡ self.old.seat.board }
-        ensures entered { IfNone result (self.new.seat.entered ≡ min (self.old.seat.entered + 1) (2 ^ 64 - 1)) }
         ensures progress { IfNone result (size_of self.new.lines < size_of self.old.lines) }
         ensures read { result ≡ Some (Stop.Ended Ending.ReadFailed) → Rose (S.faults source.old) (S.faults source.new) }
         ensures write { result ≡ Some (Stop.Ended Ending.WriteFailed) → Rose (K.faults sink.old) (K.faults sink.new) }
@@ -128,8 +122,8 @@ impl<V: Answers> LaneSession<V> {
         source: &mut S,
         sink: &mut K,
     ) -> Stop
-        ensures stopped { (budget : ℕ) (left0 held0 : Option (List ℕ)) → IsBeside V.replies self.old.seat.values budget left0 (S.left source.old) held0 (K.held sink.old) self.old.lines
-            → HasStopped V.replies self.new.seat.values budget left0 (S.left source.new) held0 (K.held sink.new) self.new.lines result }
+        ensures stopped { (budget : ℕ) (left0 held0 : Option (List ℕ)) → IsBeside V.replies self.old.seat budget left0 (S.left source.old) held0 (K.held sink.old) self.old.lines
+            → HasStopped V.replies self.new.seat budget left0 (S.left source.new) held0 (K.held sink.new) self.new.lines result }
         ensures board { self.new.seat.board ≡ self.old.seat.board }
         ensures read { result ≡ Stop.Ended Ending.ReadFailed → Rose (S.faults source.old) (S.faults source.new) }
         ensures write { result ≡ Stop.Ended Ending.WriteFailed → Rose (K.faults sink.old) (K.faults sink.new) }
@@ -150,8 +144,8 @@ impl<V: Answers> LaneSession<V> {
         source: &mut S,
         sink: &mut K,
     ) -> Option<Ending>
-        ensures turns { (budget : ℕ) (left0 held0 : Option (List ℕ)) → IsRest V.replies self.old.seat.values budget left0 (S.left source.old) held0 (K.held sink.old) self.old.lines
-            → TurnsBehind V.replies self.old.seat.values budget left0 (S.left source.new) held0 (K.held sink.new) self.new.lines result }
+        ensures turns { (budget : ℕ) (left0 held0 : Option (List ℕ)) → IsRest V.replies self.old.seat budget left0 (S.left source.old) held0 (K.held sink.old) self.old.lines
+            → TurnsBehind V.replies self.old.seat budget left0 (S.left source.new) held0 (K.held sink.new) self.new.lines result }
         ensures seat { self.new.seat ≡ self.old.seat }
         ensures progress { IfNone result (size_of self.new.lines < size_of self.old.lines) }
         ensures read { result ≡ Some Ending.ReadFailed → Rose (S.faults source.old) (S.faults source.new) }
@@ -180,8 +174,8 @@ impl<V: Answers> LaneSession<V> {
         source: &mut S,
         sink: &mut K,
     ) -> Ending
-        ensures answered { (budget : ℕ) (left0 held0 : Option (List ℕ)) → IsRest V.replies self.old.seat.values budget left0 (S.left source.old) held0 (K.held sink.old) self.old.lines
-            → HasLane V.replies self.old.seat.values budget left0 (S.left source.new) held0 (K.held sink.new) result }
+        ensures answered { (budget : ℕ) (left0 held0 : Option (List ℕ)) → IsRest V.replies self.old.seat budget left0 (S.left source.old) held0 (K.held sink.old) self.old.lines
+            → HasLane V.replies self.old.seat.values self.old.seat.entered budget left0 (S.left source.new) held0 (K.held sink.new) result }
         ensures seat { self.new.seat ≡ self.old.seat }
         ensures read { result ≡ Ending.ReadFailed → Rose (S.faults source.old) (S.faults source.new) }
         ensures write { result ≡ Ending.WriteFailed → Rose (K.faults sink.old) (K.faults sink.new) }

@@ -1,21 +1,36 @@
-//! The process of the program: it hands its words, its folder, its standard input and its standard
-//! output to [`run`], and ends with the status that this answers.
+//! The process of the program: it hands its words, its folder, its standard input and output, and the lanes of the paths behind
+//! `--` to [`run`], and ends with the status that this answers. More lanes than there may be are answered as words in no form.
 #![tactic(auto)]
+
+ghost use Rattle.std.specs.Prelude.{◌≤◌, IfOk, length, vec_len};
 
 use fsm_base::Text;
 use fsm_io::{DirFolder, ReadSource, WriteSink};
-use fsm_program::run;
+use fsm_program::{Lane, run};
 use std::alloc::{AllocError, Global};
 use std::env::{self, FillError};
+use std::fs::{self, File};
 use std::io::{self, ErrorKind};
 use std::process::ExitCode;
 use std::rt::Env;
+use std::sync::Wait;
+use std::thread::Threads;
+
+/// A lane over files.
+type FileLane = Lane<ReadSource<File>, WriteSink<File>>;
+
+/// The most lanes.
+const MOST_LANES: usize = 16;
 
 /// The status where there is no memory for the words.
 const NO_MEMORY: u8 = 5;
 
-/// Whether the argument at this place ends the program's words: it is `--`, or there is none. Arguments are counted from 0,
-/// where the program's name stands.
+/// Whether there is no argument at this place. They are counted from 0, where the program's name stands.
+fn is_behind(rt: &HostRuntime, place: usize) -> bool {
+    matches!(rt.arg(place, &mut [0u8; 1]), Err(FillError::NotPresent))
+}
+
+/// Whether the argument at this place ends the program's words: it is `--`, or there is none.
 fn ends_words(rt: &HostRuntime, place: usize) -> bool {
     let mut front = [0u8; 3];
     match rt.arg(place, &mut front) {
@@ -25,21 +40,36 @@ fn ends_words(rt: &HostRuntime, place: usize) -> bool {
     }
 }
 
-/// The arguments before a place alone, so that those behind it aren't read.
+/// The place at which the words end that stand behind the program's name.
+fn end_of_words(rt: &HostRuntime) -> usize {
+    (1..usize::MAX)
+        .find(|place| ends_words(rt, *place))
+        .unwrap_or(usize::MAX)
+}
+
+/// How many arguments there are from this place on.
+fn paths_from(rt: &HostRuntime, first: usize) -> usize {
+    (0..usize::MAX)
+        .find(|i| is_behind(rt, first.saturating_add(*i)))
+        .unwrap_or(usize::MAX)
+}
+
+/// The arguments from one place up to another alone, so that others aren't read.
 #[derive(Clone, Copy)]
-struct Front<'a> {
+struct Part<'a> {
     /// The process.
     rt: &'a HostRuntime,
-    /// The place of the first argument that is left out.
+    /// The place of the first argument.
+    begin: usize,
+    /// The place of the first one behind it that is left out.
     end: usize,
 }
 
-impl<'a> Env for Front<'a> {
+impl<'a> Env for Part<'a> {
     fn arg(&self, i: usize, buf: &mut [u8]) -> Result<usize, FillError> {
-        if i < self.end {
-            self.rt.arg(i, buf)
-        } else {
-            Err(FillError::NotPresent)
+        match self.begin.checked_add(i) {
+            Some(place) if place < self.end => self.rt.arg(place, buf),
+            _ => Err(FillError::NotPresent),
         }
     }
 
@@ -52,22 +82,49 @@ impl<'a> Env for Front<'a> {
     }
 }
 
-/// The words behind the program's name, up to the first `--`. Words that aren't UTF-8 are in no form, as no words are.
-fn words_of(rt: &HostRuntime) -> io::Result<Vec<String>> {
-    let end = (1..usize::MAX)
-        .find(|place| ends_words(rt, *place))
-        .unwrap_or(usize::MAX);
-    let mut words = Vec::new(rt.alloc());
-    match env::args(&(Front { rt, end }, rt.alloc())) {
+/// The texts of the arguments from one place up to another, or none where one of them isn't UTF-8.
+fn texts_of(rt: &HostRuntime, begin: usize, end: usize) -> io::Result<Vec<String>> {
+    let mut texts = Vec::new(rt.alloc());
+    match env::args(&(Part { rt, begin, end }, rt.alloc())) {
         Ok(args) => {
-            'words: for word in args.skip(1) {
-                words.push(word)?;
+            'args: for text in args {
+                texts.push(text)?;
             }
-            Ok(words)
+            Ok(texts)
         }
-        Err(error) if error.kind() == ErrorKind::InvalidData => Ok(words),
+        Err(error) if error.kind() == ErrorKind::InvalidData => Ok(texts),
         Err(error) => Err(error),
     }
+}
+
+/// A lane that reads the file of this path and writes the one with `.out` behind the path. A file that can't be opened fails at each
+/// read or write.
+fn lane_of(rt: &HostRuntime, path: &str) -> Result<FileLane, AllocError> {
+    let written = format!(in rt.alloc(); "{path}.out")?;
+    Ok(Lane::new(
+        ReadSource::new(fs::open(rt, path).ok()),
+        WriteSink::new(fs::create(rt, written.as_str()).ok()),
+    ))
+}
+
+/// The lane of the path at this place. A path that isn't UTF-8 names no file that can be opened.
+fn lane_at(rt: &HostRuntime, place: usize) -> io::Result<FileLane> {
+    match texts_of(rt, place, place.saturating_add(1))?.first() {
+        Some(path) => Ok(lane_of(rt, path.as_str())?),
+        None => Ok(Lane::new(ReadSource::new(None), WriteSink::new(None))),
+    }
+}
+
+/// The lanes of so many paths, of which the first is at this place.
+fn lanes_from(rt: &HostRuntime, first: usize, count: usize) -> io::Result<Vec<FileLane>>
+    requires { count ≤ 16 }
+    ensures { IfOk result (λ lanes. vec_len lanes ≤ 16) }
+{
+    let mut lanes = Vec::new(rt.alloc());
+    'paths: for i in 0..count {
+        lanes.push(lane_at(rt, first.saturating_add(i))?)?;
+    }
+    Ok(lanes)
 }
 
 /// The path of the folder: the second word, or the current folder where there is none.
@@ -78,17 +135,45 @@ fn dir_of(alloc: Global, words: &[String]) -> Result<Text, AllocError> {
     }
 }
 
-/// Runs the program on the process's words, files and streams.
-fn answer(rt: &HostRuntime) -> io::Result<u8> {
-    let words = words_of(rt)?;
-    let mut folder = DirFolder::new(rt, dir_of(rt.alloc(), &words)?);
+/// Runs the program on these words and lanes, and on the process's files and streams. Lanes are answered in threads.
+fn answer_to<T: Threads + Wait + Sync>(
+    threads: &T,
+    rt: &HostRuntime,
+    words: &[String],
+    lanes: &mut [FileLane],
+) -> Result<u8, AllocError>
+    requires { length lanes.old ≤ 16 }
+{
+    let alloc = rt.alloc();
+    let mut folder = DirFolder::new(rt, dir_of(alloc, words)?);
     let mut input = ReadSource::new(Some(rt.stdin()));
     let mut output = WriteSink::new(Some(rt.stdout()));
-    Ok(run(rt.alloc(), &words, &mut folder, &mut input, &mut output))
+    Ok(run(
+        threads,
+        alloc,
+        words,
+        &mut folder,
+        &mut input,
+        &mut output,
+        lanes,
+    ))
+}
+
+/// Runs the program on the process's arguments, files and streams.
+fn answer<T: Threads + Wait + Sync>(threads: &T, rt: &HostRuntime) -> io::Result<u8> {
+    let end = end_of_words(rt);
+    let first = end.saturating_add(1);
+    let count = paths_from(rt, first);
+    if count > MOST_LANES {
+        return Ok(answer_to(threads, rt, &[], &mut [])?);
+    }
+    let words = texts_of(rt, 1, end)?;
+    let mut lanes = lanes_from(rt, first, count)?;
+    Ok(answer_to(threads, rt, &words, &mut lanes)?)
 }
 
 fn main(rt: HostRuntime) -> ExitCode {
-    match answer(&rt) {
+    match answer(&rt, &rt) {
         Ok(status) => ExitCode::from(status),
         Err(_) => ExitCode::from(NO_MEMORY),
     }

@@ -1,4 +1,6 @@
 pub mod Accepting
+pub mod Looking
 pub mod Naming
 pub mod Readying
 pub mod Replying
+pub mod Shortness

@@ -2,3 +2,4 @@ pub mod Networks
 pub mod Versions
 pub mod Errors
 pub mod Rebuilt
+pub mod Looks

@@ -1,4 +1,4 @@
-ghost use Rattle.std.specs.Prelude.{◌≡◌, ◌≤◌, ◌∷◌, [], Ok, IfOk, IfErr};
+ghost use Rattle.std.specs.Prelude.{◌≡◌, ◌≤◌, ◌+◌, ◌∷◌, [], Ok, IfOk, IfErr};
 ghost use Rattle.editor_meaning.specs.Editing.{AreNames, IsLoaded, most_edits};
 ghost use Rattle.project_edits.specs.Applied.{edit_of};
 ghost use Rattle.project_meaning.specs.Touched.{Touched};
@@ -59,6 +59,7 @@ pub struct Edited {
 pub fn edit(alloc: Global, old: &Version, edit: &Edit) -> Result<Edited, EditError>
     ensures edited { (meant : Meant) → Stands old.now meant → IfOk result (λ edited. (next : Meant) × Stands edited.version next
         × Changes all_readers rows_so_far meant (edit_of edit.now ∷ []) (Ok next) × AreNames (Touched meant.project next.project) edited.rebuilt.items) }
+    ensures number { IfOk result (λ edited. edited.version.number ≡ old.now.number + 1) }
     ensures few { (meant : Meant) → Stands old.now meant → IfOk result (λ edited. meant.number ≤ most_edits) }
     ensures error { (meant : Meant) → Stands old.now meant → IfErr result (IsWhyNotEdited meant edit.now) }
 {

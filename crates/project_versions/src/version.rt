@@ -1,20 +1,26 @@
-ghost use Rattle.std.specs.Prelude.{◌≡◌, ◌≤◌, ◌<◌, ◌+◌, ◌-◌, ◌^◌, Ok, IfOk, length, map};
+ghost use Rattle.std.specs.Prelude.{◌≡◌, ◌≤◌, ◌<◌, ◌+◌, ◌-◌, ◌^◌, List, Ok, IfOk, IfSome, length, map};
+ghost use Rattle.std.specs.Option.{option_map};
 ghost use Rattle.editor_meaning.specs.Editing.{AreNames, most_edits};
+ghost use Rattle.interlinear.specs.Glosses.{Entry};
+ghost use Rattle.interlinear.specs.Replies.{GlossesText};
+ghost use Rattle.lookup.specs.Answering.{IsOverAlphabet};
 ghost use Rattle.project_meaning.specs.Projects.{Defines};
 ghost use Rattle.project_sources.specs.Edits.{Version as Meant};
 ghost use Rattle.project_sources.specs.Sources.{Said, project_in};
 ghost use Rattle.project_store.specs.Loaded.{IsLoadedFrom};
-ghost use Rattle.project_store.specs.Projects.{IsOfSources, Reads};
+ghost use Rattle.project_store.specs.Networks.{Shows};
+ghost use Rattle.project_store.specs.Projects.{HasTable, IsOfSources, Reads};
 ghost use Rattle.project_versions.specs.Networks.{AreNetworks, net_of};
 ghost use Rattle.project_versions.specs.Versions.{IsVersion, Stands};
 ghost use Rattle.reply_meaning.specs.Replies.{RepliesToWord};
 
 use crate::networks::networks_of;
 use fsm_base::Text;
+use lookup::Net;
 use lookup_answers::Direction;
 use network_build::Compiled;
 use project_files::Sources;
-use project_store::{Project, Ready, reply_in};
+use project_store::{Project, Ready, gloss_in, reply_in};
 use reply_text::no_net;
 use std::alloc::{AllocError, Global};
 use std::marker::Model;
@@ -103,6 +109,16 @@ impl Version {
         self.project.names(alloc)
     }
 
+    /// The network of a name, ready for look-ups, if the project defines the name.
+    fn net(&self, name: &str) -> Option<&Net>
+        ensures over { IfSome result (λ net. IsOverAlphabet self.now.loaded.alphabet net.now) }
+        ensures shows { (meant : Meant) → Stands self.now meant
+            → Shows (record { alphabet = self.now.loaded.alphabet; name = name.now; net = option_map (λ net. net.now) result; glosses = self.now.loaded.glosses }) meant.project }
+    {
+        let place = self.project.find(name)?;
+        Some(self.networks[place].net())
+    }
+
     /// The reply to a word that is looked up in a name, both in Normalization Form C.
     pub fn reply_to(
         &self,
@@ -114,17 +130,23 @@ impl Version {
         requires { length word.now < 2 ^ 32 - 1 }
         ensures { (meant : Meant) → Stands self.now meant → IfOk result (λ bytes. RepliesToWord meant.project direction meant.number net.now word.now bytes.items) }
     {
-        match self.project.find(net) {
-            Some(place) => {
-                let compiled = &self.networks[place];
-                reply_in(
-                    alloc,
-                    self.project.alphabet(),
-                    compiled.net(),
-                    direction,
-                    self.number,
-                    word,
-                )
+        let alphabet = self.project.alphabet();
+        match self.net(net) {
+            Some(network) => reply_in(alloc, alphabet, network, direction, self.number, word),
+            None => no_net(alloc, self.number, net),
+        }
+    }
+
+    /// The reply to a text whose words are looked up in a name and told in glosses. The name and the text are in Normalization Form C.
+    pub fn gloss(&self, alloc: Global, net: &str, text: &str) -> Result<Vec<u8>, AllocError>
+        requires { length text.now < 2 ^ 32 - 1 }
+        ensures { (meant : Meant) (table : List Entry) → Stands self.now meant → HasTable meant.files table → IfOk result (λ bytes. GlossesText meant.project table meant.number net.now text.now bytes.items) }
+    {
+        let alphabet = self.project.alphabet();
+        match self.net(net) {
+            Some(network) => {
+                let glosses = self.project.glosses();
+                gloss_in(alloc, alphabet, network, glosses, self.number, text)
             }
             None => no_net(alloc, self.number, net),
         }

@@ -5,15 +5,23 @@
 //! `fails FOLDER INPUT OUTPUT` (which call of each fails, counted from 1, where 0 is none) and `sizes READ WRITE ROOM`
 //! (how many bytes the input gives and the output takes at once, and how many the output takes at all) describe it;
 //! `run STATUS TEXT` runs it and says which status and what output is wanted, as `row_texts` shows it, `last STATUS TEXT` the same
-//! with the last line of the output alone, and `loop` runs one whose answer must be a lawful loop. A text has the escapes of `row_texts`. An empty line, and one that begins with `#`,
-//! says nothing; a line with another field is told.
+//! with the last line of the output alone, and `loop` runs one whose answer must be a lawful loop.
+//!
+//! `lane TEXT` adds a lane with this input. Behind it `gets TEXT` says what its output is to get, one such line for each lawful outcome, and nothing where there is
+//! none; `enters N` how often its seat enters at least; `lane_fails INPUT OUTPUT` and `lane_sizes READ WRITE ROOM` are as for the row. A text has the
+//! escapes of `row_texts`. An empty line, and one that begins with `#`, says nothing; a line with another field is told.
 #![tactic(auto)]
 
+mod lane;
+mod numbers;
 mod row;
 
+use crate::lane::RowLane;
 use crate::row::Row;
 use std::alloc::{AllocError, Global};
 use std::io::{self, Read};
+use std::sync::Wait;
+use std::thread::Threads;
 
 /// How many rows were run, and how many of them had the outcome that they want.
 #[derive(Drop)]
@@ -43,8 +51,41 @@ impl Count {
     }
 }
 
+/// Adds what a line says to a lane. Returns whether it has such a field.
+fn obey_of_lane(
+    alloc: Global,
+    lane: &mut RowLane,
+    field: &str,
+    value: &str,
+) -> Result<bool, AllocError> {
+    match field {
+        "gets" => lane.add_wanted(alloc, value)?,
+        "enters" => lane.set_enters(value),
+        "lane_fails" => lane.set_fails(value),
+        "lane_sizes" => lane.set_sizes(value),
+        _ => return Ok(false),
+    }
+    Ok(true)
+}
+
+/// What is told of a line of another field than those of a row: nothing where it is one of the last lane.
+fn told_of_lane(
+    alloc: Global,
+    row: &mut Row,
+    field: &str,
+    value: &str,
+) -> Result<Option<String>, AllocError> {
+    if let Some(lane) = row.last_lane() {
+        if obey_of_lane(alloc, lane, field, value)? {
+            return Ok(None);
+        }
+    }
+    Ok(Some(format!(in alloc; "no such field: {field} {value}")?))
+}
+
 /// Adds what a line says to the row, or runs it. Returns what is told of the line, if it isn't as it should be.
-fn obey(
+fn obey<R: Threads + Wait + Sync>(
+    rt: &R,
     alloc: Global,
     count: &mut Count,
     row: &mut Row,
@@ -59,10 +100,11 @@ fn obey(
         "input" => row.set_input(alloc, value)?,
         "fails" => row.set_fails(value),
         "sizes" => row.set_sizes(value),
-        "run" => return count.judge(alloc, row, row.outcome(alloc)?.as_str(), value),
-        "last" => return count.judge(alloc, row, row.last_outcome(alloc)?.as_str(), value),
-        "loop" => return count.judge(alloc, row, row.loop_outcome(alloc)?, ""),
-        _ => return Ok(Some(format!(in alloc; "no such field: {line}")?)),
+        "lane" => row.add_lane(alloc, value)?,
+        "run" => return count.judge(alloc, row, row.outcome(rt, alloc)?.as_str(), value),
+        "last" => return count.judge(alloc, row, row.last_outcome(rt, alloc)?.as_str(), value),
+        "loop" => return count.judge(alloc, row, row.loop_outcome(rt, alloc)?, ""),
+        _ => return told_of_lane(alloc, row, field, value),
     }
     Ok(None)
 }
@@ -74,7 +116,7 @@ fn main(rt: HostRuntime) -> io::Result<()> {
     let mut count = Count { run: 0, right: 0 };
     let mut row = Row::named(alloc, "")?;
     'lines: for line in text.as_str().lines() {
-        if let Some(told) = obey(alloc, &mut count, &mut row, line)? {
+        if let Some(told) = obey(&rt, alloc, &mut count, &mut row, line)? {
             println!(rt; "{}", told.as_str())?;
         }
     }

@@ -1,11 +1,17 @@
+ghost use Rattle.std.specs.Prelude.{◌≤◌, IfOk, vec_len};
+
+use crate::lane::{MemoryLane, RowLane};
+use crate::numbers::{WHOLE, numbers, size};
 use fsm_base::Text;
 use fsm_io::{MemoryFolder, MemorySink, MemorySource};
 use fsm_program::run;
 use row_texts::{shown, undone};
 use std::alloc::{AllocError, Global};
+use std::sync::Wait;
+use std::thread::Threads;
 
-/// A size that is more than any row needs.
-const WHOLE: usize = 10_000_000;
+/// The most lanes of a row.
+const MOST_LANES: usize = 16;
 
 /// A folder, words, and streams.
 #[derive(Drop)]
@@ -22,19 +28,19 @@ pub struct Row {
     fails: [u64; 3],
     /// How many bytes the input gives at once, the output takes at once, and the output takes at all.
     sizes: [usize; 3],
+    /// Its lanes.
+    lanes: Vec<RowLane>,
 }
 
-/// The three numbers of a value; 0 for what is none.
-fn numbers(value: &str) -> [u64; 3] {
-    let mut found = [0u64; 3];
-    for (number, word) in found.iter_mut().zip(value.split(' ')) {
-        *number = word.parse::<u64>().unwrap_or(0);
-    }
-    found
-}
-
-fn size(number: u64) -> usize {
-    usize::try_from(number).unwrap_or(WHOLE).min(WHOLE)
+/// What came of a row.
+#[derive(Drop)]
+struct Answer {
+    /// The status.
+    status: u8,
+    /// What the output got.
+    written: Vec<u8>,
+    /// The lanes, with what they got.
+    lanes: Vec<MemoryLane>,
 }
 
 impl Row {
@@ -47,6 +53,7 @@ impl Row {
             input: Vec::new(alloc),
             fails: [0; 3],
             sizes: [WHOLE; 3],
+            lanes: Vec::new(alloc),
         })
     }
 
@@ -85,6 +92,17 @@ impl Row {
         self.sizes = [size(read), size(write), size(room)];
     }
 
+    /// Adds a lane with this input.
+    pub fn add_lane(&mut self, alloc: Global, value: &str) -> Result<(), AllocError> {
+        self.lanes.push(RowLane::of(alloc, value)?)?;
+        Ok(())
+    }
+
+    /// The lane that was added last.
+    pub fn last_lane(&mut self) -> Option<&mut RowLane> {
+        self.lanes.last_mut()
+    }
+
     /// The folder of the row's files.
     fn folder(&self, alloc: Global) -> Result<MemoryFolder, AllocError> {
         let mut files = Vec::new(alloc);
@@ -95,13 +113,25 @@ impl Row {
         Ok(MemoryFolder::new(files, fails))
     }
 
-    /// The status and what was written for these words and this input.
-    fn answer(
+    /// The row's lanes, of which those beyond the most are left out.
+    fn open_lanes(&self, alloc: Global) -> Result<Vec<MemoryLane>, AllocError>
+        ensures { IfOk result (λ lanes. vec_len lanes ≤ 16) }
+    {
+        let mut lanes = Vec::new(alloc);
+        'lanes: for lane in &self.lanes[..self.lanes.len().min(MOST_LANES)] {
+            lanes.push(lane.open(alloc)?)?;
+        }
+        Ok(lanes)
+    }
+
+    /// What comes of these words and this input.
+    fn answer<R: Threads + Wait + Sync>(
         &self,
+        rt: &R,
         alloc: Global,
         words: &[String],
         input: &[u8],
-    ) -> Result<(u8, Vec<u8>), AllocError> {
+    ) -> Result<Answer, AllocError> {
         let mut folder = self.folder(alloc)?;
         let mut source = MemorySource::new(
             Vec::from_slice(alloc, input)?,
@@ -114,8 +144,39 @@ impl Row {
             self.sizes[1].max(1),
             Vec::from_slice(alloc, &[self.fails[2]])?,
         )?;
-        let status = run(alloc, words, &mut folder, &mut source, &mut sink);
-        Ok((status, Vec::from_slice(alloc, sink.bytes())?))
+        let mut lanes = self.open_lanes(alloc)?;
+        let status = run(
+            rt,
+            alloc,
+            words,
+            &mut folder,
+            &mut source,
+            &mut sink,
+            &mut lanes,
+        );
+        let written = Vec::from_slice(alloc, sink.bytes())?;
+        Ok(Answer {
+            status,
+            written,
+            lanes,
+        })
+    }
+
+    /// A status, these bytes, and each lane that isn't as it wants to be.
+    fn told(&self, alloc: Global, answer: &Answer, bytes: &[u8]) -> Result<String, AllocError> {
+        let shown = shown(alloc, bytes)?;
+        let mut told = format!(in alloc; "{} {}", answer.status, shown.as_str())?;
+        'lanes: for (number, (lane, opened)) in self
+            .lanes
+            .iter()
+            .zip(answer.lanes.iter())
+            .enumerate()
+        {
+            if let Some(outcome) = lane.told(alloc, opened)? {
+                told.push_str(format!(in alloc; " lane {number}: {}", outcome.as_str())?.as_str())?;
+            }
+        }
+        Ok(told)
     }
 
     /// The row's name.
@@ -123,18 +184,29 @@ impl Row {
         self.name.as_str()
     }
 
-    /// Runs the row: the status, and what was written.
-    pub fn outcome(&self, alloc: Global) -> Result<String, AllocError> {
-        let (status, written) = self.answer(alloc, &self.words, &self.input)?;
-        format!(in alloc; "{status} {}", shown(alloc, &written)?.as_str())
+    /// Runs the row: the status, what was written, and each lane that isn't as it wants to be.
+    pub fn outcome<R: Threads + Wait + Sync>(
+        &self,
+        rt: &R,
+        alloc: Global,
+    ) -> Result<String, AllocError> {
+        let answer = self.answer(rt, alloc, &self.words, &self.input)?;
+        self.told(alloc, &answer, &answer.written)
     }
 
-    /// Runs the row: the status, and the last line that was written.
-    pub fn last_outcome(&self, alloc: Global) -> Result<String, AllocError> {
-        let (status, written) = self.answer(alloc, &self.words, &self.input)?;
-        let count = written.iter().filter(|byte| **byte == b'\n').count();
-        let last = line(&written, count.saturating_sub(1));
-        format!(in alloc; "{status} {}", shown(alloc, last)?.as_str())
+    /// Runs the row: the same with the last line alone that was written.
+    pub fn last_outcome<R: Threads + Wait + Sync>(
+        &self,
+        rt: &R,
+        alloc: Global,
+    ) -> Result<String, AllocError> {
+        let answer = self.answer(rt, alloc, &self.words, &self.input)?;
+        let count = answer.written.iter().filter(|byte| **byte == b'\n').count();
+        self.told(
+            alloc,
+            &answer,
+            line(&answer.written, count.saturating_sub(1)),
+        )
     }
 
     /// The row's words, the first of which is `down` now.
@@ -149,10 +221,16 @@ impl Row {
 
     /// Runs a row that looks up one word: nothing where the reply is a loop that goes round, and `down` gives the
     /// word alone for the three shortest words that the loop stands for.
-    pub fn loop_outcome(&self, alloc: Global) -> Result<&'static str, AllocError> {
-        let (_, reply) = self.answer(alloc, &self.words, &self.input)?;
+    pub fn loop_outcome<R: Threads + Wait + Sync>(
+        &self,
+        rt: &R,
+        alloc: Global,
+    ) -> Result<&'static str, AllocError> {
+        let reply = self.answer(rt, alloc, &self.words, &self.input)?.written;
         let words = turned(alloc, &reply)?;
-        let (_, lower) = self.answer(alloc, &self.down_words(alloc)?, &words)?;
+        let lower = self
+            .answer(rt, alloc, &self.down_words(alloc)?, &words)?
+            .written;
         let wanted = each_with(alloc, &words, &self.input)?;
         let is_lawful = reply.starts_with(b"1 loop ") && goes_round(&reply) && lower == wanted;
         Ok(if is_lawful { "" } else { "no lawful loop" })

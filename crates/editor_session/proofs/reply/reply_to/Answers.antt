@@ -1,11 +1,15 @@
-use Rattle.std.proofs.Common.{None, refl}
+use Rattle.std.proofs.Common.{None, refl, subst, sym}
+use Rattle.project_versions.specs.Versions.{Stands, VersionView}
+use Rattle.editor_session.proofs.Publishing.{published_same}
 use Rattle.editor_session.proofs.Replies.{request_edit, request_look_up}
 use Rattle.editor_session.proofs.reply.reply_to.Goals as goal
 
-pub returns-in-Edit : goal.returns-in-Edit
-returns-in-Edit c present stands =
-    let r = c.reply_to_edit.ensures present stands in
-    (r.0, r.1, r.2, r.3, request_edit present _ _ r.1 _ c.in-Edit.is r.4)
+pub returns-in-Edit-clause-replies : goal.returns-in-Edit-clause-replies
+returns-in-Edit-clause-replies g c present versions stands published =
+    let (new, stand, shown, replies) = c.reply_to_edit.ensures.replies present versions stands published in
+    (new, stand, shown, request_edit present _ _ new _ c.in-Edit.is replies)
 
-pub returns-in-LookUp : goal.returns-in-LookUp
-returns-in-LookUp c present stands = (present, None, stands, refl, request_look_up present _ _ None _ _ _ c.in-LookUp.is (c.reply_to_look_up.ensures present stands) refl)
+pub returns-in-LookUp-clause-replies : goal.returns-in-LookUp-clause-replies
+returns-in-LookUp-clause-replies g c present versions stands published =
+    let seen = subst (λ (v : VersionView). Stands v present) (sym c.deref.ensures) stands in
+    (None, stands, published_same _ _ versions _ _ published refl refl, request_look_up present _ _ None _ _ _ c.in-LookUp.is (c.reply_to_look_up.ensures present seen) refl)

@@ -1,7 +1,24 @@
-use Rattle.std.proofs.Common.{ap, refl}
-use Rattle.fsm_program.proofs.Endings.{ends_unread}
+use Rattle.std.proofs.Common.{Option, inl, inr, refl, subst, sym}
+use Rattle.reply_meaning.specs.Transcripts.{first_version}
+use Rattle.fsm_program.specs.Beside.{EndsBeside, alone}
+use Rattle.fsm_program.specs.Ends.{Asked, for_serve}
+use Rattle.fsm_program.specs.Outside.{outside}
 use Rattle.fsm_program.proofs.program.ended.Goals as goal
 
-pub returns-in-Err-clause-ends : goal.returns-in-Err-clause-ends
-returns-in-Err-clause-ends g c =
-    ends_unread _ _ c.in-Err.error _ _ _ c.in-Err.ensures refl c.not_read.ensures.said (λ other. let none = c.not_read.ensures.none other in (none.0, ap (λ o. g.O.Sink.held o) none.1))
+pub returns-then-is_serve-clause-ends : goal.returns-then-is_serve-clause-ends
+returns-then-is_serve-clause-ends g c =
+    subst (λ (asked : Option Asked). EndsBeside first_version asked (outside (g.F.Folder.files c.args.folder.now) (g.F.Folder.faults c.args.folder.now) (g.I.Source.left c.args.input.now) (g.I.Source.faults c.args.input.now) (g.O.Sink.held c.args.output.now) (g.O.Sink.faults c.args.output.now))
+    (outside (g.F.Folder.files c.serve.new.folder) (g.F.Folder.faults c.serve.new.folder) (g.I.Source.left c.serve.new.input) (g.I.Source.faults c.serve.new.input) (g.O.Sink.held c.serve.new.output) (g.O.Sink.faults c.serve.new.output)) c.args.lanes.now c.serve.new.lanes c.serve.result)
+    (sym (c.is_serve.ensures.0 c.if-is_serve.true)) c.serve.ensures.ends
+
+pub returns-then-is_serve-clause-unasked : goal.returns-then-is_serve-clause-unasked
+returns-then-is_serve-clause-unasked g c none = absurd (none for_serve (c.is_serve.ensures.0 c.if-is_serve.true) tt)
+
+pub returns-else-is_serve-clause-ends : goal.returns-else-is_serve-clause-ends
+returns-else-is_serve-clause-ends g c = alone c.run_alone.ensures.ends refl
+
+pub returns-else-is_serve-clause-look_ups_read : goal.returns-else-is_serve-clause-look_ups_read
+returns-else-is_serve-clause-look_ups_read g c none other = c.run_alone.ensures.look_ups_read none
+
+pub returns-else-is_serve-clause-read : goal.returns-else-is_serve-clause-read
+returns-else-is_serve-clause-read g c three = elim (c.run_alone.ensures.read three) [ inl rose ↦ inl rose | inr rose ↦ inr (inl rose) ]

@@ -3,8 +3,8 @@ use Rattle.fsm_program.specs.Ends.{task_of}
 use Rattle.fsm_program.proofs.Unread.{asked_look, unread_look}
 use Rattle.fsm_program.proofs.words.read_words.Goals as goal
 
-pub returns-in_err-look_up-in-Some : goal.returns-in_err-look_up-in-Some
-returns-in_err-look_up-in-Some c =
-    let task = ap task_of (sym c.as_str-in-len3.ensures.value) ∙ sym c.task_of.ensures ∙ c.in-Some.is in
+pub returns-in_err-look_up-in-Some-task_of : goal.returns-in_err-look_up-in-Some-task_of
+returns-in_err-look_up-in-Some-task_of c =
+    let task = ap task_of (sym c.as_str-in-len3.ensures.value) ∙ sym c.task_of.ensures ∙ c.in-Some-task_of.is in
     unread_look _ _ _ _ _ c.from_residual.ensures.1
-    (asked_look c.args.words.now c.command-item-then-words-lt4.result c.net-item.result c.in-Some.task c.in-len3.len_at_least c.in-len3.len_below c.command-item-then-words-lt4.is c.net-item.is task)
+    (asked_look c.args.words.now c.command-item-then-words-lt4.result c.net-item.result c.in-Some-task_of.task c.in-len3.len_at_least c.in-len3.len_below c.command-item-then-words-lt4.is c.net-item.is task)

@@ -1,4 +1,4 @@
-use Rattle.std.proofs.Common.{◌≤◌, ◌+◌, ◌∷◌, [], ℕ, Ok, Err, arith, ap, sym, subst}
+use Rattle.std.proofs.Common.{◌∙◌, ◌≤◌, ◌+◌, ◌∷◌, [], ℕ, Ok, Err, arith, ap, sym, subst}
 use Rattle.editor_meaning.specs.Editing.{AreNames, most_edits}
 use Rattle.fsm_io.specs.Folders.{Files}
 use Rattle.project_edits.specs.Applied.{edit_of}
@@ -26,6 +26,11 @@ returns-clause-edited c meant stands =
       changes old meant stands few c.args.edit.now new applied said says (c.number-number.result + 1) (ap (λ (n : ℕ). n + 1) c.number-number.ensures.number),
       subst (λ (p : Project). AreNames (Touched p (project_in said)) c.in_ok-rebuilt.rebuilt.items) (sym stands.project) names,
     )
+
+pub returns-clause-number : goal.returns-clause-number
+returns-clause-number c =
+    let (said, from, says, table) = c.in_ok-next.ensures.project in
+    (c.in_ok-version.ensures said from says).number ∙ ap (λ (n : ℕ). n + 1) c.number-number.ensures.number
 
 pub returns-in_err-sources-clause-error : goal.returns-in_err-sources-clause-error
 returns-in_err-sources-clause-error c meant stands =

@@ -6,8 +6,8 @@ use Rattle.lane_session.proofs.session.LaneSession.answer_beside.Given as goal
 -- each line told so far has its reply
 abbrev pub invariant-lines : goal.invariant-lines
 invariant-lines g l = record {
-  beside : (budget : ℕ) (left0 held0 : Option (List ℕ)) → IsBeside g.V.Replying.replies l.fn.self.seat.values budget left0 (g.S.Source.left l.fn.source) held0 (g.K.Sink.held l.fn.sink) l.fn.self.lines
-      → IsBeside g.V.Replying.replies l.self.seat.values budget left0 (g.S.Source.left l.source) held0 (g.K.Sink.held l.sink) l.self.lines;
+  beside : (budget : ℕ) (left0 held0 : Option (List ℕ)) → IsBeside g.V.Replying.replies l.fn.self.seat budget left0 (g.S.Source.left l.fn.source) held0 (g.K.Sink.held l.fn.sink) l.fn.self.lines
+      → IsBeside g.V.Replying.replies l.self.seat budget left0 (g.S.Source.left l.source) held0 (g.K.Sink.held l.sink) l.self.lines;
   board : l.self.seat.board ≡ l.fn.self.seat.board;
   later_input : g.S.Source.faults l.fn.source ≤ g.S.Source.faults l.source;
   later_output : g.K.Sink.faults l.fn.sink ≤ g.K.Sink.faults l.sink;

@@ -1,5 +1,4 @@
-use Rattle.std.proofs.Common.{arith, ap, refl, sym, subst, List, Some, ◌∙◌}
-use Rattle.lane_session.specs.Running.{IsRest, TurnsBehind}
+use Rattle.std.proofs.Common.{arith, refl, ◌∙◌}
 use Rattle.lane_session.proofs.session.LaneSession.answer_rest.Goals as goal
 
 pub lines-init : goal.lines-init

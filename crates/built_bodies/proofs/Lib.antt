@@ -1,0 +1,6 @@
+pub mod Spelled
+pub mod Expressions
+pub mod Lexicons
+pub mod Atoms
+pub mod Grammars
+pub mod Bodies

@@ -1,0 +1,8 @@
+mod Counting
+mod Found
+mod Lines
+mod Made
+mod Nets
+mod Reported
+mod SameFiles
+mod Telling

@@ -1,0 +1,5 @@
+pub mod Counts
+pub mod Errors
+pub mod Reports
+pub mod Told
+pub mod Words

@@ -1,0 +1,4 @@
+mod Crossing
+pub mod Living
+pub mod Sitting
+pub mod Worst
