@@ -12,7 +12,7 @@ use Rattle.regex_tokens.specs.Spelling.{Piece, plain, escaped, is_piece, written
 use Rattle.grammar_pairs.specs.Laws.{side_passes, pair_passes, part_passes}
 use Rattle.project_meaning.specs.Leaves.{symbol, symbol_of, resolved_side, resolved_pair, resolved_part}
 use Rattle.project_meaning.specs.Trees.{Side, nothing, anything, one, member, Pair, Part, pair, called}
-use Rattle.project_sources.specs.Faults.{is_built_letter}
+use Rattle.project_sources.specs.Built.{is_built_letter}
 use Rattle.twolc_tokens.specs.Spelling.{is_run_byte, MayBeSide, IsAtom, before_byte, split_from, sides_of}
 use Rattle.twolc_grammar.specs.Atoms.{Names, is_escaped, symbol_in, is_known, is_one_of, side_in, is_nothing, pair_of, pair_in, part_by, part_in, no_names, is_plain_side, plain_pair, symbols_in, centre_by, centre_in, symbol_by, one_symbol_in}
 

@@ -22,7 +22,7 @@ use Rattle.regex_tokens.specs.declared.token.Token.TheVariants.{Operator as oper
 use Rattle.regex_grammar.specs.Grammar.{run_term, quoted_term, braced_term}
 use Rattle.regex_reader.specs.Files.{Statement, Placed, tokens_of, places_of, IsStatement, Verdict, FaultAt, Says, ReadsAs, ExpressionSays, ReadsExpression}
 use Rattle.project_meaning.specs.Leaves.{symbol, named, leaf_of}
-use Rattle.project_sources.specs.Faults.{is_built_leaf, is_built_letter}
+use Rattle.project_sources.specs.Built.{is_built_leaf, is_built_letter}
 use Rattle.built_bodies.specs.Laws.{ExpressionsAreBuilt}
 use Rattle.built_bodies.proofs.Spelled.{IsBuilt, TokenIsBuilt, TokensAreBuilt, reading_built}
 

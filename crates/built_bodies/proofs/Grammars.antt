@@ -20,7 +20,7 @@ use Rattle.expr_leaves.specs.Mapped.{mapped, mapped_each, mapped_links, mapped_c
 use Rattle.grammar_pairs.specs.Laws.{pair_passes, part_passes, HasLeaves}
 use Rattle.project_meaning.specs.Leaves.{Leaf, written, symbol_of, resolved_pair, resolved_part, resolved_set, resolved_pairs, resolved_rule, resolved_grammar}
 use Rattle.project_meaning.specs.Trees.{Part, Set, PairDefinition, Rule, Grammar}
-use Rattle.project_sources.specs.Faults.{is_built_letter}
+use Rattle.project_sources.specs.Built.{is_built_letter}
 use Rattle.twolc_tokens.specs.Spelling.{Spells}
 use Rattle.twolc_tokens.specs.Cuts.{Cuts}
 use Rattle.twolc_tokens.specs.declared.token.Operator.TheVariants.{Semicolon, Underscore}

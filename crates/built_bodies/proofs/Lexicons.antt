@@ -26,7 +26,7 @@ use Rattle.lexc_grammar.specs.declared.statements.Stage.TheVariants.{Beginning}
 use Rattle.lexc_grammar.specs.declared.statements.Ending.{Ending}
 use Rattle.lexc_grammar.specs.declared.statements.Ending.TheVariants.{Ended, Unended, Broken}
 use Rattle.project_sources.specs.Built.{PieceIsBuiltBy, FormIsBuiltBy, LexiconIsBuiltBy}
-use Rattle.project_sources.specs.Faults.{is_built_leaf, is_built_letter}
+use Rattle.project_sources.specs.Built.{is_built_leaf, is_built_letter}
 use Rattle.built_bodies.specs.Laws.{LexiconsAreBuilt}
 use Rattle.built_bodies.proofs.Expressions.{expression_compiled}
 

@@ -1,5 +1,4 @@
-ghost use Rattle.built_bodies.specs.Laws.{BodiesAreBuilt, ExpressionsAreBuilt, GrammarsAreBuilt, LexiconsAreBuilt, NoneIsUnbuilt, TellTheSame};
-ghost use Rattle.project_sources.specs.Faults.{read_rows, read_so_far, rows, rows_so_far};
+ghost use Rattle.built_bodies.specs.Laws.{BodiesAreBuilt, ExpressionsAreBuilt, GrammarsAreBuilt, LexiconsAreBuilt};
 
 /// The expressions of an xfst text are compiled, wherever names are defined.
 pub fn expressions_are_built()
@@ -19,15 +18,4 @@ pub fn grammars_are_built()
 /// Each definition that files say has a body that is compiled.
 pub fn bodies_are_built()
     ensures { BodiesAreBuilt }
-{}
-
-/// No files have a fault by a body that isn't compiled.
-pub fn none_is_unbuilt()
-    ensures { NoneIsUnbuilt }
-{}
-
-/// The rows that are told so far tell what those of the whole table do.
-pub fn rows_tell_the_same()
-    ensures whole { TellTheSame rows_so_far rows }
-    ensures read { TellTheSame read_so_far read_rows }
 {}

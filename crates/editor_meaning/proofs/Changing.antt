@@ -10,13 +10,13 @@ use Rattle.project_sources.specs.Faults.{Row}
 use Rattle.project_sources.specs.Sources.{AreExact, Readers}
 use Rattle.project_sources.proofs.Editing.{one_outcome}
 use Rattle.project_sources.proofs.Once.{one_answer}
+use Rattle.project_sources.proofs.SameFiles.{AreSame, same_answer}
 use Rattle.reply_text.specs.Projects.{accepted_line, refused_line}
 use Rattle.edit_script.specs.declared.commands.EditCommand.TheVariants as commands
 use Rattle.editor_meaning.specs.Orders.{Order, bad, cut, whole}
 use Rattle.editor_meaning.specs.Editing.{AreNames, AreReplies, RepliesToEdit, RepliesToOrder, accepted, full, no_memory, refused}
 use Rattle.editor_meaning.specs.Laws.{AreNumbered, IsNoMemory}
 use Rattle.editor_meaning.proofs.InOrder.{same_list}
-use Rattle.editor_meaning.proofs.SameFiles.{AreSame, same_answer}
 
 -- files of one holding
 same_files : (files others : Files) → held_in files ≡ held_in others → AreSame files others

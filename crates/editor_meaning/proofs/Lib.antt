@@ -1,4 +1,3 @@
 mod Changing
 mod InOrder
 mod Reading
-mod SameFiles

@@ -1,4 +1,4 @@
-ghost use Rattle.project_sources.specs.Faults.{rows_so_far};
+ghost use Rattle.project_sources.specs.Faults.{rows};
 ghost use Rattle.project_sources.specs.Laws.{all_readers};
 ghost use Rattle.editor_meaning.specs.Laws.{NumbersCount, OneReading, OneReplyToEdit, RefusedMakesNone};
 
@@ -9,15 +9,15 @@ pub fn one_reading()
 
 /// An edit has one reply, but for want of memory.
 pub fn one_reply_to_edit()
-    ensures { OneReplyToEdit all_readers rows_so_far }
+    ensures { OneReplyToEdit all_readers rows }
 {}
 
 /// An edit that is refused makes no version.
 pub fn refused_makes_none()
-    ensures { RefusedMakesNone all_readers rows_so_far }
+    ensures { RefusedMakesNone all_readers rows }
 {}
 
 /// The versions that orders make are numbered from the present one on.
 pub fn numbers_count()
-    ensures { NumbersCount all_readers rows_so_far }
+    ensures { NumbersCount all_readers rows }
 {}

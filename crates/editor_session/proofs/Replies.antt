@@ -6,7 +6,7 @@ use Rattle.project_edits.specs.Applied.{edit_of}
 use Rattle.project_edits.specs.declared.edit.Edit.{Edit as EditOf}
 use Rattle.project_meaning.specs.Projects.{Defines}
 use Rattle.project_sources.specs.Edits.{Version}
-use Rattle.project_sources.specs.Faults.{rows_so_far}
+use Rattle.project_sources.specs.Faults.{rows}
 use Rattle.project_sources.specs.Laws.{all_readers}
 use Rattle.project_versions.specs.Errors.{IsWhyNotEdited}
 use Rattle.project_versions.specs.declared.edit_error.EditError.{EditError}
@@ -20,7 +20,7 @@ use Rattle.editor_session.specs.declared.request.Request.{Request}
 use Rattle.editor_session.specs.declared.request.Request.TheVariants.{Edit, LookUp}
 
 -- an edit that makes no version
-pub error_reply : (present : Version) (change : EditOf) (error : EditError) (reply : List ℕ) → IsWhyNotEdited present change error → edit_reply error reply → RepliesToEdit all_readers rows_so_far present (edit_of change) reply None
+pub error_reply : (present : Version) (change : EditOf) (error : EditError) (reply : List ℕ) → IsWhyNotEdited present change error → edit_reply error reply → RepliesToEdit all_readers rows present (edit_of change) reply None
 error_reply present change Full reply why is = full why is refl
 error_reply present change (Refused found) reply why (inl is) = refused found why.0 why.1 is refl
 error_reply present change (Refused found) reply why (inr is) = no_memory is refl
@@ -36,7 +36,7 @@ loaded_bytes (Ok bytes) loaded number names0 names is same_number same are = (na
 loaded_bytes (Err e) loaded number names0 names is same_number same are = tt
 
 module _ (present : Version) (request : Request) (reply : List ℕ) (new : Option Version) where
-  pub request_edit : (change : EditOf) → request ≡ Edit change → RepliesToEdit all_readers rows_so_far present (edit_of change) reply new → RepliesToRequest present request reply new
+  pub request_edit : (change : EditOf) → request ≡ Edit change → RepliesToEdit all_readers rows present (edit_of change) reply new → RepliesToRequest present request reply new
   request_edit change is h = subst (λ (r : Request). RepliesToRequest present r reply new) (sym is) h
 
   pub request_look_up : (direction : Direction) (net word : List ℕ) → request ≡ LookUp direction net word → RepliesToWord present.project direction present.number (nfc_of net) (nfc_of word) reply → new ≡ None → RepliesToRequest present request reply new

@@ -8,7 +8,7 @@ use Rattle.fsm_io.specs.declared.lines.LineEvent.TheVariants.{Line, Long, End, F
 use Rattle.project_edits.specs.Applied.{edit_of}
 use Rattle.project_edits.specs.declared.edit.Edit.{Edit as EditOf}
 use Rattle.project_sources.specs.Edits.{Edit, Version, drops, put, splice}
-use Rattle.project_sources.specs.Faults.{rows_so_far}
+use Rattle.project_sources.specs.Faults.{rows}
 use Rattle.project_sources.specs.Laws.{all_readers}
 use Rattle.project_sources.specs.Limits.{most_bytes}
 use Rattle.lookup_answers.specs.declared.direction.Direction.TheVariants.{Up, Down}
@@ -43,18 +43,18 @@ pub no_lines : (more : List (List ℕ)) → length more ≡ 0 → more ≡ []
 no_lines [] e = refl
 no_lines (x ∷ more) e = absurd (omega (arith, e))
 
-same_edit : (present : Version) (a b : Edit) (reply : List ℕ) (new : Option Version) → a ≡ b → RepliesToEdit all_readers rows_so_far present a reply new → RepliesToEdit all_readers rows_so_far present b reply new
-same_edit present a b reply new same h = subst (λ (e : Edit). RepliesToEdit all_readers rows_so_far present e reply new) same h
+same_edit : (present : Version) (a b : Edit) (reply : List ℕ) (new : Option Version) → a ≡ b → RepliesToEdit all_readers rows present a reply new → RepliesToEdit all_readers rows present b reply new
+same_edit present a b reply new same h = subst (λ (e : Edit). RepliesToEdit all_readers rows present e reply new) same h
 
 module _ (more : List (List ℕ)) (bytes : List ℕ) (kept : bytes ≡ take most_kept (content_of more)) (change : EditOf) (file : List ℕ) where
   pub for_put : (n : ℕ) → edit_of change ≡ put file bytes → IsFor (whole (commands.Put file n) more) (wanted.Edit change)
   for_put n is present reply new h =
-      cut_put all_readers rows_so_far present most_kept kept_beyond file (content_of more) reply new
+      cut_put all_readers rows present most_kept kept_beyond file (content_of more) reply new
       (same_edit present (edit_of change) (put file (take most_kept (content_of more))) reply new (is ∙ ap (put file) kept) h)
 
   pub for_splice : (from count n : ℕ) → edit_of change ≡ splice file from count bytes → IsFor (whole (commands.Splice file from count n) more) (wanted.Edit change)
   for_splice from count n is present reply new h =
-      cut_splice all_readers rows_so_far present most_kept kept_beyond file (content_of more) reply new from count
+      cut_splice all_readers rows present most_kept kept_beyond file (content_of more) reply new from count
       (same_edit present (edit_of change) (splice file from count (take most_kept (content_of more))) reply new (is ∙ ap (splice file from count) kept) h)
 
 pub for_drop : (more : List (List ℕ)) (change : EditOf) (file : List ℕ) → edit_of change ≡ drops file → IsFor (whole (commands.Drop file) more) (wanted.Edit change)

@@ -9,7 +9,7 @@ use Rattle.fsm_io.proofs.Known.{appends_more}
 use Rattle.fsm_io.proofs.Cuts.{raw_lines-within}
 use Rattle.project_meaning.specs.Projects.{Defines}
 use Rattle.project_sources.specs.Edits.{Version}
-use Rattle.project_sources.specs.Faults.{rows_so_far}
+use Rattle.project_sources.specs.Faults.{rows}
 use Rattle.project_sources.specs.Laws.{all_readers}
 use Rattle.reply_text.specs.Projects.{accepted_line}
 use Rattle.reply_meaning.specs.declared.ending.Ending.{Ending}
@@ -139,11 +139,11 @@ module _ (loaded present : Version) (made : List Version) (budget : ℕ) (left0 
 
   replies_more : AreRepliesSofar loaded (s.orders ++ a.order ∷ []) (s.replies ++ reply) (made ++ option_to_list next) (unwrap_or next present)
   replies_more later rest more h =
-      let inner : AreReplies all_readers rows_so_far present (a.order ∷ later) (reply ++ rest) (option_to_list next ++ more) = (reply, rest, next, more, refl, refl, a.is_for present reply next replies, h) in
+      let inner : AreReplies all_readers rows present (a.order ∷ later) (reply ++ rest) (option_to_list next ++ more) = (reply, rest, next, more, refl, refl, a.is_for present reply next replies, h) in
       let outer = s.are_replies (a.order ∷ later) (reply ++ rest) (option_to_list next ++ more) inner in
-      subst (λ (l : List Order). AreReplies all_readers rows_so_far loaded l ((s.replies ++ reply) ++ rest) ((made ++ option_to_list next) ++ more)) (sym (append_assoc s.orders (a.order ∷ []) later))
-      (subst (λ (l : List ℕ). AreReplies all_readers rows_so_far loaded (s.orders ++ (a.order ∷ later)) l ((made ++ option_to_list next) ++ more)) (sym (append_assoc s.replies reply rest))
-      (subst (λ (l : List Version). AreReplies all_readers rows_so_far loaded (s.orders ++ (a.order ∷ later)) (s.replies ++ (reply ++ rest)) l) (sym (append_assoc made (option_to_list next) more)) outer))
+      subst (λ (l : List Order). AreReplies all_readers rows loaded l ((s.replies ++ reply) ++ rest) ((made ++ option_to_list next) ++ more)) (sym (append_assoc s.orders (a.order ∷ []) later))
+      (subst (λ (l : List ℕ). AreReplies all_readers rows loaded (s.orders ++ (a.order ∷ later)) l ((made ++ option_to_list next) ++ more)) (sym (append_assoc s.replies reply rest))
+      (subst (λ (l : List Version). AreReplies all_readers rows loaded (s.orders ++ (a.order ∷ later)) (s.replies ++ (reply ++ rest)) l) (sym (append_assoc made (option_to_list next) more)) outer))
 
   pub sofar_more : Appends held1 held reply → Sofar loaded (unwrap_or next present) (made ++ option_to_list next) budget left0 left held0 held new
   sofar_more appended = record {

@@ -5,7 +5,7 @@ use Rattle.fsm_io.specs.Lines.{most_line}
 use Rattle.fsm_io.specs.Reading.{HasRead, LinesView}
 use Rattle.fsm_io.specs.Taking.{filled}
 use Rattle.project_sources.specs.Edits.{Version}
-use Rattle.project_sources.specs.Faults.{rows_so_far}
+use Rattle.project_sources.specs.Faults.{rows}
 use Rattle.project_sources.specs.Laws.{all_readers}
 use Rattle.project_sources.specs.Limits.{most_bytes}
 use Rattle.edit_script.specs.Commands.{IsCommand, lines_behind}
@@ -79,7 +79,7 @@ pub record HasTaken (left0 left : Option (List ℕ)) (budget : ℕ) (reader : Li
 
 -- each reply to the request is one to the order
 abbrev pub IsFor : Order → Request → Type 0
-IsFor order request = (present : Version) (reply : List ℕ) (new : Option Version) → RepliesToRequest present request reply new → RepliesToOrder all_readers rows_so_far present order reply new
+IsFor order request = (present : Version) (reply : List ℕ) (new : Option Version) → RepliesToRequest present request reply new → RepliesToOrder all_readers rows present order reply new
 
 -- what a command with all its lines asks for
 pub data IsAsked (command : EditCommand) (more : List (List ℕ)) : Next → Type 0 where

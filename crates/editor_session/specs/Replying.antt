@@ -3,7 +3,7 @@ use Rattle.std.specs.Prelude.{◌≡◌, ◌≤◌, ◌⊎◌, ℕ, List, length
 use Rattle.fsm_base.specs.Normal.{nfc_of}
 use Rattle.fsm_io.specs.Lines.{most_line}
 use Rattle.project_sources.specs.Edits.{Version}
-use Rattle.project_sources.specs.Faults.{rows_so_far}
+use Rattle.project_sources.specs.Faults.{rows}
 use Rattle.project_sources.specs.Laws.{all_readers}
 use Rattle.project_edits.specs.Applied.{edit_of}
 use Rattle.project_versions.specs.declared.edit_error.EditError.{EditError}
@@ -21,7 +21,7 @@ no_memory_line = line_of (codes "memory")
 
 -- the reply to a request at the present version, and the version that it makes, if it makes one
 abbrev pub RepliesToRequest : Version → Request → List ℕ → Option Version → Type 0
-RepliesToRequest present (Edit change) reply new = RepliesToEdit all_readers rows_so_far present (edit_of change) reply new
+RepliesToRequest present (Edit change) reply new = RepliesToEdit all_readers rows present (edit_of change) reply new
 RepliesToRequest present (LookUp direction net word) reply new = RepliesToWord present.project direction present.number (nfc_of net) (nfc_of word) reply × (new ≡ None)
 RepliesToRequest present Bad reply new = (reply ≡ line_of (codes "bad")) × (new ≡ None)
 RepliesToRequest present Cut reply new = (reply ≡ line_of (codes "cut")) × (new ≡ None)

@@ -4,7 +4,7 @@ use Rattle.std.specs.Io.KnownBytes.{Appends}
 use Rattle.fsm_io.specs.Reading.{LinesView}
 use Rattle.project_meaning.specs.Projects.{Defines}
 use Rattle.project_sources.specs.Edits.{Version}
-use Rattle.project_sources.specs.Faults.{rows_so_far}
+use Rattle.project_sources.specs.Faults.{rows}
 use Rattle.project_sources.specs.Laws.{all_readers}
 use Rattle.reply_text.specs.Projects.{accepted_line}
 use Rattle.editor_meaning.specs.Orders.{Order}
@@ -14,7 +14,7 @@ use Rattle.editor_session.specs.Reading.{HasHeard, Say}
 -- the bytes are replies to these orders, which made these versions, the last of which is the present one; whatever orders follow
 abbrev pub AreRepliesSofar : Version → List Order → List ℕ → List Version → Version → Type 0
 AreRepliesSofar loaded orders bytes made present =
-    (later : List Order) (rest : List ℕ) (more : List Version) → AreReplies all_readers rows_so_far present later rest more → AreReplies all_readers rows_so_far loaded (orders ++ later) (bytes ++ rest) (made ++ more)
+    (later : List Order) (rest : List ℕ) (more : List Version) → AreReplies all_readers rows present later rest more → AreReplies all_readers rows loaded (orders ++ later) (bytes ++ rest) (made ++ more)
 
 -- every command so far has its reply, and these are written behind the first line; they made these versions
 pub record Sofar (loaded present : Version) (made : List Version) (budget : ℕ) (left0 left held0 held : Option (List ℕ)) (reader : LinesView) : Type 0 where

@@ -4,7 +4,7 @@ use Rattle.std.specs.Io.KnownBytes.{Appends, Consumes, IsAtEnd}
 use Rattle.fsm_io.specs.Buffers.{most_ahead}
 use Rattle.fsm_io.specs.Lines.{raw_lines}
 use Rattle.project_sources.specs.Edits.{Version}
-use Rattle.project_sources.specs.Faults.{rows_so_far}
+use Rattle.project_sources.specs.Faults.{rows}
 use Rattle.project_sources.specs.Laws.{all_readers}
 use Rattle.edit_script.specs.Commands.{IsCommand}
 use Rattle.edit_script.specs.declared.commands.EditCommand.TheVariants as commands
@@ -32,7 +32,7 @@ pub data HearsAll (left : Option (List ℕ)) (taken : List ℕ) (heard : List (L
 
 -- the bytes are what an editor's output gets for these lines, by the readers and the rows that there are so far
 abbrev pub Edits : Version → Bool → List (List ℕ) → List ℕ → List Version → Type 0
-Edits loaded ended lines bytes versions = IsEdited all_readers rows_so_far loaded ended lines bytes versions
+Edits loaded ended lines bytes versions = IsEdited all_readers rows loaded ended lines bytes versions
 
 -- the bytes are a front of what the output gets for lines that were heard
 pub record IsCutShort (loaded : Version) (taken written : List ℕ) (versions : List Version) : Type 0 where

@@ -7,7 +7,7 @@ ghost use Rattle.fsm_io.specs.Lines.{most_line};
 ghost use Rattle.fsm_io.specs.Sinks.{WritesAll};
 ghost use Rattle.project_edits.specs.Applied.{edit_of};
 ghost use Rattle.project_sources.specs.Edits.{Version as Meant};
-ghost use Rattle.project_sources.specs.Faults.{rows_so_far};
+ghost use Rattle.project_sources.specs.Faults.{rows};
 ghost use Rattle.project_sources.specs.Laws.{all_readers};
 ghost use Rattle.project_versions.specs.Versions.{Stands};
 ghost use Rattle.publish_board.specs.Published.{published};
@@ -112,7 +112,7 @@ fn reply_to_edit<R: Wait>(
     requires number { (arc_value version.old).number ≡ length editor.old.values }
     ensures replies { (present : Meant) (versions : List Meant) → Stands (arc_value version.old) present → ArePublished editor.old.values versions (arc_value version.old)
         → (new : Option Meant) × Stands (arc_value version.new) (unwrap_or new present) × ArePublished editor.new.values (versions ++ option_to_list new) (arc_value version.new)
-        × RepliesToEdit all_readers rows_so_far present (edit_of change.now) (bytes_of result) new }
+        × RepliesToEdit all_readers rows present (edit_of change.now) (bytes_of result) new }
     ensures board { editor.new.board ≡ editor.old.board }
     ensures number { (arc_value version.new).number ≡ length editor.new.values }
 {

@@ -6,3 +6,4 @@ pub mod Explored
 pub mod Epsilon
 pub mod Signatures
 pub mod Alike
+pub mod Rows

@@ -54,7 +54,16 @@ impl ListTable {
         if let Some(number) = self.lists.get_index_of(list) {
             return Ok(number);
         }
-        let (number, _) = self.lists.insert_full(Vec::from_slice(alloc, list)?)?;
+        self.insert(Vec::from_slice(alloc, list)?)
+    }
+
+    /// The same of a list that may be kept, of which no copy is made.
+    pub fn insert(&mut self, list: Vec<usize>) -> Result<usize, AllocError>
+        ensures number { IfOk result (λ k. slice_get self.new k ≡ Some list.items) }
+        ensures kept { OnOk result ((self.new ≡ self.old) ⊎ (self.new ≡ self.old ++ list.items ∷ [])) }
+        ensures err { OnErr result (self.new ≡ self.old) }
+    {
+        let (number, _) = self.lists.insert_full(list)?;
         Ok(number)
     }
 }

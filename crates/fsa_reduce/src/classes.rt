@@ -56,7 +56,7 @@ fn classes_back(
         let state = finals.len() - 1 - classes.len();
         let known = known_classes(&classes, ends_first);
         let signature = signature_of(alloc, finals[state], rows.out(state), known, finals.len())?;
-        classes.push(number_of(alloc, &mut signatures, &signature)?)?;
+        classes.push(number_of(&mut signatures, signature)?)?;
     }
     Ok(Classes {
         of_states: classes,
@@ -68,16 +68,16 @@ fn classes_back(
 /// the last one of the new numbers, so that `without_last` finds it.
 fn number_nowhere(alloc: Global, signatures: &mut ListTable) -> Result<(), AllocError> {
     let signature = signature_of(alloc, false, &[], &[], 0)?;
-    number_of(alloc, signatures, &signature)?;
+    number_of(signatures, signature)?;
     Ok(())
 }
 
 /// The number of a list, which is added where it isn't there.
-fn number_of(alloc: Global, table: &mut ListTable, list: &[usize]) -> Result<usize, AllocError>
-    ensures number { IfOk result (λ k. slice_get table.new k ≡ Some list.now) }
+fn number_of(table: &mut ListTable, list: Vec<usize>) -> Result<usize, AllocError>
+    ensures number { IfOk result (λ k. slice_get table.new k ≡ Some list.items) }
     ensures kept { OnOk result (Keeps table.old table.new) }
 {
-    table.number_of(alloc, list)
+    table.insert(list)
 }
 
 /// The classes that count, which are all or none.

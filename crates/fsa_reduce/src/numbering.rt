@@ -5,6 +5,7 @@ ghost use Rattle.fsa_reduce.specs.Numbering.{StandsFor, AreNumbered, Keeps};
 use fsa::Edge;
 use fsm_base::Letter;
 use std::alloc::{AllocError, Global};
+use std::collections::BTreeMap;
 
 /// Edges with numbers in place of their letters, none being a letter of its own.
 #[derive(Drop)]
@@ -15,27 +16,18 @@ pub struct Numbered<L> {
     pub edges: Vec<Edge<usize>>,
 }
 
-/// Numbers the letters of edges. A letter gets one number, since the edges are looked at in the order of their
-/// letters.
+/// Numbers the letters of edges, each once, in the order in which they come. The edges stay in their order.
 pub fn number_letters<L: Letter>(
     alloc: Global,
     edges: &[Edge<L>],
 ) -> Result<Numbered<L>, AllocError>
     ensures { IfOk result (λ n. AreNumbered edges.now n.letters.items n.edges.items) }
 {
-    let mut sorted = Vec::from_slice(alloc, edges)?;
-    sorted.sort_unstable_by_key(|edge| edge.letter);
-    with_numbers(alloc, &sorted)
-}
-
-/// Numbers the letters of edges. A letter gets another number where it differs from that of the edge before.
-fn with_numbers<L: Letter>(alloc: Global, edges: &[Edge<L>]) -> Result<Numbered<L>, AllocError>
-    ensures { IfOk result (λ n. AreNumbered edges.now n.letters.items n.edges.items) }
-{
+    let mut numbers = BTreeMap::new(alloc);
     let mut letters = Vec::new(alloc);
-    let mut numbered = Vec::new(alloc);
+    let mut numbered = Vec::with_capacity(alloc, edges.len())?;
     for edge in edges {
-        let number = number_of(&mut letters, edge.letter)?;
+        let number = number_of(&mut numbers, &mut letters, edge.letter)?;
         numbered.push(Edge {
             from: edge.from,
             letter: Some(number),
@@ -48,20 +40,24 @@ fn with_numbers<L: Letter>(alloc: Global, edges: &[Edge<L>]) -> Result<Numbered<
     })
 }
 
-/// The number of the last letter, which is added if it is another one.
+/// The number of a letter, which is noted where none is.
 fn number_of<L: Letter>(
+    numbers: &mut BTreeMap<Option<L>, usize>,
     letters: &mut Vec<Option<L>>,
     letter: Option<L>,
 ) -> Result<usize, AllocError>
     ensures number { IfOk result (λ k. slice_get letters.new.items k ≡ Some letter) }
     ensures kept { OnOk result (Keeps letters.old.items letters.new.items) }
 {
-    let count = letters.len();
-    if count > 0 && is_same(letters[count - 1], letter) {
-        return Ok(count - 1);
+    if let Some(number) = numbers.get(&letter) {
+        if *number < letters.len() && is_same(letters[*number], letter) {
+            return Ok(*number);
+        }
     }
+    let number = letters.len();
+    numbers.insert(letter, number)?;
     letters.push(letter)?;
-    Ok(count)
+    Ok(number)
 }
 
 /// Whether two letters are the same, or both are none.

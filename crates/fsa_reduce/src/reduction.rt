@@ -4,7 +4,7 @@ ghost use Rattle.fsa.specs.Language.{Accepts};
 
 use crate::epsilon::is_cheap;
 use crate::merging::merged;
-use fsa::Fsa;
+use fsa::{Edge, Fsa};
 use fsa_rational::without_empty;
 use fsm_base::Letter;
 use std::alloc::{AllocError, Global};
@@ -13,18 +13,23 @@ use std::alloc::{AllocError, Global};
 /// one in any case.
 const PASSES: usize = 500;
 
-/// A smaller automaton of the same language: states that go on alike become one, and epsilon edges go away where
-/// that is cheap. Takes time in proportion to the edges, which are sorted.
+/// A smaller automaton of the same language: states that go on alike become one, and epsilon edges, where there are any, go
+/// away if that is cheap. Takes time in proportion to the edges, which are sorted.
 pub fn reduced<L: Letter>(alloc: Global, a: &Fsa<L>) -> Result<Fsa<L>, AllocError>
     ensures letters { IfOk result (λ m. (x : L) → UsesLetter m x → UsesLetter a.now x) }
     ensures language { IfOk result (λ m. (w : List L) → Accepts m w ↔ Accepts a.now w) }
 {
     let m = merged_often(alloc, a)?;
-    if is_cheap(alloc, &m)? {
+    if has_epsilon(m.edges()) && is_cheap(alloc, &m)? {
         merged_often(alloc, &without_empty(alloc, &m)?)
     } else {
         Ok(m)
     }
+}
+
+/// Whether one of the edges is an epsilon edge.
+fn has_epsilon<L>(edges: &[Edge<L>]) -> bool {
+    edges.iter().any(|edge| edge.letter.is_none())
 }
 
 /// Merges states as long as that takes away more than a sixteenth of them.
@@ -35,7 +40,7 @@ fn merged_often<L: Letter>(alloc: Global, a: &Fsa<L>) -> Result<Fsa<L>, AllocErr
     let mut m = merged(alloc, a, true)?;
     for _pass in 0..PASSES {
         let next = merged_again(alloc, &m)?;
-        let is_last = next.states() >= m.states() - m.states() / 16;
+        let is_last = is_little(m.states(), next.states());
         m = next;
         if is_last {
             return Ok(m);
@@ -44,14 +49,19 @@ fn merged_often<L: Letter>(alloc: Global, a: &Fsa<L>) -> Result<Fsa<L>, AllocErr
     Ok(m)
 }
 
-/// Merges the states that go on into the same states and, where there were such, from the ends again.
+/// Merges the states that go on into the same states and, where there were more than a few, from the ends again.
 fn merged_again<L: Letter>(alloc: Global, a: &Fsa<L>) -> Result<Fsa<L>, AllocError>
     ensures letters { IfOk result (λ m. (x : L) → UsesLetter m x → UsesLetter a.now x) }
     ensures language { IfOk result (λ m. (w : List L) → Accepts m w ↔ Accepts a.now w) }
 {
     let m = merged(alloc, a, false)?;
-    if m.states() == a.states() {
+    if is_little(a.states(), m.states()) {
         return Ok(m);
     }
     merged(alloc, &m, true)
+}
+
+/// Whether no more than a sixteenth of so many states was taken away.
+fn is_little(before: usize, after: usize) -> bool {
+    after >= before - before / 16
 }

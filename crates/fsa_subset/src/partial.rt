@@ -26,12 +26,12 @@ impl Model for Partial {
 
 impl Partial {
     /// The start alone, which has the number 0.
-    pub fn start(alloc: Global, set: &[usize]) -> Result<Partial, AllocError>
-        ensures sets { IfOk result (λ found. found.sets ≡ set.now ∷ []) }
+    pub fn start(alloc: Global, set: Vec<usize>) -> Result<Partial, AllocError>
+        ensures sets { IfOk result (λ found. found.sets ≡ set.items ∷ []) }
         ensures edges { IfOk result (λ found. found.edges ≡ []) }
     {
         let mut sets = ListTable::new(alloc);
-        sets.number_of(alloc, set)?;
+        sets.insert(set)?;
         Ok(Partial {
             sets,
             edges: Vec::new(alloc),
@@ -62,16 +62,10 @@ impl Partial {
 
     /// Adds an edge from the set with a number, by the letter at a place, to a set. What is left after an Err is not
     /// said.
-    pub fn add(
-        &mut self,
-        alloc: Global,
-        number: usize,
-        place: usize,
-        set: &[usize],
-    ) -> Result<(), AllocError>
-        ensures { OnOk result (AddsEdge number place set.now self.old self.new) }
+    pub fn add(&mut self, number: usize, place: usize, set: Vec<usize>) -> Result<(), AllocError>
+        ensures { OnOk result (AddsEdge number place set.items self.old self.new) }
     {
-        let to = self.sets.number_of(alloc, set)?;
+        let to = self.sets.insert(set)?;
         self.edges.push(Edge {
             from: number,
             letter: Some(LetterIndex(place)),

@@ -79,7 +79,7 @@ fn first_set(
     reached.clear();
     reached.add(0)?;
     let set = settled(alloc, rows, reached)?;
-    let found = Partial::start(alloc, &set)?;
+    let found = Partial::start(alloc, set)?;
     Ok(found)
 }
 
@@ -137,7 +137,7 @@ fn add_steps(
 {
     'places: for place in places {
         let set = target_set(alloc, rows, moves.out(*place), reached)?;
-        found.add(alloc, number, *place, &set)?;
+        found.add(number, *place, set)?;
     }
     Ok(())
 }

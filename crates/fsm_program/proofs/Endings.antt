@@ -11,7 +11,7 @@ use Rattle.interlinear.specs.Replies.{GlossesLine}
 use Rattle.lookup_answers.specs.declared.direction.Direction.{Direction}
 use Rattle.reply_meaning.specs.Replies.{Replies}
 use Rattle.project_sources.specs.Sources.{Said, project_in}
-use Rattle.project_sources.specs.Faults.{rows_so_far}
+use Rattle.project_sources.specs.Faults.{rows}
 use Rattle.project_sources.specs.Laws.{all_readers}
 use Rattle.project_sources.proofs.Once.{one_answer, all_exact}
 use Rattle.project_sources.proofs.Glossing.{one_table, some_table}
@@ -101,7 +101,7 @@ ends_generated version stems before after status unread unwritten either =
 -- files say one thing
 pub one_told : (files : Option Files) (r q : Result Project Fault) → IsTold files (λ fs. Reads fs r) → Told files (λ fs. Reads fs q) → r ≡ q
 one_told None r q told other = absurd told
-one_told (Some fs) r q told other = one_answer all_readers all_exact fs rows_so_far r q told other
+one_told (Some fs) r q told other = one_answer all_readers all_exact fs rows r q told other
 
 one_table_told : (files : Option Files) (a b : List Entry) → IsTold files (λ fs. HasTable fs a) → Told files (λ fs. HasTable fs b) → a ≡ b
 one_table_told None a b told other = absurd told
@@ -110,7 +110,7 @@ one_table_told (Some fs) a b told other = one_table all_readers all_exact fs a b
 -- those of a project have a table of glosses
 some_told : (files : Option Files) (project : Project) → IsTold files (λ fs. Reads fs (Ok project)) → (table : List Entry) × IsTold files (λ fs. HasTable fs table)
 some_told None project told = absurd told
-some_told (Some fs) project told = some_table all_readers fs rows_so_far project told
+some_told (Some fs) project told = some_table all_readers fs rows project told
 
 same_fault : (a b : Fault) → ◌≡◌ {A = Result Project Fault} (Err a) (Err b) → a ≡ b
 same_fault a b e = cc

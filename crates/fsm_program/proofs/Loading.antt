@@ -20,7 +20,7 @@ use Rattle.project_manifest.proofs.Firsts.{first_alike}
 use Rattle.project_meaning.specs.Projects.{Project, Written}
 use Rattle.project_sources.specs.Limits.{most_bytes}
 use Rattle.project_sources.specs.Sources.{FileDefines, FilesDefine, FilesSay, GlossesOf, HasText, HaveText, Said, project_in}
-use Rattle.project_sources.specs.Faults.{fault, TextFault, text_rows, ContentFault, FileRow, missing, no_text, unread, file_rows, FileFault, NamedFault, Row, no_project, manifest_text, manifest_lines, in_files, in_said, empty_centre, HasFault, FirstFault, rows_so_far, said_so_far}
+use Rattle.project_sources.specs.Faults.{fault, TextFault, text_rows, ContentFault, FileRow, missing, no_text, unread, file_rows, FileFault, NamedFault, Row, no_project, manifest_text, manifest_lines, in_files, in_said, empty_centre, HasFault, FirstFault, rows, said_rows}
 use Rattle.project_sources.specs.Laws.{all_readers}
 use Rattle.fsm_program.specs.Files.{IsLoaded, IsLoadError, load_error, most_read}
 use Rattle.project_store.specs.Projects.{HasTable, Reads}
@@ -276,7 +276,7 @@ module _ (sources files : Files) (gathered : IsGathered sources files) where
 
   -- the rows behind those of the manifest
   abbrev behind : List Row
-  behind = in_files ∷ map in_said said_so_far ++ in_said empty_centre ∷ []
+  behind = in_files ∷ map in_said said_rows ++ in_said empty_centre ∷ []
 
   gone_both : (found : Fault) → HasFault all_readers sources no_project found ↔ HasFault all_readers files no_project found
   gone_both = project_both sources files seen
@@ -287,17 +287,17 @@ module _ (sources files : Files) (gathered : IsGathered sources files) where
   faulty_both : (found : Fault) → HasFault all_readers sources (manifest_lines line_rows) found ↔ HasFault all_readers files (manifest_lines line_rows) found
   faulty_both = lines_both sources files seen
 
-  faults_both : (found : Fault) → FirstFault all_readers sources rows_so_far found ↔ FirstFault all_readers files rows_so_far found
+  faults_both : (found : Fault) → FirstFault all_readers sources rows found ↔ FirstFault all_readers files rows found
   faults_both found = (there, back)
     where
-      there : FirstFault all_readers sources rows_so_far found → FirstFault all_readers files rows_so_far found
+      there : FirstFault all_readers sources rows found → FirstFault all_readers files rows found
       there (inl h) = inl ((gone_both found).0 h)
       there (inr (held, inl h)) = inr ((λ other h. held other ((gone_both other).1 h)), inl ((textless_both found).0 h))
       there (inr (held, inr (has, inl h))) = inr ((λ other h. held other ((gone_both other).1 h)), inr ((λ other h. has other ((textless_both other).1 h)), inl ((faulty_both found).0 h)))
       there (inr (held, inr (has, inr (free, h)))) =
           inr ((λ other h. held other ((gone_both other).1 h)), inr ((λ other h. has other ((textless_both other).1 h)), inr ((λ other h. free other ((faulty_both other).1 h)), (rows_both free behind found).0 h)))
 
-      back : FirstFault all_readers files rows_so_far found → FirstFault all_readers sources rows_so_far found
+      back : FirstFault all_readers files rows found → FirstFault all_readers sources rows found
       back (inl h) = inl ((gone_both found).1 h)
       back (inr (held, inl h)) = inr ((λ other h. held other ((gone_both other).0 h)), inl ((textless_both found).1 h))
       back (inr (held, inr (has, inl h))) = inr ((λ other h. held other ((gone_both other).0 h)), inr ((λ other h. has other ((textless_both other).0 h)), inl ((faulty_both found).1 h)))
@@ -306,7 +306,7 @@ module _ (sources files : Files) (gathered : IsGathered sources files) where
           inr ((λ other h. held other ((gone_both other).0 h)), inr ((λ other h. has other ((textless_both other).0 h)), inr (free_too, (rows_both free_too behind found).1 h)))
 
   -- without fault the manifest has none
-  no_line_fault : ((found : Fault) → FirstFault all_readers sources rows_so_far found → ⊥) → (found : Fault) → HasFault all_readers sources (manifest_lines line_rows) found → ⊥
+  no_line_fault : ((found : Fault) → FirstFault all_readers sources rows found → ⊥) → (found : Fault) → HasFault all_readers sources (manifest_lines line_rows) found → ⊥
   no_line_fault free found h =
       free found (inr ((λ other gone. free other (inl gone)), inr ((λ other none. free other (inr ((λ it gone. free it (inl gone)), inl none))), inl h)))
 
@@ -337,12 +337,12 @@ why_from sources files before now (store.Memory refused) told held why = tt
 why_from sources files before now (store.Refused fault) told held why = (told_so (IsGathered sources) (λ fs. Reads fs (Err fault)) files (λ fs gathered. gathered_says sources fs gathered (Err fault) why) told, held)
 
 -- the version of the sources is that of the folder's files
-pub version_from : (sources : Files) (files : Option Files) (meant : Version) → Told files (IsGathered sources) → IsLoadedVersion all_readers rows_so_far sources meant → Told files (λ fs. Reads fs (Ok meant.project)) × Told files (IsFirstVersion meant)
+pub version_from : (sources : Files) (files : Option Files) (meant : Version) → Told files (IsGathered sources) → IsLoadedVersion all_readers rows sources meant → Told files (λ fs. Reads fs (Ok meant.project)) × Told files (IsFirstVersion meant)
 version_from sources files meant told loads = (
   told_so (IsGathered sources) (λ fs. Reads fs (Ok meant.project)) files (λ fs gathered. gathered_says sources fs gathered (Ok meant.project) loads.says) told,
   told_so (IsGathered sources) (IsFirstVersion meant) files (λ fs gathered. record {
     gathered = subst (λ (f : Files). IsGathered f fs) (sym loads.files_are) gathered;
-    loads = subst (λ (f : Files). IsLoadedVersion all_readers rows_so_far f meant) (sym loads.files_are) loads;
+    loads = subst (λ (f : Files). IsLoadedVersion all_readers rows f meant) (sym loads.files_are) loads;
   }) told,
 )
 

@@ -117,7 +117,6 @@ fn ended<
     lanes: &mut [Lane<S, K>],
 ) -> u8
     requires { length lanes.old ≤ 16 }
-    ensures ends { EndsBeside first_version (asked_of (map string_bytes words.now)) (outside (F.files folder.old) (F.faults folder.old) (I.left input.old) (I.faults input.old) (O.held output.old) (O.faults output.old)) (outside (F.files folder.new) (F.faults folder.new) (I.left input.new) (I.faults input.new) (O.held output.new) (O.faults output.new)) lanes.old lanes.new result }
     ensures unread { (result ≡ 1) ⊎ (result ≡ 2) ⊎ (result ≡ 5) → input.new ≡ input.old }
     ensures look_ups_read { ((query : Query) → asked_of (map string_bytes words.now) ≢ Some (for_look query)) → asked_of (map string_bytes words.now) ≢ Some for_serve → input.new ≡ input.old }
     ensures unwritten { result ≡ 5 → output.new ≡ output.old }
@@ -127,6 +126,7 @@ fn ended<
     ensures write { result ≡ 4 → Rose (O.faults output.old) (O.faults output.new) ⊎ OfSomeLane LaneWriteFailed lanes.old lanes.new }
     ensures asked { AskedForFiles (F.files folder.old) (F.asked folder.old) (F.asked folder.new) }
     ensures count { length lanes.new ≡ length lanes.old }
+    ensures ends { EndsBeside first_version (asked_of (map string_bytes words.now)) (outside (F.files folder.old) (F.faults folder.old) (I.left input.old) (I.faults input.old) (O.held output.old) (O.faults output.old)) (outside (F.files folder.new) (F.faults folder.new) (I.left input.new) (I.faults input.new) (O.held output.new) (O.faults output.new)) lanes.old lanes.new result }
 {
     if is_serve(words) {
         serve(rt, alloc, folder, input, output, lanes)

@@ -4,5 +4,4 @@ mod Lines
 mod Made
 mod Nets
 mod Reported
-mod SameFiles
 mod Telling

@@ -4,25 +4,25 @@ use Rattle.std.specs.Prelude.{codes}
 use Rattle.std.specs.Result.{IsErrAnd}
 use Rattle.fsm_io.specs.Folders.{Files}
 use Rattle.generated_project.specs.Generated.{generated, text}
-use Rattle.project_sources.specs.Faults.{rows_so_far}
+use Rattle.project_sources.specs.Faults.{rows}
 use Rattle.project_sources.specs.Laws.{all_readers}
 use Rattle.project_sources.specs.Sources.{Said, project_in}
+use Rattle.project_sources.proofs.SameFiles.{AreSame, same_answer, same_table}
 use Rattle.project_store.specs.Loaded.{IsLoadedFrom, LoadedView}
 use Rattle.project_store.specs.Projects.{IsOfSources, IsWhyNot}
 use Rattle.project_store.specs.declared.store_error.StoreError.{StoreError}
-use Rattle.project_store.specs.declared.store_error.StoreError.TheVariants as stores
+use Rattle.project_store.specs.declared.store_error.StoreError.TheVariants.{Refused, Memory}
 use Rattle.generated_report.specs.Counts.{AreCounts}
-use Rattle.generated_report.specs.Errors.{IsWhyNone, of_store_error}
+use Rattle.generated_report.specs.Errors.{IsWhyNone}
 use Rattle.generated_report.specs.Reports.{IsReport, lines_of}
 use Rattle.generated_report.specs.Words.{words_in}
 use Rattle.generated_report.specs.declared.counts.Counts.{Counts}
-use Rattle.generated_report.proofs.SameFiles.{AreSame, same_answer, same_table}
 
 module _ (stems : ℕ) (files : Files) (same : AreSame files (generated stems)) where
   -- why there is none
-  pub why_none : (error : StoreError) → IsWhyNot files error → IsWhyNone stems (of_store_error error)
-  why_none (stores.Refused found) why = same_answer all_readers files (generated stems) same rows_so_far (Err found) why
-  why_none (stores.Memory refused) why = tt
+  pub why_none : (error : StoreError) → IsWhyNot files error → IsWhyNone stems error
+  why_none (Refused found) why = same_answer all_readers files (generated stems) same rows (Err found) why
+  why_none (Memory refused) why = tt
 
   -- the lines of the counts of the project that is loaded
   pub reported : (loaded : LoadedView) → IsOfSources files loaded → (counts : Counts) → ((said : Said) → IsLoadedFrom said loaded → AreCounts (project_in said) loaded.glosses (codes "Net") (words_in (text stems)) counts)
@@ -31,7 +31,7 @@ module _ (stems : ℕ) (files : Files) (same : AreSame files (generated stems)) 
     project = project_in said;
     glosses = loaded.glosses;
     counts = counts;
-    reads = same_answer all_readers files (generated stems) same rows_so_far (Ok (project_in said)) reads;
+    reads = same_answer all_readers files (generated stems) same rows (Ok (project_in said)) reads;
     has_table = same_table all_readers files (generated stems) same loaded.glosses table;
     counted = are said from;
     lines = lines;

@@ -10,7 +10,7 @@ use Rattle.fsm_base.specs.declared.letters.Sym.{Sym}
 use Rattle.interlinear.specs.Blocks.{width_of}
 use Rattle.interlinear.specs.Glosses.{Entry}
 use Rattle.interlinear.specs.Replies as cells
-use Rattle.interlinear.specs.Replies.{IsCell, analysis_of, gloss_in}
+use Rattle.interlinear.specs.Replies.{analysis_of, gloss_in}
 use Rattle.interlinear.specs.declared.columns.Cell.{Cell}
 use Rattle.lookup.specs.Answering.{UpperTexts}
 use Rattle.lookup_answers.proofs.AnswerKinds.{Answers-same}

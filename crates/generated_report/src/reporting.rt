@@ -10,11 +10,10 @@ ghost use Rattle.generated_report.specs.Words.{words_in};
 
 use crate::counts::Counts;
 use crate::networks::net_of;
-use crate::report_error::ReportError;
 use crate::told::told_of_words;
 use crate::words::words_in;
 use generated_project::{made_project, made_text};
-use project_store::{Ready, project_of};
+use project_store::{Ready, StoreError, project_of};
 use std::alloc::{AllocError, Global};
 use std::str;
 
@@ -58,7 +57,7 @@ fn counts_of(alloc: Global, ready: Ready, text: &str) -> Result<Counts, AllocErr
 /// # Errors
 ///
 /// `Refused` with the first fault of the generated files, and `Memory` where there was no memory.
-pub fn report(alloc: Global, stems: u32) -> Result<Vec<u8>, ReportError>
+pub fn report(alloc: Global, stems: u32) -> Result<Vec<u8>, StoreError>
     requires some { 1 ≤ stems }
     requires few { stems ≤ most_stems }
     ensures report { IfOk result (λ bytes. IsReport stems bytes.items) }

@@ -21,7 +21,9 @@ fn is_marked(stop: Option<Stop>) -> bool
 /// What a lane works with. Contracts see its seat, its lines, and why it stopped, if it did.
 #[derive(Drop)]
 pub struct Work<V: Answers> {
+    /// The lane's seat at the board, and the lines of its input that are read.
     session: LaneSession<V>,
+    /// Why it stopped, if it did.
     stop: Option<Stop>,
 }
 

@@ -1,4 +1,8 @@
 pub mod Adding
-pub mod Built
-pub mod Steps
+pub mod Growing
+pub mod Looking
+pub mod Chains
+pub mod Walking
+pub mod Networks
+pub mod Entries
 pub mod Language

@@ -1,5 +1,5 @@
--- How lexicons lie in one automaton: state 0 is the start, then there is a state for each lexicon, then the end, and behind these
--- the states of each entry's network, which are its block.
+-- How lexicons lie in one automaton: state 0 is the start, then there is a state for each lexicon, then the end. Behind these are
+-- the states that words of a lexicon lead to, and for each entry whose network is no chain the states of that, which are its block.
 use Rattle.std.specs.Prelude.{◌≡◌, ◌+◌, ◌<◌, ◌⊎◌, ◌++◌, ℕ, false, Option, None, Some, Contains, length, replicate}
 use Rattle.fsa.specs.Automaton.{Automaton, IsWellFormed}
 use Rattle.fsa.specs.declared.automaton.Edge.{Edge}

@@ -1,2 +1,4 @@
 pub mod Paths
 pub mod Blocks
+pub mod Words
+pub mod Built

@@ -7,8 +7,8 @@ use fsa::Fsa;
 use fsa_rational::{add_epsilon, add_shifted, leave_finals};
 use std::alloc::AllocError;
 
-/// Adds the states and the edges of an entry of the lexicon at a place, among so many lexicons.
-pub fn add_entry(
+/// Adds the states and the edges of an entry's network, in the lexicon at a place, among so many lexicons.
+pub fn add_block(
     m: &mut Fsa<Tape>,
     count: usize,
     place: usize,
@@ -37,7 +37,7 @@ pub fn is_there(count: usize, next: Option<u32>) -> bool
 }
 
 /// The state of the lexicon that a path goes on in, or of its end.
-fn target_of(count: usize, next: Option<u32>) -> usize
+pub fn target_of(count: usize, next: Option<u32>) -> usize
     requires room { count < 18446744073709551615 }
     ensures { result ≡ target_of count next }
 {

@@ -1,19 +1,24 @@
-ghost use Rattle.std.specs.Prelude.{◌≡◌, ◌<◌, ◌↔◌, ◌++◌, ◌∷◌, [], List, Some, false, true, IfOk, length, map, replicate};
+ghost use Rattle.std.specs.Prelude.{◌≡◌, ◌+◌, ◌<◌, ◌≤◌, ◌↔◌, ◌++◌, ◌∷◌, [], List, Some, false, true, IfOk, OnOk, length, map, replicate};
 ghost use Rattle.fsa.specs.Automaton.{UsesLetter};
 ghost use Rattle.fsa.specs.Language.{Accepts};
 ghost use Rattle.flag_diacritics.specs.declared.tape.Tape.{Tape};
+ghost use Rattle.lexc_compile.specs.Blocks.{IsThere};
+ghost use Rattle.lexc_compile.specs.Built.{IsTable, AddsEntry};
 ghost use Rattle.lexc_compile.specs.Paths.{HasPath, SomeEntryUses};
 
-use crate::blocks::{add_entry, is_there};
+use crate::blocks::{add_block, is_there};
 use crate::entry::LexEntry;
+use crate::steps::StepTable;
+use crate::words::{add_word, is_chain};
 use flag_diacritics::Tape;
 use fsa::Fsa;
 use fsa_rational::add_epsilon;
 use std::alloc::{AllocError, Global};
 
 /// The automaton of the tapes of all paths that begin in the root lexicon, by its place. It has a state for each lexicon,
-/// and the states of each entry's network once, so it takes time in proportion to the entries and their networks. An entry
-/// that names a lexicon which isn't there is on no path.
+/// one for each front of the words that are entries of a lexicon, however many of its words begin so, and the states of each
+/// other entry's network. So it takes time in proportion to the entries and their networks, and has fewer states where words
+/// begin alike. An entry that names a lexicon which isn't there is on no path.
 pub fn lexicon(
     alloc: Global,
     lexicons: &[Vec<LexEntry>],
@@ -26,14 +31,37 @@ pub fn lexicon(
     let count = lexicons.len();
     let mut m = homes(alloc, count)?;
     add_epsilon(&mut m, 0, root as usize + 1)?;
+    let mut steps = StepTable::new(alloc);
     'lexicons: for (place, entries) in lexicons.iter().enumerate() {
         'entries: for entry in entries.as_slice() {
             if is_there(count, entry.next) {
-                add_entry(&mut m, count, place, entry)?;
+                add_entry(&mut m, &mut steps, count, place, entry)?;
             }
         }
     }
     Ok(m)
+}
+
+/// Adds an entry of the lexicon at a place, among so many lexicons: a word's path, which shares its front with other words, and
+/// any other network whole.
+fn add_entry(
+    m: &mut Fsa<Tape>,
+    steps: &mut StepTable,
+    count: usize,
+    place: usize,
+    entry: &LexEntry,
+) -> Result<(), AllocError>
+    requires room { count < 18446744073709551615 }
+    requires homes { count + 2 ≤ length m.old.finals }
+    requires place { place < count }
+    requires next { IsThere count entry.now.next }
+    requires table { IsTable steps.old m.old }
+    ensures { OnOk result (AddsEntry count place entry.now m.old steps.old m.new steps.new) }
+{
+    if is_chain(&entry.net) {
+        return add_word(m, steps, count, place, entry);
+    }
+    add_block(m, count, place, entry)
 }
 
 /// The start, a state for each lexicon, and the end, which alone is final.

@@ -77,7 +77,6 @@ other_fault line at why.NotALanguage more ending no_token no_depth = refl
 other_fault line at why.LimitWeight more ending no_token no_depth = refl
 other_fault line at why.EmptyCentre more ending no_token no_depth = refl
 other_fault line at why.BadSplice more ending no_token no_depth = refl
-other_fault line at why.NotBuilt more ending no_token no_depth = refl
 
 -- what is said of a form that is a word
 pub said_by_word : (declared : List (List ℕ)) (line : ℕ) (letters : List Letter) (more : List Token) (ending : Ending) (result : Result (FormOf Raw × Option (List ℕ)) ReadError) (form : Result (Form Raw) FaultAt) → WordSays declared line letters form → IsSaid (with_form line form more ending) result → IsSaidByWord declared line letters more ending result

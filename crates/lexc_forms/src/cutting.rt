@@ -79,7 +79,7 @@ pub fn cut(
     let characters = characters(alloc, letters)?;
     let mut text = characters.as_slice();
     let mut rest = letters;
-    let mut pieces = Vec::new(alloc);
+    let mut pieces = Vec::with_capacity(alloc, letters.len())?;
     'rest: while let Some((first, others)) = rest.split_first() {
         match longest_piece(alloc, declared, text)? {
             Some((piece, len)) => {

@@ -53,7 +53,7 @@ fn resolve_side(
 ) -> Result<Vec<Piece<Atom>>, AllocError>
     ensures { IfOk result (λ found. map piece_of found.items ≡ map (piece_in names.now table.now) (map piece_of side.now)) }
 {
-    let mut found = Vec::new(alloc);
+    let mut found = Vec::with_capacity(alloc, side.len())?;
     'side: for piece in side {
         found.push(resolve_piece(names, table, piece)?)?;
     }

@@ -1,6 +1,6 @@
 -- Lanes that went beside an editor, learnt what it published and were answered to their end were served over the versions that this
 -- stands for.
-use Rattle.std.proofs.Common.{◌≡◌, ◌<◌, ◌+◌, ℕ, zero, suc, List, [], ◌∷◌, ◌++◌, Option, None, Some, All, refl, sym, subst, ap, ◌∙◌, arith, length, get_or, slice_index_or}
+use Rattle.std.proofs.Common.{◌≡◌, ◌<◌, ◌+◌, ℕ, zero, suc, List, [], ◌∷◌, ◌++◌, Option, Some, refl, sym, subst, ap, ◌∙◌, arith, length, slice_index_or}
 use Rattle.std.specs.List.{AllZip, slice_get}
 use Rattle.std.specs.Option.{option_to_list}
 use Rattle.std.proofs.lemmas.List.Elements.{All-get_or}
@@ -8,7 +8,7 @@ use Rattle.std.proofs.lemmas.Option.{get_or_from_slice_get, slice_get-get_or, sl
 use Rattle.reply_meaning.specs.declared.ending.Ending.{Ending}
 use Rattle.lane_meaning.proofs.Carrying.{lane_carries}
 use Rattle.lane_threads.specs.Lanes.{GoesBehind, GoesBeside, IsServed, LaneView, Learns, Work, begun, ending_in}
-use Rattle.lane_threads.proofs.Serving.{ending_served, served}
+use Rattle.lane_threads.proofs.Serving.{served}
 use Rattle.editor_session.specs.Publishing.{ArePublished, AreStanding}
 use Rattle.lane_session.specs.declared.session.Stop.{Stop}
 use Rattle.project_sources.specs.Edits.{Version}

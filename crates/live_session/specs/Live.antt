@@ -1,5 +1,5 @@
 -- What an editor's output and the outputs of lanes got for their inputs, over the same versions.
-use Rattle.std.specs.Prelude.{◌≡◌, ◌<◌, ℕ, List, [], ◌∷◌, length, Option, Some, slice_get}
+use Rattle.std.specs.Prelude.{◌≡◌, ℕ, List, ◌∷◌, length, Option, Some, slice_get}
 use Rattle.fsm_io.specs.Causes.{Rose}
 use Rattle.reply_meaning.specs.declared.ending.Ending.{Ending}
 use Rattle.reply_meaning.specs.declared.ending.Ending.TheVariants.{WriteFailed, ReadFailed}

@@ -4,6 +4,7 @@ mod Free
 pub mod Grammars
 mod Held
 mod Lists
+mod Once
 mod Ones
 mod Sounds
 mod Uses

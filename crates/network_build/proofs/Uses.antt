@@ -1,14 +1,9 @@
 -- The symbols among leaves, gathered leaf by leaf.
-use Rattle.std.proofs.Common.{◌≡◌, ◌↔◌, ◌⊎◌, ◌+◌, ◌<◌, ◌++◌, ◌==◌, ℕ, Bool, true, false, List, [], ◌∷◌, Some, Option, Contains, length, take, get_or, refl, sym, ap, subst, ◌∙◌, inl, inr, eq-eqb, if◌then◌else◌}
-use Rattle.std.proofs.lemmas.Bool.{eqb-true}
-use Rattle.std.proofs.lemmas.List.{take_more, map-append, map-id}
+use Rattle.std.proofs.Common.{◌≡◌, ◌↔◌, ◌⊎◌, ◌+◌, ◌<◌, ◌++◌, ℕ, List, [], ◌∷◌, Some, Option, Contains, length, take, get_or, sym, ap, subst, ◌∙◌, inl, inr}
+use Rattle.std.proofs.lemmas.List.{take_more, map-append}
 use Rattle.std.proofs.lemmas.List.Elements.{Contains-append_left, Contains-push, Contains-push_cases}
 use Rattle.std.specs.Borrow.{Bor}
-use Rattle.std.specs.List.{IsDistinct as IsApart, list_any}
-use Rattle.indexmap.proofs.CallerLemmas.{Contains-list_any}
-use Rattle.indexmap.specs.IndexSet.{insert_key}
 use Rattle.fsm_base.specs.declared.letters.Sym.{Sym as Symbol}
-use Rattle.fsm_base.proofs.TableLemmas.{IsDistinct-map}
 use Rattle.fsm_base.specs.declared.letters.Bound.{Bound}
 use Rattle.fsm_base.specs.declared.letters.Bound.TheVariants.{Inner}
 use Rattle.fsm_base.specs.declared.letters.Pair.{Pair}
@@ -16,7 +11,6 @@ use Rattle.fsa.specs.Automaton.{Automaton}
 use Rattle.fsa.specs.declared.automaton.Edge.{Edge}
 use Rattle.network_algebra.specs.declared.network.Network.{Network}
 use Rattle.network_algebra.specs.declared.network.Network.TheVariants.{Words, Pairs}
-use Rattle.word_relations.specs.Words.{IsDistinct}
 use Rattle.word_relations.proofs.Members.{Contains-nil_cases}
 use Rattle.network_expr.specs.declared.parts.Part.{Part}
 use Rattle.network_build.specs.Networks.{IsOn, UsesSymbol}
@@ -24,23 +18,15 @@ use Rattle.regex_ast.specs.declared.expr.Atom.{Atom}
 use Rattle.regex_ast.specs.declared.expr.Atom.TheVariants.{Sym}
 use Rattle.expr_leaves.specs.Leaves.{seen}
 
-module _ {K : Type 0} (eq : K → K → Bool) (same : (a b : K) → eq a b ≡ true → a ≡ b) where
-  -- what a set has with one more
-  pub inserted : (ks : List K) (k s : K) → Contains (insert_key eq ks k) s ↔ (Contains ks s ⊎ (k ≡ s))
-  inserted ks k s = by (list_any (eq k) ks) refl
-    where
-      by : (b : Bool) → list_any (eq k) ks ≡ b → Contains (insert_key eq ks k) s ↔ (Contains ks s ⊎ (k ≡ s))
-      by true e = subst (λ (l : List K). Contains l s ↔ (Contains ks s ⊎ (k ≡ s))) (sym (ap (λ (c : Bool). if c then ks else ks ++ k ∷ []) e)) (
-        λ h. inl h,
-        λ h. elim h as (λ _. Contains ks s) [ inl at ↦ at | inr is ↦ subst (Contains ks) is (Contains-list_any eq same ks k e) ],
-      )
-      by false e = subst (λ (l : List K). Contains l s ↔ (Contains ks s ⊎ (k ≡ s))) (sym (ap (λ (c : Bool). if c then ks else ks ++ k ∷ []) e)) (
-        λ h. Contains-push_cases ks k s h,
-        λ h. elim h as (λ _. Contains (ks ++ k ∷ []) s) [
-          | inl at ↦ Contains-append_left ks (k ∷ []) s at
-          | inr is ↦ subst (Contains (ks ++ k ∷ [])) is (Contains-push ks k)
-        ],
-      )
+-- what a list has with one more
+pub pushed : (ks : List Symbol) (k s : Symbol) → Contains (ks ++ k ∷ []) s ↔ (Contains ks s ⊎ (k ≡ s))
+pushed ks k s = (
+  λ h. Contains-push_cases ks k s h,
+  λ h. elim h as (λ _. Contains (ks ++ k ∷ []) s) [
+    | inl at ↦ Contains-append_left ks (k ∷ []) s at
+    | inr is ↦ subst (Contains (ks ++ k ∷ [])) is (Contains-push ks k)
+  ],
+)
 
 -- the symbols are the old ones and that of the leaf
 abbrev pub IsWith : List Symbol → List Symbol → Atom → Type 0
@@ -49,10 +35,6 @@ IsWith old new leaf = (s : Symbol) → Contains new s ↔ (Contains old s ⊎ (l
 -- the symbols are those among these leaves
 abbrev pub AreAmong : List Symbol → List (Bor Atom) → Type 0
 AreAmong symbols leaves = (s : Symbol) → Contains symbols s ↔ Contains (seen leaves) (Sym s)
-
--- symbols of one number are one
-pub same_number : (a b : Symbol) → (a.0 == b.0) ≡ true → a ≡ b
-same_number a b e = ap (λ (n : ℕ). record { 0 = n }) (eqb-true a.0 b.0 e)
 
 same_symbol : (a b : Symbol) → (Sym a ≡ Sym b) → a ≡ b
 same_symbol a b e = cc
@@ -186,12 +168,3 @@ pair_both old between new letter pair is first second s = (
         elim (subst (λ (y : Pair). IsOn y s) same side) as (λ _. Contains new s) [ inl up ↦ (second s).1 (inl ((first s).1 (inr up))) | inr low ↦ (second s).1 (inr low) ])
   ],
 )
-
--- symbols that a set tells apart are distinct
-pub apart_distinct : (ks : List Symbol) → IsApart (λ (a b : Symbol). a.0 == b.0) ks → IsDistinct ks
-apart_distinct ks apart =
-    subst (λ (l : List Symbol). IsDistinct l) (map-id ks)
-    (IsDistinct-map (λ (a b : Symbol). a.0 == b.0) (λ (s : Symbol). s) equal ks apart)
-  where
-    equal : (a b : Symbol) → a ≡ b → (a.0 == b.0) ≡ true
-    equal a b e = eq-eqb a.0 b.0 (ap (λ (s : Symbol). s.0) e)

@@ -9,13 +9,12 @@ ghost use Rattle.network_build.specs.Networks.{IsOn, PartsUse, UsesSymbol};
 
 use fsa::Edge;
 use fsm_base::{Bound, Pair, Sym};
-use indexmap::IndexSet;
 use network_algebra::Network;
 use network_expr::Part;
 use regex_ast::Atom;
 use std::alloc::{AllocError, Global};
 
-/// The symbols among leaves and in the networks of parts, each once, in the order of their first places.
+/// The symbols among leaves and in the networks of parts, each once, in the order of their numbers.
 pub fn symbols_among(
     alloc: Global,
     leaves: &[&Atom],
@@ -24,27 +23,29 @@ pub fn symbols_among(
     ensures distinct { IfOk result (λ symbols. IsDistinct symbols.items) }
     ensures same { IfOk result (λ symbols. (s : Symbol) → Contains symbols.items s ↔ (Contains (seen leaves.now) (Atom.Sym s) ⊎ PartsUse parts.now s)) }
 {
-    let mut symbols = IndexSet::new(alloc);
+    let mut symbols = Vec::with_capacity(alloc, leaves.len())?;
     'leaves: for leaf in leaves {
         add_symbol(leaf, &mut symbols)?;
     }
     add_parts(parts, &mut symbols)?;
-    Vec::from_slice(alloc, symbols.as_slice())
+    symbols.sort_unstable();
+    symbols.dedup();
+    Ok(symbols)
 }
 
-/// Adds the symbol of a leaf, where it's new. A name has none.
-fn add_symbol(leaf: &Atom, symbols: &mut IndexSet<Sym>) -> Result<(), AllocError>
-    ensures { OnOk result ((s : Symbol) → Contains symbols.new.keys s ↔ (Contains symbols.old.keys s ⊎ (leaf.now ≡ Atom.Sym s))) }
+/// Adds the symbol of a leaf. A name has none.
+fn add_symbol(leaf: &Atom, symbols: &mut Vec<Sym>) -> Result<(), AllocError>
+    ensures { OnOk result ((s : Symbol) → Contains symbols.new.items s ↔ (Contains symbols.old.items s ⊎ (leaf.now ≡ Atom.Sym s))) }
 {
     if let Atom::Sym(symbol) = leaf {
-        symbols.insert(*symbol)?;
+        symbols.push(*symbol)?;
     }
     Ok(())
 }
 
-/// Adds the symbols that stand in the networks of parts, each where it's new.
-fn add_parts(parts: &[Part], symbols: &mut IndexSet<Sym>) -> Result<(), AllocError>
-    ensures { OnOk result ((s : Symbol) → Contains symbols.new.keys s ↔ (Contains symbols.old.keys s ⊎ PartsUse parts.now s)) }
+/// Adds the symbols that stand in the networks of parts.
+fn add_parts(parts: &[Part], symbols: &mut Vec<Sym>) -> Result<(), AllocError>
+    ensures { OnOk result ((s : Symbol) → Contains symbols.new.items s ↔ (Contains symbols.old.items s ⊎ PartsUse parts.now s)) }
 {
     'parts: for part in parts {
         add_network(part.network, symbols)?;
@@ -52,9 +53,9 @@ fn add_parts(parts: &[Part], symbols: &mut IndexSet<Sym>) -> Result<(), AllocErr
     Ok(())
 }
 
-/// Adds the symbols that stand in a network, each where it's new.
-fn add_network(network: &Network, symbols: &mut IndexSet<Sym>) -> Result<(), AllocError>
-    ensures { OnOk result ((s : Symbol) → Contains symbols.new.keys s ↔ (Contains symbols.old.keys s ⊎ UsesSymbol network.now s)) }
+/// Adds the symbols that stand in a network.
+fn add_network(network: &Network, symbols: &mut Vec<Sym>) -> Result<(), AllocError>
+    ensures { OnOk result ((s : Symbol) → Contains symbols.new.items s ↔ (Contains symbols.old.items s ⊎ UsesSymbol network.now s)) }
 {
     match network {
         Network::Words(words) => add_words(words.edges(), symbols),
@@ -62,9 +63,9 @@ fn add_network(network: &Network, symbols: &mut IndexSet<Sym>) -> Result<(), All
     }
 }
 
-/// Adds the symbols that edges read, each where it's new.
-fn add_words(edges: &[Edge<Bound<Sym>>], symbols: &mut IndexSet<Sym>) -> Result<(), AllocError>
-    ensures { OnOk result ((s : Symbol) → Contains symbols.new.keys s ↔ (Contains symbols.old.keys s ⊎ ((e : EdgeOf (WithEdge Symbol)) × Contains edges.now e × (e.letter ≡ Some (Bound.Inner s))))) }
+/// Adds the symbols that edges read.
+fn add_words(edges: &[Edge<Bound<Sym>>], symbols: &mut Vec<Sym>) -> Result<(), AllocError>
+    ensures { OnOk result ((s : Symbol) → Contains symbols.new.items s ↔ (Contains symbols.old.items s ⊎ ((e : EdgeOf (WithEdge Symbol)) × Contains edges.now e × (e.letter ≡ Some (Bound.Inner s))))) }
 {
     'edges: for edge in edges {
         add_letter(edge.letter, symbols)?;
@@ -73,18 +74,18 @@ fn add_words(edges: &[Edge<Bound<Sym>>], symbols: &mut IndexSet<Sym>) -> Result<
 }
 
 /// Adds the symbol that a letter is, if it's one.
-fn add_letter(letter: Option<Bound<Sym>>, symbols: &mut IndexSet<Sym>) -> Result<(), AllocError>
-    ensures { OnOk result ((s : Symbol) → Contains symbols.new.keys s ↔ (Contains symbols.old.keys s ⊎ (letter ≡ Some (Bound.Inner s)))) }
+fn add_letter(letter: Option<Bound<Sym>>, symbols: &mut Vec<Sym>) -> Result<(), AllocError>
+    ensures { OnOk result ((s : Symbol) → Contains symbols.new.items s ↔ (Contains symbols.old.items s ⊎ (letter ≡ Some (Bound.Inner s)))) }
 {
     if let Some(Bound::Inner(symbol)) = letter {
-        symbols.insert(symbol)?;
+        symbols.push(symbol)?;
     }
     Ok(())
 }
 
-/// Adds the symbols on both sides of edges, each where it's new.
-fn add_pairs(edges: &[Edge<Pair>], symbols: &mut IndexSet<Sym>) -> Result<(), AllocError>
-    ensures { OnOk result ((s : Symbol) → Contains symbols.new.keys s ↔ (Contains symbols.old.keys s ⊎ ((e : EdgeOf Letter) × Contains edges.now e × ((pair : Letter) × (e.letter ≡ Some pair) × IsOn pair s)))) }
+/// Adds the symbols on both sides of edges.
+fn add_pairs(edges: &[Edge<Pair>], symbols: &mut Vec<Sym>) -> Result<(), AllocError>
+    ensures { OnOk result ((s : Symbol) → Contains symbols.new.items s ↔ (Contains symbols.old.items s ⊎ ((e : EdgeOf Letter) × Contains edges.now e × ((pair : Letter) × (e.letter ≡ Some pair) × IsOn pair s)))) }
 {
     'edges: for edge in edges {
         add_pair(edge.letter, symbols)?;
@@ -93,8 +94,8 @@ fn add_pairs(edges: &[Edge<Pair>], symbols: &mut IndexSet<Sym>) -> Result<(), Al
 }
 
 /// Adds the symbols on both sides of a pair, if there is one.
-fn add_pair(letter: Option<Pair>, symbols: &mut IndexSet<Sym>) -> Result<(), AllocError>
-    ensures { OnOk result ((s : Symbol) → Contains symbols.new.keys s ↔ (Contains symbols.old.keys s ⊎ ((pair : Letter) × (letter ≡ Some pair) × IsOn pair s))) }
+fn add_pair(letter: Option<Pair>, symbols: &mut Vec<Sym>) -> Result<(), AllocError>
+    ensures { OnOk result ((s : Symbol) → Contains symbols.new.items s ↔ (Contains symbols.old.items s ⊎ ((pair : Letter) × (letter ≡ Some pair) × IsOn pair s))) }
 {
     let Some(pair) = letter else {
         return Ok(());
@@ -104,11 +105,11 @@ fn add_pair(letter: Option<Pair>, symbols: &mut IndexSet<Sym>) -> Result<(), All
 }
 
 /// Adds the symbol of a side, if it has one.
-fn add_side(side: Option<Sym>, symbols: &mut IndexSet<Sym>) -> Result<(), AllocError>
-    ensures { OnOk result ((s : Symbol) → Contains symbols.new.keys s ↔ (Contains symbols.old.keys s ⊎ (side ≡ Some s))) }
+fn add_side(side: Option<Sym>, symbols: &mut Vec<Sym>) -> Result<(), AllocError>
+    ensures { OnOk result ((s : Symbol) → Contains symbols.new.items s ↔ (Contains symbols.old.items s ⊎ (side ≡ Some s))) }
 {
     if let Some(symbol) = side {
-        symbols.insert(symbol)?;
+        symbols.push(symbol)?;
     }
     Ok(())
 }

@@ -26,12 +26,6 @@ all_on f g P Q each [] h = All-nil Q
 all_on f g P Q each (x ∷ xs) h =
     All-cons Q (g (f x)) (map g (map f xs)) (each x (All-head P (f x) (map f xs) h)) (all_on f g P Q each xs (All-tail P (f x) (map f xs) h))
 
-pub all_off : {X Y Z : Type 0} (f : X → Y) (g : Y → Z) (P : Y → Type 0) (Q : Z → Type 0) → ((x : X) → Q (g (f x)) → P (f x))
-    → (xs : List X) → All Q (map g (map f xs)) → All P (map f xs)
-all_off f g P Q each [] h = All-nil P
-all_off f g P Q each (x ∷ xs) h =
-    All-cons P (f x) (map f xs) (each x (All-head Q (g (f x)) (map g (map f xs)) h)) (all_off f g P Q each xs (All-tail Q (g (f x)) (map g (map f xs)) h))
-
 -- the same where what is listed of the items has a property
 pub all_held : {X Y W : Type 0} (g : X → Y) (of : X → List W) (K : W → Type 0) (P : X → Type 0) (Q : Y → Type 0) → ((x : X) → All K (of x) → Q (g x) → P x)
     → (xs : List X) → All K (flat_map of xs) → All Q (map g xs) → All P xs

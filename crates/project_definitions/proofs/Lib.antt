@@ -12,5 +12,6 @@ mod Passing
 mod Telling
 mod Told
 pub mod Referring
+pub mod Compiled
 pub mod Demanded
 pub mod Forming

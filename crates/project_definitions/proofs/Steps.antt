@@ -3,14 +3,13 @@ use Rattle.std.proofs.Common.{◌≡◌, ◌↔◌, ◌+◌, ◌<◌, ◌≤◌,
 use Rattle.std.proofs.lemmas.List.{take_more, map-append, take-append-drop}
 use Rattle.std.proofs.lemmas.List.Elements.{All-append, All-cons, All-nil, All-head, All-tail}
 use Rattle.word_relations.proofs.Behind.{left_behind}
-use Rattle.expr_kinds.specs.Atoms.{is_known_at, is_symbol, leaves_at, weights_at}
+use Rattle.expr_kinds.specs.Atoms.{leaves_at, weights_at}
 use Rattle.expr_kinds.specs.Forms.{capped}
 use Rattle.expr_kinds.specs.Weights.{most_weight}
 use Rattle.expr_kinds.specs.declared.form.Form.{Form}
 use Rattle.grammar_weights.specs.Weights.{is_same_symbol}
 use Rattle.regex_ast.specs.declared.expr.Atom.{Atom}
 use Rattle.project_meaning.specs.Trees.{Body}
-use Rattle.project_sources.specs.Built.{BodyIsBuiltBy}
 use Rattle.project_definitions.specs.Bodies.{BodyFitsBy, weight_of_body}
 use Rattle.regex_ast.specs.declared.fault.Fault.{Fault}
 use Rattle.project_manifest.specs.Rows.{Where}
@@ -71,7 +70,6 @@ through : {P Q R : Type 0} → P ↔ Q → Q ↔ R → P ↔ R
 through first second = (λ p. second.0 (first.0 p), λ r. first.1 (second.1 r))
 
 pub meets_as : (forms : List Form) (body : Body Atom) (asked : Demand) (form : Form) (does : Bool) → IsTrue form.fits ↔ BodyFitsBy (leaves_at forms) body → form.weight ≡ capped (weight_of_body (weights_at forms) is_same_symbol body)
-    → IsTrue form.built ↔ BodyIsBuiltBy (is_known_at forms) is_symbol body → IsTrue does ↔ FormMeets asked form → IsTrue does ↔ Meets forms asked body
-meets_as forms body demand.Fits form does fits weight built told = through told fits
-meets_as forms body demand.Light form does fits weight built told = through told (light_as form.weight (weight_of_body (weights_at forms) is_same_symbol body) weight)
-meets_as forms body demand.Built form does fits weight built told = through told built
+    → IsTrue does ↔ FormMeets asked form → IsTrue does ↔ Meets forms asked body
+meets_as forms body demand.Fits form does fits weight told = through told fits
+meets_as forms body demand.Light form does fits weight told = through told (light_as form.weight (weight_of_body (weights_at forms) is_same_symbol body) weight)

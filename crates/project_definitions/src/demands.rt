@@ -16,8 +16,6 @@ pub enum Demand {
     Fits,
     /// It weighs 4,000,000 at most.
     Light,
-    /// Its network can be built: each insertion stands alone in its rules.
-    Built,
 }
 
 /// Whether a definition of this form meets it.
@@ -28,7 +26,6 @@ fn does_meet(form: Form, demand: Demand) -> bool
     match demand {
         Demand::Fits => form.fits,
         Demand::Light => form.weight <= MOST_WEIGHT,
-        Demand::Built => form.built,
     }
 }
 

@@ -109,15 +109,15 @@ pub put_grammar : (line : ℕ) (name named text : List ℕ) (grammar : GrammarTr
     → HasPut (placed_of (record { number = line; declares = Grammar name named })) text old new
 put_grammar line name named text grammar old new says is = (declared name line (twolc grammar), (grammar, says, refl), is)
 
-pub unread_line : (line : ℕ) (d : Declaration) (file text : List ℕ) (error : PlanError) → file_in (line_of d) ≡ file ∷ [] → ((named : List ℕ) → d ≡ Definitions named → ⊥) → ((name named : List ℕ) → d ≡ Lexicon name named → ⊥) → ((name named : List ℕ) → d ≡ Grammar name named → ⊥) → ((named : List ℕ) → d ≡ Glosses named → ⊥)
-    → IsRefusal (fault file 0 why.NotBuilt) error → IsRefusedBy (IsUnread (placed_of (record { number = line; declares = d })) file text) error
-unread_line line d file text (Memory refused) names other more grammar glosses is = tt
-unread_line line (Lexicon name it) file text (Refused found) names other more grammar glosses is = absurd (more name it refl)
-unread_line line (Grammar name it) file text (Refused found) names other more grammar glosses is = absurd (grammar name it refl)
-unread_line line (Glosses it) file text (Refused found) names other more grammar glosses is = absurd (glosses it refl)
-unread_line line (Definitions it) file text (Refused found) names other more grammar glosses is = absurd (other it refl)
-unread_line line (Symbols symbols) file text (Refused found) names other more grammar glosses is = let clash : [] ≡ file ∷ [] = names in cc
-unread_line line (Required required) file text (Refused found) names other more grammar glosses is = let clash : [] ≡ file ∷ [] = names in cc
+-- a line that names a file is of one of these kinds
+pub none_else : (d : Declaration) (file : List ℕ) → file_in (line_of d) ≡ file ∷ [] → ((named : List ℕ) → d ≡ Definitions named → ⊥) → ((name named : List ℕ) → d ≡ Lexicon name named → ⊥) → ((name named : List ℕ) → d ≡ Grammar name named → ⊥)
+    → ((named : List ℕ) → d ≡ Glosses named → ⊥) → ⊥
+none_else (Lexicon name it) file names definitions lexicon grammar glosses = lexicon name it refl
+none_else (Grammar name it) file names definitions lexicon grammar glosses = grammar name it refl
+none_else (Glosses it) file names definitions lexicon grammar glosses = glosses it refl
+none_else (Definitions it) file names definitions lexicon grammar glosses = definitions it refl
+none_else (Symbols symbols) file names definitions lexicon grammar glosses = let clash : [] ≡ file ∷ [] = names in cc
+none_else (Required required) file names definitions lexicon grammar glosses = let clash : [] ≡ file ∷ [] = names in cc
 
 -- with one line more
 files_more : (files : Files) (lines : List Placed) (written more : List Written) (l : Placed) → FilesDefine readers files lines written → FileDefines readers files l (file_in l.said) more

@@ -20,7 +20,8 @@ use Rattle.project_meaning.specs.Leaves.{resolved, symbols_in}
 use Rattle.project_meaning.specs.Projects.{Definition as Meant, Written, definition_in, names_of, with_texts}
 use Rattle.project_sources.specs.Limits.{most_symbols}
 use Rattle.project_sources.specs.Sources.{Said, project_in}
-use Rattle.project_sources.specs.Faults.{fault, in_names, many_symbols, unknown, cyclic, no_language, heavy, unbuilt, SaidFault, NamesFault, definitions_so_far, said_so_far}
+use Rattle.project_sources.specs.Built.{BodyIsBuilt}
+use Rattle.project_sources.specs.Faults.{fault, in_names, many_symbols, unknown, cyclic, no_language, heavy, SaidFault, NamesFault, definition_rows, said_rows}
 use Rattle.project_manifest.proofs.Firsts.{none_more}
 use Rattle.project_definitions.specs.Demands.{DemandFault, DoesMeet, demands}
 use Rattle.project_model.specs.Answers.{IsPlanBy, IsRefusal, IsRefusedBy, UnknownFault, said_of}
@@ -47,7 +48,7 @@ use Rattle.project_definitions.proofs.Forming.{kind_there}
 use Rattle.project_definitions.proofs.Referring.{count, cycle_fault, none_cyclic}
 use Rattle.project_model.proofs.Requiring.{unknown_fault}
 use Rattle.project_definitions.proofs.Expressions.{names_said}
-use Rattle.project_model.proofs.Sound.{definitions_over, sound_definitions}
+use Rattle.project_model.proofs.Sound.{sound_definitions, written_over}
 use Rattle.name_resolution.proofs.Texts.{one_longer}
 use Rattle.project_definitions.proofs.Steps.{all_pass, made_more}
 
@@ -137,7 +138,7 @@ module _ (written : List Written) (names alphabet old new : List (List ℕ)) (de
 
     -- why there is no order
     pub why_no_order : (manifest : List Placed) (error : PlanError) → IsRefusedBy (CycleFault definitions) error
-        → IsPlanBy definitions_so_far (said_of manifest written) old new (Err error)
+        → IsPlanBy definition_rows (said_of manifest written) old new (Err error)
     why_no_order manifest (Refused found) h = inl (cycle_fault (said_of manifest written) new definitions (defined manifest) found h)
     why_no_order manifest (Memory refused) h = tt
 
@@ -147,23 +148,23 @@ module _ (written : List Written) (names alphabet old new : List (List ℕ)) (de
       no_cycle manifest found h = none_cyclic (said_of manifest written) new definitions (defined manifest) rounds found h
 
       alike : (manifest : List Placed) (found : Fault)
-          → First (DemandFault definitions forms) demands found ↔ First (SaidFault (said_of manifest written)) (no_language ∷ heavy ∷ unbuilt ∷ []) found
+          → First (DemandFault definitions forms) demands found ↔ First (SaidFault (said_of manifest written)) (no_language ∷ heavy ∷ []) found
       alike manifest found =
           demand_fault (said_of manifest written) new definitions (defined manifest) forms few (told (said_of manifest written) new (defined manifest)) found
 
       -- why there is no plan
       pub why_no_plan : (manifest : List Placed) (error : PlanError) → IsRefusedBy (First (DemandFault definitions forms) demands) error
-          → IsPlanBy definitions_so_far (said_of manifest written) old new (Err error)
+          → IsPlanBy definition_rows (said_of manifest written) old new (Err error)
       why_no_plan manifest (Refused found) h = inr (no_cycle manifest, (alike manifest found).0 h)
       why_no_plan manifest (Memory refused) h = tt
 
       module _ (glosses : List Glossed) (formed : All (λ (w : Written). IsFormed w.body) written) (symbols : List Sym) (numbers_are : symbols ≡ numbers_in new alphabet) (distinct : IsDistinct alphabet) (fits : All (DoesMeet forms demand.Fits) definitions)
-          (light : All (DoesMeet forms demand.Light) definitions) (built : All (DoesMeet forms demand.Built) definitions) where
+          (light : All (DoesMeet forms demand.Light) definitions) (built : All (λ (w : Written). BodyIsBuilt (resolved (names_of written) w.body)) written) where
         many : length forms ≡ length (names_of written)
         many = few ∙ count (said_of [] written) new definitions (defined [])
 
         over : All (λ (d : Meant). IsBodyOver alphabet d.body) (map (definition_in (names_of written)) written)
-        over = definitions_over (names_of written) alphabet new forms many definitions written said_are symbols_are built
+        over = written_over (names_of written) alphabet new forms many written symbols_are built
 
         abbrev plan : PlanView
         plan = record { definitions = definitions; symbols = symbols; forms = forms; glosses = glosses }
@@ -176,15 +177,14 @@ module _ (written : List Written) (names alphabet old new : List (List ℕ)) (de
           sound = subst (λ (z : List Sym). All (IsSoundOver forms z) definitions) (sym numbers_are) (sound_definitions (names_of written) alphabet new forms many definitions written said_are formed fits over);
         }
 
-        none_fails : (manifest : List Placed) → HaveNone (SaidFault (said_of manifest written)) definitions_so_far
+        none_fails : (manifest : List Placed) → HaveNone (SaidFault (said_of manifest written)) definition_rows
         none_fails manifest =
-            let none = none_more (DemandFault definitions forms) demand.Fits (demand.Light ∷ demand.Built ∷ []) (all_pass forms demand.Fits definitions fits)
-            (none_more (DemandFault definitions forms) demand.Light (demand.Built ∷ []) (all_pass forms demand.Light definitions light)
-            (none_more (DemandFault definitions forms) demand.Built [] (all_pass forms demand.Built definitions built) (λ f p. p))) in
-            none_more (SaidFault (said_of manifest written)) cyclic (no_language ∷ heavy ∷ unbuilt ∷ []) (no_cycle manifest) (λ found h. none found ((alike manifest found).1 h))
+            let none = none_more (DemandFault definitions forms) demand.Fits (demand.Light ∷ []) (all_pass forms demand.Fits definitions fits)
+            (none_more (DemandFault definitions forms) demand.Light [] (all_pass forms demand.Light definitions light) (λ f p. p)) in
+            none_more (SaidFault (said_of manifest written)) cyclic (no_language ∷ heavy ∷ []) (no_cycle manifest) (λ found h. none found ((alike manifest found).1 h))
 
         pub is_planned : (manifest : List Placed) → (project_in (said_of manifest written)).alphabet ≡ alphabet
-            → IsPlanBy definitions_so_far (said_of manifest written) old new (Ok plan)
+            → IsPlanBy definition_rows (said_of manifest written) old new (Ok plan)
         is_planned manifest is = (
           none_fails manifest,
           record {
@@ -234,19 +234,19 @@ module _ (written : List Written) (lines : List Placed) (names alphabet : List (
 
   module _ (none : (found : Fault) → NamesFault written found → ⊥) (old new : List (List ℕ)) where
     -- symbols that are too many
-    pub why_large : (error : PlanError) → 1024 < length alphabet → IsRefusal (fault project_name 0 why.LimitSymbols) error → IsPlanBy said_so_far said old new (Err error)
+    pub why_large : (error : PlanError) → 1024 < length alphabet → IsRefusal (fault project_name 0 why.LimitSymbols) error → IsPlanBy said_rows said old new (Err error)
     why_large error many refusal =
         let much : most_symbols < length (project_in said).alphabet = omega (arith, ap length said_whole, too_large many) in
-        refused_by (First (SaidFault said) said_so_far) (fault project_name 0 why.LimitSymbols) error (inr (none, inl (much, refl))) refusal
+        refused_by (First (SaidFault said) said_rows) (fault project_name 0 why.LimitSymbols) error (inr (none, inl (much, refl))) refusal
 
     none_large : length alphabet ≤ 1024 → (found : Fault) → SaidFault said many_symbols found → ⊥
     none_large few found (much, is) = omega (arith, much, ap length said_whole, not_large few)
 
     -- a name that is required and isn't defined
     pub why_unknown : length alphabet ≤ 1024 → (line : ℕ) (error : PlanError) → UnknownFault names lines (fault project_name line why.UnknownName)
-        → IsRefusal (fault project_name line why.UnknownName) error → IsPlanBy said_so_far said old new (Err error)
+        → IsRefusal (fault project_name line why.UnknownName) error → IsPlanBy said_rows said old new (Err error)
     why_unknown few line error is refusal =
-        refused_by (First (SaidFault said) said_so_far) (fault project_name line why.UnknownName) error
+        refused_by (First (SaidFault said) said_rows) (fault project_name line why.UnknownName) error
         (inr (none, inr (none_large few, inl ((unknown_alike (fault project_name line why.UnknownName)).0 is)))) refusal
 
     none_unknown : ((found : Fault) → UnknownFault names lines found → ⊥) → (found : Fault) → SaidFault said unknown found → ⊥
@@ -254,13 +254,13 @@ module _ (written : List Written) (lines : List Placed) (names alphabet : List (
 
     -- what the definitions answer, all that is said does
     pub planned_whole : length alphabet ≤ 1024 → ((found : Fault) → UnknownFault names lines found → ⊥) → (answer : Result PlanView PlanError)
-        → ((manifest : List Placed) → (project_in (said_of manifest written)).alphabet ≡ alphabet → IsPlanBy definitions_so_far (said_of manifest written) old new answer) → IsPlanBy said_so_far said old new answer
+        → ((manifest : List Placed) → (project_in (said_of manifest written)).alphabet ≡ alphabet → IsPlanBy definition_rows (said_of manifest written) old new answer) → IsPlanBy said_rows said old new answer
     planned_whole few known answer by_definitions = by answer (by_definitions lines (said_whole ∙ sym (whole_is few)))
       where
-        by : (answer : Result PlanView PlanError) → IsPlanBy definitions_so_far said old new answer → IsPlanBy said_so_far said old new answer
+        by : (answer : Result PlanView PlanError) → IsPlanBy definition_rows said old new answer → IsPlanBy said_rows said old new answer
         by (Ok made) (free, stands) = (
-          none_more (SaidFault said) in_names (many_symbols ∷ unknown ∷ definitions_so_far) none
-              (none_more (SaidFault said) many_symbols (unknown ∷ definitions_so_far) (none_large few) (none_more (SaidFault said) unknown definitions_so_far (none_unknown known) free)),
+          none_more (SaidFault said) in_names (many_symbols ∷ unknown ∷ definition_rows) none
+              (none_more (SaidFault said) many_symbols (unknown ∷ definition_rows) (none_large few) (none_more (SaidFault said) unknown definition_rows (none_unknown known) free)),
           stands,
         )
         by (Err (Refused found)) h = inr (none, inr (none_large few, inr (none_unknown known, h)))
@@ -268,6 +268,6 @@ module _ (written : List Written) (lines : List Placed) (names alphabet : List (
 
 -- why there are no names, as why there is no plan
 pub from_names : (written : List Written) (lines : List Placed) (old new : List (List ℕ)) (error : PlanError) → IsRefusedBy (NamesFault written) error
-    → IsPlanBy said_so_far (said_of lines written) old new (Err error)
+    → IsPlanBy said_rows (said_of lines written) old new (Err error)
 from_names written lines old new (Refused found) h = inl h
 from_names written lines old new (Memory refused) h = tt

@@ -16,7 +16,7 @@ use Rattle.project_manifest.proofs.Firsts.{first_alike, none_more}
 use Rattle.project_meaning.specs.Projects.{Written}
 use Rattle.project_sources.specs.Limits.{most_bytes}
 use Rattle.project_sources.specs.Sources.{FilesDefine, FilesSay, GlossesOf, HasText, HaveText, Said, project_in}
-use Rattle.project_sources.specs.Faults.{fault, TextFault, too_long, NamedFault, Row, no_project, manifest_text, manifest_lines, in_files, in_said, HasFault, FirstFault, SaidFault, read_so_far, HasNoText, said_so_far}
+use Rattle.project_sources.specs.Faults.{fault, TextFault, too_long, NamedFault, Row, no_project, manifest_text, manifest_lines, in_files, in_said, HasFault, FirstFault, SaidFault, read_rows, HasNoText, said_rows}
 use Rattle.project_sources.specs.Laws.{all_readers as readers}
 use Rattle.project_sources.proofs.Once.{files_say_one, text_one, all_exact}
 use Rattle.project_model.specs.Answers.{IsManifestFile, IsNoManifest, IsPlanBy, IsPlanOf, IsProjectRead, IsRefusal, IsRefusedBy, IsTextFault, said_of}
@@ -123,7 +123,7 @@ module _ (files : Files) (content : List ℕ) (held : file_of project_name files
   pub without_manifest : (old new : List (List ℕ)) (error : PlanError) → IsRefusedBy (IsNoManifest content) error → IsProjectRead files old new (Err error)
   without_manifest old new (Refused found) why = by why
     where
-      by : IsNoManifest content found → FirstFault readers files read_so_far found
+      by : IsNoManifest content found → FirstFault readers files read_rows found
       by (inl none) = inr (there_is, inl (content, held, none))
       by (inr (text, has, (at, faulty, e))) = inr (there_is, inr (has_a_text text has, inl (text, at, (content, held, has), faulty, e)))
   without_manifest old new (Memory refused) why = tt
@@ -155,20 +155,20 @@ module _ (files : Files) (content : List ℕ) (held : file_of project_name files
           free found (subst (λ (z : List Placed). First (NamedFault readers files) z found) (ap manifest_of same ∙ sym manifest.says) h)
 
       -- the rows on what is said, as rows of the files
-      rows_of_said : (found : Fault) → First (SaidFault said) said_so_far found ↔ First (HasFault readers files) (map in_said said_so_far) found
+      rows_of_said : (found : Fault) → First (SaidFault said) said_rows found ↔ First (HasFault readers files) (map in_said said_rows) found
       rows_of_said =
-          first_alike (SaidFault said) (HasFault readers files) in_said (λ row. row) said_so_far (map in_said said_so_far) refl
+          first_alike (SaidFault said) (HasFault readers files) in_said (λ row. row) said_rows (map in_said said_rows) refl
           (λ row other among same found. subst (λ (r : Row). SaidFault said row found ↔ HasFault readers files r found) same
           ((λ h. (said, says, h)), (λ (also, also_says, h). subst (λ s. SaidFault s row found) (files_say_one readers all_exact files also said also_says says) h)))
 
       -- the plan of what they say is the files'
-      pub planned_files : (table : List Entry) → GlossesOf readers files [] (gloss_files_in lines) table → (old new : List (List ℕ)) (answer : Result PlanView PlanError) → IsPlanBy said_so_far said old new answer
+      pub planned_files : (table : List Entry) → GlossesOf readers files [] (gloss_files_in lines) table → (old new : List (List ℕ)) (answer : Result PlanView PlanError) → IsPlanBy said_rows said old new answer
           → IfOk answer (λ plan. plan.glosses ≡ table) → IsProjectRead files old new answer
       planned_files table glosses old new (Ok plan) (none, stands) kept = record {
-        faultless = none_more (HasFault readers files) no_project (manifest_text ∷ manifest_lines line_rows ∷ in_files ∷ map in_said said_so_far) there_is
-            (none_more (HasFault readers files) manifest_text (manifest_lines line_rows ∷ in_files ∷ map in_said said_so_far) (has_a_text manifest.text manifest.has_text)
-            (none_more (HasFault readers files) (manifest_lines line_rows) (in_files ∷ map in_said said_so_far) no_line_fault
-            (none_more (HasFault readers files) in_files (map in_said said_so_far) no_file_fault (λ found h. none found ((rows_of_said found).1 h)))));
+        faultless = none_more (HasFault readers files) no_project (manifest_text ∷ manifest_lines line_rows ∷ in_files ∷ map in_said said_rows) there_is
+            (none_more (HasFault readers files) manifest_text (manifest_lines line_rows ∷ in_files ∷ map in_said said_rows) (has_a_text manifest.text manifest.has_text)
+            (none_more (HasFault readers files) (manifest_lines line_rows) (in_files ∷ map in_said said_rows) no_line_fault
+            (none_more (HasFault readers files) in_files (map in_said said_rows) no_file_fault (λ found h. none found ((rows_of_said found).1 h)))));
         said = said;
         says = says;
         stands = stands;

@@ -18,7 +18,7 @@ use Rattle.project_meaning.specs.Trees.{Piece, letter, flag, Form, sides, pairs,
 use Rattle.project_meaning.specs.Leaves.{Leaf, symbol, named, form_symbols, leaf_of, piece_symbols, resolved, resolved_entry, resolved_form, resolved_grammar, resolved_lexicon, resolved_piece, symbol_in, symbol_of, symbols_in, written as text_of}
 use Rattle.project_meaning.specs.Lexicons.{piece_by}
 use Rattle.lexicon_spelling.specs.Mapped.{mapped_entry, mapped_form, mapped_lexicon}
-use Rattle.project_sources.specs.Built.{BodyIsBuiltBy, FormIsBuiltBy, LexiconIsBuiltBy, PieceIsBuiltBy}
+use Rattle.project_sources.specs.Built.{BodyIsBuilt, BodyIsBuiltBy, FormIsBuiltBy, LexiconIsBuiltBy, PieceIsBuiltBy}
 use Rattle.project_definitions.specs.Bodies.{BodyFitsBy, IsFormed, mapped_body}
 use Rattle.project_definitions.specs.Plain.{body_of}
 use Rattle.project_definitions.proofs.Bodies.{all_held, all_on, formed_resolved, listed_forms}
@@ -35,6 +35,7 @@ use Rattle.project_definitions.specs.declared.demands.Demand.TheVariants as dema
 use Rattle.project_model.proofs.Alphabets.{number_any}
 use Rattle.project_definitions.proofs.Replaced.{leaves_here, leaves_there}
 use Rattle.project_definitions.proofs.Numbers.{number_within}
+use Rattle.project_definitions.proofs.Compiled.{body_built}
 use Rattle.project_definitions.proofs.Built.{All-front, All-back, built_here, built_there}
 use Rattle.name_resolution.proofs.Leaves.{leaf_cases}
 use Rattle.name_resolution.proofs.Mapped.{mapped_twice}
@@ -85,7 +86,7 @@ module _ (names alphabet table : List (List ℕ)) (forms : List Told) (few : len
             (symbol_numbered (text_of leaf) (subst (λ (l : Leaf). IsTrue (is_leaf_over alphabet l)) is h))
       ]
 
-  -- a definition that meets what is asked, where the alphabet has its symbols
+  -- a form that is compiled by its numbers, and one that is so over the alphabet
   abbrev Asked : Form Atom → Type 0
   Asked form = FormIsBuiltBy (is_known_at forms) is_symbol form
 
@@ -126,10 +127,6 @@ module _ (names alphabet table : List (List ℕ)) (forms : List Told) (few : len
       (LexiconIsBuiltBy (is_leaf_over alphabet) (is_symbol_over alphabet)) (LexiconIsBuiltBy (is_known_at forms) is_symbol) lexicon_over lexicons
       (subst (All (Contains alphabet)) (listed_forms form_symbols lexicons) held) built
   body_by_number (twolc grammar) held built = leaves_here by_number (is_symbol_over alphabet) is_symbol (Contains alphabet) letter_stands grammar held built
-
-  body_over : (body : Body Leaf) (b : Body Atom) → b ≡ mapped_body by_number body → All (Contains alphabet) (symbols_in body) → BodyIsBuiltBy (is_known_at forms) is_symbol b
-      → IsBodyOver alphabet body
-  body_over body b is held built = body_by_number body held (subst (BodyIsBuiltBy (is_known_at forms) is_symbol) is built)
 
   -- what is over the alphabet can be built over its numbers
   abbrev IsThere : Form Atom → Type 0
@@ -180,22 +177,18 @@ module _ (names alphabet table : List (List ℕ)) (forms : List Told) (few : len
   abbrev in_symbols : Meant → List (List ℕ)
   in_symbols d = symbols_in d.body
 
-  -- definitions of a plan and what was said: all are over the alphabet, and sound over its numbers
-  pub definitions_over : (definitions : List Definition) (written : List Written) → map entry_of definitions ≡ map (entry_in names table) written
-      → All (Contains alphabet) (flat_map in_symbols (map (definition_in names) written)) → All (DoesMeet forms demand.Built) definitions → All Over (map (definition_in names) written)
-  definitions_over [] [] are held built = All-nil Over
-  definitions_over [] (w ∷ written) are held built = let e : [] ≡ entry_in names table w ∷ map (entry_in names table) written = are in cc
-  definitions_over (d ∷ definitions) [] are held built = let e : entry_of d ∷ map entry_of definitions ≡ [] = are in cc
-  definitions_over (d ∷ definitions) (w ∷ written) are held built =
-      let e : entry_of d ∷ map entry_of definitions ≡ entry_in names table w ∷ map (entry_in names table) written = are in
-      let head : entry_of d ≡ entry_in names table w = cc in
-      let tail : map entry_of definitions ≡ map (entry_in names table) written = cc in
+  -- the definitions that were said are over the alphabet
+  pub written_over : (written : List Written) → All (Contains alphabet) (flat_map in_symbols (map (definition_in names) written)) → All (λ (w : Written). BodyIsBuilt (resolved names w.body)) written
+      → All Over (map (definition_in names) written)
+  written_over [] held built = All-nil Over
+  written_over (w ∷ written) held built =
       let m = definition_in names w in
-      All-cons Over m (map (definition_in names) written)
-      (body_over m.body (body_of d.body) (ap (λ (x : Said). x.body) head) (All-front (Contains alphabet) (in_symbols m) (flat_map in_symbols (map (definition_in names) written)) held)
-      (All-head (DoesMeet forms demand.Built) d definitions built))
-      (definitions_over definitions written tail (All-back (Contains alphabet) (in_symbols m) (flat_map in_symbols (map (definition_in names) written)) held) (All-tail (DoesMeet forms demand.Built) d definitions built))
+      let rest = map (definition_in names) written in
+      let here = body_built names table forms few w.body (All-head (λ (x : Written). BodyIsBuilt (resolved names x.body)) w written built) in
+      All-cons Over m rest (body_by_number m.body (All-front (Contains alphabet) (in_symbols m) (flat_map in_symbols rest) held) here)
+      (written_over written (All-back (Contains alphabet) (in_symbols m) (flat_map in_symbols rest) held) (All-tail (λ (x : Written). BodyIsBuilt (resolved names x.body)) w written built))
 
+  -- and those of a plan are sound over its numbers
   pub sound_definitions : (definitions : List Definition) (written : List Written) → map entry_of definitions ≡ map (entry_in names table) written
       → All (λ (w : Written). IsFormed w.body) written → All (DoesMeet forms demand.Fits) definitions → All Over (map (definition_in names) written)
       → All (IsSoundOver forms (numbers_in table alphabet)) definitions

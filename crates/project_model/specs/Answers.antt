@@ -10,7 +10,7 @@ use Rattle.project_manifest.specs.Reading.{HasNoFault}
 use Rattle.project_manifest.specs.Rows.{First, HaveNone, Where}
 use Rattle.project_meaning.specs.Projects.{Written}
 use Rattle.project_sources.specs.Sources.{FilesGloss, HasText, Said, FilesSay}
-use Rattle.project_sources.specs.Faults.{fault, HasNoText, SaidRow, SaidFault, read_so_far, FirstFault}
+use Rattle.project_sources.specs.Faults.{fault, HasNoText, SaidRow, SaidFault, read_rows, FirstFault}
 use Rattle.project_sources.specs.Laws.{all_readers}
 pub use Rattle.project_files.specs.Refusals.{IsRefusedBy, IsRefusal}
 use Rattle.project_definitions.specs.Plain.{body_of}
@@ -20,9 +20,9 @@ use Rattle.project_files.specs.declared.plan_error.PlanError.{PlanError}
 use Rattle.project_files.specs.declared.plan_error.PlanError.TheVariants.{Refused, Memory}
 use Rattle.project_model.specs.declared.written.WrittenDefine.{WrittenDefine}
 
--- the files have no fault by the rows that are told so far, and the plan stands for what they say, and has their glosses
+-- the files have no fault by the rows that are read from sources, and the plan stands for what they say, and has their glosses
 pub record IsPlanOf (files : Files) (old new : List (List ℕ)) (plan : PlanView) : Type 0 where
-  pub faultless : (found : Fault) → FirstFault all_readers files read_so_far found → ⊥
+  pub faultless : (found : Fault) → FirstFault all_readers files read_rows found → ⊥
   pub said : Said
   pub says : FilesSay all_readers files said
   pub stands : Stands said old new plan
@@ -31,7 +31,7 @@ pub record IsPlanOf (files : Files) (old new : List (List ℕ)) (plan : PlanView
 -- the plan of files, their first fault, or want of memory
 abbrev pub IsProjectRead : Files → List (List ℕ) → List (List ℕ) → Result PlanView PlanError → Type 0
 IsProjectRead files old new (Ok plan) = IsPlanOf files old new plan
-IsProjectRead files old new (Err (Refused found)) = FirstFault all_readers files read_so_far found
+IsProjectRead files old new (Err (Refused found)) = FirstFault all_readers files read_rows found
 IsProjectRead files old new (Err (Memory refused)) = ⊤
 
 -- the content of the manifest's file has a text without fault, with these lines

@@ -175,7 +175,7 @@ fn add_text(
             }
             Err(error) => Err(error),
         },
-        _ => Err(refused(alloc, file.as_str(), 0, Why::NotBuilt)),
+        _ => unreachable!(),
     }
 }
 

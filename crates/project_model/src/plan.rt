@@ -6,7 +6,8 @@ ghost use Rattle.project_manifest.specs.Lines.{Placed, symbols_of};
 ghost use Rattle.project_manifest.specs.Rows.{First};
 ghost use Rattle.project_manifest.specs.Sayings.{placed_of};
 ghost use Rattle.project_meaning.specs.Projects.{names_of, with_texts};
-ghost use Rattle.project_sources.specs.Faults.{definitions_so_far, fault, said_so_far};
+ghost use Rattle.project_sources.specs.Built.{BodyIsBuilt};
+ghost use Rattle.project_sources.specs.Faults.{definition_rows, fault, said_rows};
 ghost use Rattle.project_sources.specs.Limits.{most_before, most_symbols};
 ghost use Rattle.project_sources.specs.Sources.{project_in};
 ghost use Rattle.project_definitions.specs.Demands.{DemandFault, DoesMeet, demands, why_not};
@@ -254,7 +255,6 @@ fn why_not(demand: Demand) -> Why
     match demand {
         Demand::Fits => Why::NotALanguage,
         Demand::Light => Why::LimitWeight,
-        Demand::Built => Why::NotBuilt,
     }
 }
 
@@ -275,27 +275,22 @@ fn meet(
     }
 }
 
-/// That definitions are sound where names have these forms: each fits, none is too heavy, each can be built.
+/// That definitions are sound where names have these forms: each fits, and none is too heavy.
 fn check(alloc: Global, definitions: &[Definition], forms: &[Form]) -> Result<(), PlanError>
     ensures fits { OnOk result (All (DoesMeet forms.now demand.Fits) definitions.now) }
     ensures light { OnOk result (All (DoesMeet forms.now demand.Light) definitions.now) }
-    ensures built { OnOk result (All (DoesMeet forms.now demand.Built) definitions.now) }
     ensures error { IfErr result (IsRefusedBy (First (DemandFault definitions.now forms.now) demands)) }
 {
     match meet(alloc, definitions, forms, Demand::Fits) {
         Ok(()) => {}
         Err(error) => return Err(error),
     }
-    match meet(alloc, definitions, forms, Demand::Light) {
-        Ok(()) => {}
-        Err(error) => return Err(error),
-    }
-    meet(alloc, definitions, forms, Demand::Built)
+    meet(alloc, definitions, forms, Demand::Light)
 }
 
 /// The plan of definitions over an alphabet, whose symbols are put into the table, and of a table of glosses. They are refused for their first
-/// fault: a definition that reaches itself, an operand that must be a language and isn't one, a definition that is too
-/// heavy, or one that can't be built yet. Whatever it answers, the table begins with what it was.
+/// fault: a definition that reaches itself, an operand that must be a language and isn't one, or a definition that is too
+/// heavy. Whatever it answers, the table begins with what it was.
 fn plan_over(
     alloc: Global,
     names: &Names,
@@ -310,7 +305,8 @@ fn plan_over(
     requires distinct { IsDistinct alphabet.now }
     requires room { length table.old + length alphabet.now ≤ 16777216 }
     requires formed { All (λ w. IsFormed w.body) (map written_of written.now) }
-    ensures plan { (manifest : List Placed) → (project_in (said_of manifest (map written_of written.now))).alphabet ≡ alphabet.now → IsPlanBy definitions_so_far (said_of manifest (map written_of written.now)) table.old table.new result }
+    requires built { All (λ w. BodyIsBuilt (resolved (names_of (map written_of written.now)) w.body)) (map written_of written.now) }
+    ensures plan { (manifest : List Placed) → (project_in (said_of manifest (map written_of written.now))).alphabet ≡ alphabet.now → IsPlanBy definition_rows (said_of manifest (map written_of written.now)) table.old table.new result }
     ensures glosses { IfOk result (λ plan. plan.glosses ≡ glosses) }
     ensures front { take (length table.old) table.new ≡ table.old }
 {
@@ -350,7 +346,8 @@ pub fn plan_of(
     requires symbols { All IsSymbol (symbols_of (map placed_of lines.now)) }
     requires room { length table.old ≤ most_before }
     requires formed { All (λ w. IsFormed w.body) (map written_of written.now) }
-    ensures plan { IsPlanBy said_so_far (said_of (map placed_of lines.now) (map written_of written.now)) table.old table.new result }
+    requires built { All (λ w. BodyIsBuilt (resolved (names_of (map written_of written.now)) w.body)) (map written_of written.now) }
+    ensures plan { IsPlanBy said_rows (said_of (map placed_of lines.now) (map written_of written.now)) table.old table.new result }
     ensures glosses { IfOk result (λ plan. plan.glosses ≡ glosses) }
     ensures front { take (length table.old) table.new ≡ table.old }
 {

@@ -92,8 +92,7 @@ fn plan_of_sources(
 /// - `Cycle` at the first definition that reaches itself by names;
 /// - `NotALanguage` at the first one in which an operand that must be a language is a relation, a name being what its
 ///   definition is;
-/// - `LimitWeight` at the first one that weighs more than 4,000,000, a name weighing what its definition weighs;
-/// - `NotBuilt` at the first one with an insertion beside other mappings, which no text has that is read.
+/// - `LimitWeight` at the first one that weighs more than 4,000,000, a name weighing what its definition weighs.
 ///
 /// `Memory` where there was no memory. After an error the table is as before.
 pub fn read_project(

@@ -1,4 +1,4 @@
-ghost use Rattle.project_sources.specs.Faults.{read_rows, read_so_far, rows, rows_so_far};
+ghost use Rattle.project_sources.specs.Faults.{read_rows, rows};
 ghost use Rattle.project_sources.specs.Laws.{CentresComeLast, NoFilesNoProject, OneAnswer, OneFault, OneOutcome, OneTable, ProjectsAreSound, ProjectsHaveTables, all_readers};
 
 /// Sources have at most one first fault.
@@ -20,20 +20,17 @@ pub fn one_table()
 /// In the project of sources without a fault each name is defined, none reaches itself, and no definition weighs too much.
 pub fn projects_are_sound()
     ensures whole { ProjectsAreSound all_readers rows }
-    ensures so_far { ProjectsAreSound all_readers rows_so_far }
-    ensures read { ProjectsAreSound all_readers read_so_far }
+    ensures read { ProjectsAreSound all_readers read_rows }
 {}
 
 /// Without files the manifest is missing.
 pub fn no_files_no_project()
-    ensures whole { NoFilesNoProject rows }
-    ensures so_far { NoFilesNoProject rows_so_far }
+    ensures { NoFilesNoProject rows }
 {}
 
 /// An empty centre is the fault where none is read before.
 pub fn centres_come_last()
-    ensures whole { CentresComeLast all_readers read_rows }
-    ensures so_far { CentresComeLast all_readers read_so_far }
+    ensures { CentresComeLast all_readers read_rows }
 {}
 
 /// Edits make one thing of what is held, or have one fault.

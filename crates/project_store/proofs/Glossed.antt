@@ -1,5 +1,5 @@
 -- The cells of words are lawful over the project that a network shows.
-use Rattle.std.proofs.Common.{◌≡◌, ◌+◌, ◌-◌, ◌^◌, ◌<◌, ◌≤◌, ◌++◌, ℕ, List, [], ◌∷◌, length, take, get_or, map, All, codes, Some, None, Result, Ok, Err, IfOk, IsUtf8, sym, ap, subst, ◌∙◌, arith}
+use Rattle.std.proofs.Common.{◌≡◌, ◌+◌, ◌-◌, ◌^◌, ◌<◌, ◌++◌, ℕ, List, [], ◌∷◌, length, take, get_or, map, All, codes, Some, None, Result, Ok, Err, IfOk, IsUtf8, sym, ap, subst, ◌∙◌, arith}
 use Rattle.std.proofs.lemmas.List.{map-append, take_more}
 use Rattle.std.proofs.lemmas.List.Elements.{All-nil, All-push, All-weaker}
 use Rattle.word_relations.specs.Answers.{Answers, Found}

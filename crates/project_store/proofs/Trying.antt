@@ -23,7 +23,7 @@ use Rattle.network_algebra.specs.declared.network.Network.{Network}
 use Rattle.project_meaning.specs.Centres.{HasEmptyCentre, HasOwnEmptyCentre}
 use Rattle.project_meaning.specs.Leaves.{expressions_of, symbols_in}
 use Rattle.project_meaning.specs.Projects.{Refers, Reaches, at_once, further, Written, names_of}
-use Rattle.project_sources.specs.Faults.{fault, fault_of, read_so_far, rows_so_far, FirstFault}
+use Rattle.project_sources.specs.Faults.{fault, fault_of, read_rows, rows, FirstFault}
 use Rattle.project_sources.specs.Laws.{all_readers}
 use Rattle.project_manifest.specs.Lines.{symbols_of as further_symbols}
 use Rattle.project_manifest.specs.Rows.{First, Where}
@@ -445,15 +445,15 @@ clear_more marks place mark at is clear before lower = elim (cases_eq before pla
 ]
 
 -- What was loaded of sources without a fault that is read.
-module _ (sources : Files) (said : Said) (free : (found : Fault) → FirstFault all_readers sources read_so_far found → ⊥) (says : FilesSay all_readers sources said) (loaded : LoadedView) (from : IsLoadedFrom said loaded) where
+module _ (sources : Files) (said : Said) (free : (found : Fault) → FirstFault all_readers sources read_rows found → ⊥) (says : FilesSay all_readers sources said) (loaded : LoadedView) (from : IsLoadedFrom said loaded) where
   abbrev Empty : Written → Fault → Type 0
   Empty w found = Where (HasEmptyCentre (project_in said) (resolved_in said w).name) (fault_of w why.EmptyCentre) found
 
   pub reads_project : HasNoEmptyCentre loaded → Reads sources (Ok (project_in said))
   reads_project none = (no_fault, said, says, refl)
     where
-      no_fault : (found : Fault) → FirstFault all_readers sources rows_so_far found → ⊥
-      no_fault found h = elim ((centres_come_last all_readers read_so_far sources found).0 h) as (λ _. ⊥) [
+      no_fault : (found : Fault) → FirstFault all_readers sources rows found → ⊥
+      no_fault found h = elim ((centres_come_last all_readers read_rows sources found).0 h) as (λ _. ⊥) [
         | inl read ↦ free found read
         | inr (clear, (other, other_says, first)) ↦
             (let same : other ≡ said = files_say_one all_readers all_exact sources other said other_says says in
@@ -470,7 +470,7 @@ module _ (sources : Files) (said : Said) (free : (found : Fault) → FirstFault 
       let has = first.empty said from w.name (named_by said loaded from place w w_at) in
       let earlier = first_here Empty said.written place w found w_at (has, of_written)
       (λ j y lower at_y other here. first.first j lower said from y.name (named_by said loaded from j y at_y) here.0) in
-      (centres_come_last all_readers read_so_far sources found).1 (inr (free, (said, says, earlier)))
+      (centres_come_last all_readers read_rows sources found).1 (inr (free, (said, says, earlier)))
 
   -- so it is with what telling its centres answers
   pub loads_project : HasTable sources loaded.glosses → (r : Result LoadedView StoreError) → IfOk r (λ new. new ≡ loaded) → OnOk r (HasNoEmptyCentre loaded) → IfOk r (IsOfSources sources)
@@ -483,5 +483,5 @@ module _ (sources : Files) (said : Said) (free : (found : Fault) → FirstFault 
   why_not_loaded (Err (Refused found)) (place, d, at, first, is) = reads_fault found place d at first is
 
 -- a fault that is read is the first
-pub first_of_read : (sources : Files) (found : Fault) → FirstFault all_readers sources read_so_far found → Reads sources (Err found)
-first_of_read sources found read = (centres_come_last all_readers read_so_far sources found).1 (inl read)
+pub first_of_read : (sources : Files) (found : Fault) → FirstFault all_readers sources read_rows found → Reads sources (Err found)
+first_of_read sources found read = (centres_come_last all_readers read_rows sources found).1 (inl read)

@@ -4,16 +4,16 @@ use Rattle.fsm_io.specs.Folders.{Files}
 use Rattle.regex_ast.specs.declared.fault.Fault.{Fault}
 use Rattle.interlinear.specs.Glosses.{Entry}
 use Rattle.project_meaning.specs.Projects.{Project}
-use Rattle.project_sources.specs.Faults.{SourcesSay, rows_so_far}
+use Rattle.project_sources.specs.Faults.{SourcesSay, rows}
 use Rattle.project_sources.specs.Laws.{all_readers}
 use Rattle.project_sources.specs.Sources.{FilesGloss, Said, project_in}
 use Rattle.project_store.specs.Loaded.{LoadedView, IsLoadedFrom}
 use Rattle.project_store.specs.declared.store_error.StoreError.{StoreError}
 use Rattle.project_store.specs.declared.store_error.StoreError.TheVariants.{Memory, Refused}
 
--- the project that files are, or their first fault, by the readers and the rows that there are so far
+-- the project that files are, or their first fault, by all readers and rows
 abbrev pub Reads : Files → Result Project Fault → Type 0
-Reads files answer = SourcesSay all_readers files rows_so_far answer
+Reads files answer = SourcesSay all_readers files rows answer
 
 -- the table of glosses that files have
 abbrev pub HasTable : Files → List Entry → Type 0

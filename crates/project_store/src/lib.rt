@@ -3,8 +3,8 @@
 //! - [`project_of`]: the project of sources, as a [`Ready`], or why there is none, a [`StoreError`].
 //! - [`Project`]: its definitions and its alphabet.
 //! - [`Network`]: a name that is looked up in, with the network of its definition, and the replies to words and to texts.
-//! - [`fill`], [`reply_in`], [`gloss_in`]: the same step by step, for many names: the network of one definition, and the replies of a
-//!   network.
+//! - [`network_at`]: the network of one definition, for which those before it are built. [`fill`], [`reply_in`], [`gloss_in`]: the same
+//!   step by step, for many names: the network of one definition, and the replies of a network.
 //!
 //! Inside, `reading` makes the project and refuses it where `centres` finds an empty centre, `ready` keeps what was built to see that, `building` builds the networks of definitions, each of those
 //! before it, `network` has the one that is looked up in, `answers` the replies to words, and `glosses` those to texts whose words are glossed.
@@ -21,7 +21,7 @@ mod ready;
 mod store_error;
 
 pub use answers::reply_in;
-pub use building::fill;
+pub use building::{fill, network_at};
 pub use glosses::gloss_in;
 pub use network::Network;
 pub use project::Project;

@@ -9,7 +9,7 @@ use Rattle.project_files.specs.Refusals.{IsRefusedBy}
 use Rattle.project_files.specs.declared.plan_error.PlanError.{PlanError}
 use Rattle.project_files.specs.declared.plan_error.PlanError.TheVariants as plans
 use Rattle.project_sources.specs.Edits.{Apply, Changes, Version, held_in}
-use Rattle.project_sources.specs.Faults.{rows_so_far}
+use Rattle.project_sources.specs.Faults.{rows}
 use Rattle.project_sources.specs.Laws.{all_readers}
 use Rattle.project_sources.specs.Sources.{Said, project_in}
 use Rattle.project_store.specs.Projects.{IsWhyNot, Reads}
@@ -38,7 +38,7 @@ module _ (old : VersionView) (meant : Version) (stands : Stands old meant) (few 
 
     -- they are the next version
     pub changes : (said : Said) → Reads sources (Ok (project_in said)) → (number : ℕ) → number ≡ old.number + 1
-        → Changes all_readers rows_so_far meant (edit_of edit ∷ []) (Ok (record { number = number; files = sources; project = project_in said }))
+        → Changes all_readers rows meant (edit_of edit ∷ []) (Ok (record { number = number; files = sources; project = project_in said }))
     changes said says number is = (applied_meant, says, subst (λ (n : ℕ). number ≡ n + 1) stands.number is)
 
 -- the error that another one becomes is so where that one is

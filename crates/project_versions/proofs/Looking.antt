@@ -5,7 +5,7 @@ use Rattle.edit_script.specs.Commands.{IsLook}
 use Rattle.edit_script.specs.declared.looks.Look.{Look}
 use Rattle.interlinear.specs.Glosses.{Entry}
 use Rattle.project_sources.specs.Edits.{Version}
-use Rattle.project_sources.specs.Faults.{rows_so_far}
+use Rattle.project_sources.specs.Faults.{rows}
 use Rattle.project_sources.specs.Laws.{all_readers}
 use Rattle.project_sources.proofs.Glossing.{some_table}
 use Rattle.project_store.specs.Projects.{HasTable}
@@ -18,7 +18,7 @@ module _ (shown : VersionView) (line : List ℕ) where
   pub reply_asked : (look : Look) → IsLook line look → (r : Result (Vec ℕ Global) AllocError)
       → ((meant : Version) (table : List Entry) → Stands shown meant → HasTable meant.files table → IfOk r (λ bytes. RepliesToAsked meant table look bytes.items)) → IfOk r (λ bytes. RepliesAt shown (Some line) bytes.items)
   reply_asked look is (Ok bytes) told = λ version stands.
-      (let (table, has) = some_table all_readers version.files rows_so_far version.project stands.says in
+      (let (table, has) = some_table all_readers version.files rows version.project stands.says in
       asked look table is has (told version table stands has))
   reply_asked look is (Err error) told = tt
 

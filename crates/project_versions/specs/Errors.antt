@@ -6,7 +6,7 @@ use Rattle.project_edits.specs.declared.edit.Edit.{Edit}
 use Rattle.project_files.specs.declared.plan_error.PlanError.{PlanError}
 use Rattle.project_files.specs.declared.plan_error.PlanError.TheVariants as plans
 use Rattle.project_sources.specs.Edits.{Changes, Version}
-use Rattle.project_sources.specs.Faults.{rows_so_far}
+use Rattle.project_sources.specs.Faults.{rows}
 use Rattle.project_sources.specs.Laws.{all_readers}
 use Rattle.project_store.specs.declared.store_error.StoreError.{StoreError}
 use Rattle.project_store.specs.declared.store_error.StoreError.TheVariants as stores
@@ -24,5 +24,5 @@ of_store_error (stores.Memory refused) = Memory refused
 -- so many edits were accepted as may be; or the edit, or the files that it makes, have this first fault; or want of memory
 abbrev pub IsWhyNotEdited : Version → Edit → EditError → Type 0
 IsWhyNotEdited meant edit Full = most_edits < meant.number
-IsWhyNotEdited meant edit (Refused found) = (meant.number ≤ most_edits) × Changes all_readers rows_so_far meant (edit_of edit ∷ []) (Err found)
+IsWhyNotEdited meant edit (Refused found) = (meant.number ≤ most_edits) × Changes all_readers rows meant (edit_of edit ∷ []) (Err found)
 IsWhyNotEdited meant edit (Memory refused) = Unit {0}

@@ -5,7 +5,7 @@ use Rattle.fsa.specs.Automaton.{Automaton}
 use Rattle.fsm_base.specs.declared.letters.Pair.{Pair}
 use Rattle.fsm_io.specs.Folders.{Files}
 use Rattle.project_sources.specs.Edits.{Version}
-use Rattle.project_sources.specs.Faults.{SourcesSay, rows_so_far}
+use Rattle.project_sources.specs.Faults.{SourcesSay, rows}
 use Rattle.project_sources.specs.Laws.{all_readers}
 use Rattle.project_sources.specs.Sources.{Said, project_in}
 use Rattle.project_store.specs.Loaded.{IsLoadedFrom, LoadedView}
@@ -33,4 +33,4 @@ pub record Stands (version : VersionView) (meant : Version) : Type 0 where
   pub said : Said
   pub loaded : IsLoadedFrom said version.loaded
   pub project : meant.project ≡ project_in said
-  pub says : SourcesSay all_readers meant.files rows_so_far (Ok meant.project)
+  pub says : SourcesSay all_readers meant.files rows (Ok meant.project)

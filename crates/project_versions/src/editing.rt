@@ -3,7 +3,7 @@ ghost use Rattle.editor_meaning.specs.Editing.{AreNames, IsLoaded, most_edits};
 ghost use Rattle.project_edits.specs.Applied.{edit_of};
 ghost use Rattle.project_meaning.specs.Touched.{Touched};
 ghost use Rattle.project_sources.specs.Edits.{Changes, Version as Meant};
-ghost use Rattle.project_sources.specs.Faults.{rows_so_far};
+ghost use Rattle.project_sources.specs.Faults.{rows};
 ghost use Rattle.project_sources.specs.Laws.{all_readers};
 ghost use Rattle.project_store.specs.Projects.{IsWhyNot};
 ghost use Rattle.project_versions.specs.Errors.{IsWhyNotEdited};
@@ -30,7 +30,7 @@ const MOST_EDITS: u64 = 10_000;
 ///
 /// `Refused` with the first fault of the sources, and `Memory` where there was no memory.
 pub fn load(alloc: Global, sources: Sources) -> Result<Version, StoreError>
-    ensures loaded { IfOk result (λ version. (meant : Meant) × Stands version meant × IsLoaded all_readers rows_so_far sources meant) }
+    ensures loaded { IfOk result (λ version. (meant : Meant) × Stands version meant × IsLoaded all_readers rows sources meant) }
     ensures error { IfErr result (IsWhyNot sources) }
 {
     let ready = project_of(alloc, &sources)?;
@@ -58,7 +58,7 @@ pub struct Edited {
 /// - `Memory`, where there was no memory.
 pub fn edit(alloc: Global, old: &Version, edit: &Edit) -> Result<Edited, EditError>
     ensures edited { (meant : Meant) → Stands old.now meant → IfOk result (λ edited. (next : Meant) × Stands edited.version next
-        × Changes all_readers rows_so_far meant (edit_of edit.now ∷ []) (Ok next) × AreNames (Touched meant.project next.project) edited.rebuilt.items) }
+        × Changes all_readers rows meant (edit_of edit.now ∷ []) (Ok next) × AreNames (Touched meant.project next.project) edited.rebuilt.items) }
     ensures number { IfOk result (λ edited. edited.version.number ≡ old.now.number + 1) }
     ensures few { (meant : Meant) → Stands old.now meant → IfOk result (λ edited. meant.number ≤ most_edits) }
     ensures error { (meant : Meant) → Stands old.now meant → IfErr result (IsWhyNotEdited meant edit.now) }

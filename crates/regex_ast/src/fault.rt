@@ -51,8 +51,6 @@ pub enum Why {
     EmptyCentre,
     /// A splice of lines that aren't there.
     BadSplice,
-    /// A form that can't be compiled yet.
-    NotBuilt,
 }
 
 /// What is wrong with a project, and where.

@@ -1,7 +1,7 @@
 -- What a text says: its definitions, or its first fault (Beesley and Karttunen, Finite State Morphology, 2003, chapter 3, on
 -- scripts of `define` commands). A text is a sequence of statements `define NAME EXPRESSION ;`. Statement by statement
 -- a place without a token is tried first, then the depth of brackets, the form, and the limits of powers and rules.
-use Rattle.std.specs.Prelude.{◌≡◌, ◌≢◌, ◌+◌, ◌-◌, ◌++◌, ℕ, Bool, true, false, not, ◌&&◌, ◌||◌, nat_le, nat_lt, List, [], ◌∷◌, map, codes, Some, Result, Ok, Err, if◌then◌else◌}
+use Rattle.std.specs.Prelude.{◌≡◌, ◌≢◌, ◌+◌, ◌++◌, ℕ, Bool, true, false, not, ◌&&◌, ◌||◌, nat_le, nat_lt, List, [], ◌∷◌, map, codes, Some, Result, Ok, Err}
 use Rattle.std.specs.List.{list_all, list_any}
 use Rattle.fsm_base.specs.Cut.{characters}
 use Rattle.regex_ast.specs.Terms.{Term, term}
@@ -20,7 +20,10 @@ use Rattle.regex_tokens.specs.declared.token.Token.{Token}
 use Rattle.regex_tokens.specs.declared.token.Token.TheVariants.{Operator as operator, Run as run}
 use Rattle.regex_grammar.specs.Whole.{IsReading}
 use Rattle.regex_reader.specs.Tests.{nodes, is_misplaced, has_high_power, has_large_rule}
-use Rattle.regex_reader.specs.Limits.{most_characters, most_open}
+use Rattle.regex_reader.specs.Brackets.{nests_too_deep}
+use Rattle.regex_reader.specs.Limits.{most_characters}
+use Rattle.regex_reader.specs.declared.brackets.Bracket.{Bracket}
+use Rattle.regex_reader.specs.declared.brackets.Bracket.TheVariants.{Opening, Closing, Neither}
 
 -- what a statement says: the line of its first token, counted from 1, the name and what it stands for
 pub record Statement : Type 0 where
@@ -42,29 +45,19 @@ tokens_of placed = map (λ p. p.token) placed
 abbrev pub places_of : List Placed → List Place
 places_of placed = map (λ p. p.place) placed
 
--- Brackets. Any closing bracket closes the last one that is open, and a bracket isn't inside the pair that it opens or closes.
+-- Brackets.
 
-abbrev pub opens : Token → Bool
-opens (operator OpenSquare) = true
-opens (operator OpenRound) = true
-opens _ = false
-
-abbrev pub closes : Token → Bool
-closes (operator CloseSquare) = true
-closes (operator CloseRound) = true
-closes _ = false
-
--- how many brackets are open round a token, and behind it, where so many were open before it
-abbrev pub open_round : ℕ → Token → ℕ
-open_round count token = if closes token then count - 1 else count
-
-abbrev pub open_behind : ℕ → Token → ℕ
-open_behind count token = if opens token then count + 1 else open_round count token
+-- what a token is among them
+abbrev pub bracket_of : Token → Bracket
+bracket_of (operator OpenSquare) = Opening
+bracket_of (operator OpenRound) = Opening
+bracket_of (operator CloseSquare) = Closing
+bracket_of (operator CloseRound) = Closing
+bracket_of _ = Neither
 
 -- a token stands inside more open brackets than may be, where so many are open before the tokens
 abbrev pub is_too_deep : ℕ → List Token → Bool
-is_too_deep count [] = false
-is_too_deep count (token ∷ tokens) = nat_lt most_open (open_round count token) || is_too_deep (open_behind count token) tokens
+is_too_deep count tokens = nests_too_deep count (map bracket_of tokens)
 
 -- Names.
 

@@ -3,7 +3,7 @@
 //!
 //! - [`read_xfst`]: the definitions of a file of `define` commands.
 //! - [`read_expr`]: an expression alone, as an entry of a lexicon has one.
-//! - [`is_name`]: whether a text may be defined.
+//! - [`is_name`]: whether a text may be defined. [`nests_too_deep`]: whether tokens stand in too many brackets.
 //! - [`one_reading`], [`one_expression`]: the laws that a text says one thing only.
 #![tactic(auto)]
 
@@ -16,6 +16,7 @@ mod name;
 mod statement;
 mod xfst;
 
+pub use brackets::{Bracket, Brackets, nests_too_deep};
 pub use entry::read_expr;
 pub use laws::{one_expression, one_reading};
 pub use name::is_name;

@@ -35,7 +35,6 @@ reason why.NotALanguage = codes "not-a-language"
 reason why.LimitWeight = codes "limit-weight"
 reason why.EmptyCentre = codes "empty-centre"
 reason why.BadSplice = codes "bad-splice"
-reason why.NotBuilt = codes "not-built"
 
 -- `refused FILE LINE WHY`
 abbrev pub refused_line : Fault → List ℕ

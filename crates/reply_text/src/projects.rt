@@ -34,7 +34,6 @@ fn name_of(why: Why) -> &'static str
         Why::LimitWeight => "limit-weight",
         Why::EmptyCentre => "empty-centre",
         Why::BadSplice => "bad-splice",
-        Why::NotBuilt => "not-built",
     }
 }
 

@@ -17,7 +17,7 @@ use Rattle.project_meaning.specs.Trees.{Rule, Grammar}
 use Rattle.project_meaning.specs.Leaves.{Leaf}
 use Rattle.project_meaning.specs.TwoLevel.{KeepsOnly, KeepsMust, KeepsNever, KeepsBy}
 use Rattle.project_meaning.specs.Grammars.{Letter, feasible, written_pair, Keeps as KeepsInTexts, GrammarRelates as RelatesTexts}
-use Rattle.two_level.specs.Rules.{Keeps, KeepsAll, GrammarRelates}
+use Rattle.two_level.specs.Rules.{Keeps, GrammarRelates}
 use Rattle.two_level.specs.Spelled.{spelled, IsRuleFor, StandsFor}
 use Rattle.two_level.specs.declared.rule.LangRule.{LangRule}
 

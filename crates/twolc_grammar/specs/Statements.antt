@@ -1,14 +1,17 @@
 -- The statements of a twolc text: the list of the alphabet, `NAME = x y .. ;` in the sets, `NAME = EXPRESSION ;` in the
 -- definitions, and rules `"name" x:y ARROW L _ R ; ..`.
-use Rattle.std.specs.Prelude.{◌≡◌, ◌≢◌, ◌<◌, ◌+◌, ◌-◌, ℕ, Bool, true, false, ◌||◌, nat_lt, List, [], ◌∷◌, ◌++◌, length, map, Option, None, Some, Result, Ok, Err, if◌then◌else◌}
+use Rattle.std.specs.Prelude.{◌≡◌, ◌≢◌, ◌<◌, ◌+◌, ℕ, Bool, true, false, nat_lt, List, [], ◌∷◌, ◌++◌, length, map, Option, None, Some, Result, Ok, Err}
 use Rattle.regex_ast.specs.Terms.{Contexts, no_context, between}
 use Rattle.regex_ast.specs.declared.expr.Raw.{Raw}
 use Rattle.regex_ast.specs.declared.fault.Why.{Why}
 use Rattle.regex_ast.specs.declared.fault.Why.TheVariants as why
 use Rattle.regex_ast.specs.declared.twolc.RuleKind.{RuleKind}
 use Rattle.regex_ast.specs.declared.twolc.RuleKind.TheVariants as kinds
+use Rattle.regex_reader.specs.Brackets.{nests_too_deep}
 use Rattle.regex_reader.specs.Files.{is_name}
-use Rattle.regex_reader.specs.Limits.{most_open, most_in_rules}
+use Rattle.regex_reader.specs.Limits.{most_in_rules}
+use Rattle.regex_reader.specs.declared.brackets.Bracket.{Bracket}
+use Rattle.regex_reader.specs.declared.brackets.Bracket.TheVariants.{Opening, Closing, Neither}
 use Rattle.project_meaning.specs.Trees.{Pair, Part, Set, PairDefinition, Rule}
 use Rattle.twolc_grammar.specs.Atoms.{Names, is_known, symbols_in, centre_in, one_symbol_in}
 use Rattle.twolc_grammar.specs.Expressions.{IsExpression, IsPart, has_edge, has_high_power}
@@ -17,29 +20,19 @@ use Rattle.twolc_tokens.specs.declared.token.Operator.TheVariants.{OpenSquare, C
 use Rattle.twolc_tokens.specs.declared.token.Token.{Token}
 use Rattle.twolc_tokens.specs.declared.token.Token.TheVariants.{Operator as operator, Quoted as quoted, Atom as atom}
 
--- Brackets. Any closing bracket closes the last one that is open, and a bracket isn't inside the pair that it opens or closes.
+-- Brackets.
 
-abbrev pub opens : Token → Bool
-opens (operator OpenSquare) = true
-opens (operator OpenRound) = true
-opens _ = false
-
-abbrev pub closes : Token → Bool
-closes (operator CloseSquare) = true
-closes (operator CloseRound) = true
-closes _ = false
-
--- how many brackets are open round a token, and behind it, where so many were open before it
-abbrev pub open_round : ℕ → Token → ℕ
-open_round count token = if closes token then count - 1 else count
-
-abbrev pub open_behind : ℕ → Token → ℕ
-open_behind count token = if opens token then count + 1 else open_round count token
+-- what a token is among them
+abbrev pub bracket_of : Token → Bracket
+bracket_of (operator OpenSquare) = Opening
+bracket_of (operator OpenRound) = Opening
+bracket_of (operator CloseSquare) = Closing
+bracket_of (operator CloseRound) = Closing
+bracket_of _ = Neither
 
 -- a token stands inside more open brackets than may be, where so many are open before the tokens
 abbrev pub is_too_deep : ℕ → List Token → Bool
-is_too_deep count [] = false
-is_too_deep count (token ∷ tokens) = nat_lt most_open (open_round count token) || is_too_deep (open_behind count token) tokens
+is_too_deep count tokens = nests_too_deep count (map bracket_of tokens)
 
 -- What statements say.
 

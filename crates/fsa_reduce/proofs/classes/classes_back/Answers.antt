@@ -1,4 +1,4 @@
-use Rattle.std.proofs.Common.{◌<◌, ◌≤◌, ◌-◌, false, Some, length, get_or, sym, ap, subst, arith, ◌∙◌}
+use Rattle.std.proofs.Common.{◌<◌, ◌≤◌, ◌-◌, false, length, get_or, sym, ap, subst, arith, ◌∙◌}
 use Rattle.std.proofs.lemmas.Option.{slice_get-get_or}
 use Rattle.fsa_reduce.specs.Numbering.{Keeps}
 use Rattle.fsa_reduce.specs.Classes.{AreClasses}
@@ -18,7 +18,7 @@ loop-alloc-preserved c =
     c.known_classes-known.result.now c.in_ok-signature.signature.items state c.in_ok-number_of.field-0 (get_or finals state false) c.out.result.now
     there (ap (λ n. length finals - 1 - n) (c.len-in-loop-alloc.ensures ∙ counted)) (slice_get-get_or finals state false inside) c.out.ensures
     (subst (Keeps c.known_classes-known.result.now) c.deref.ensures.value c.known_classes-known.ensures)
-    c.in_ok-number_of.ensures.kept (c.in_ok-number_of.ensures.number ∙ ap Some c.deref-in-loop-alloc.ensures.value) c.in_ok-push.ensures.items
+    c.in_ok-number_of.ensures.kept c.in_ok-number_of.ensures.number c.in_ok-push.ensures.items
     c.in_ok-signature.ensures c.loop-alloc.invariant
 
 pub returns : goal.returns

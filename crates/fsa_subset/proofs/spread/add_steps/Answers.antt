@@ -1,6 +1,5 @@
 use Rattle.std.proofs.Common.{◌<◌, get_or, refl, subst, sym, ◌∙◌}
 use Rattle.fsa_subset.specs.Sets.{IsSettled, IsTargetSet}
-use Rattle.fsa_subset.specs.Partial.{AddsEdge}
 use Rattle.fsa_subset.proofs.Settling.{target_of}
 use Rattle.fsa_subset.proofs.Spreading.{steps_more}
 use Rattle.fsa_subset.proofs.spread.add_steps.Goals as goal
@@ -21,5 +20,5 @@ places-preserved c =
     let leads = target_of rows moves c.out.result.now place c.out.ensures set c.in_ok-set.ensures.set in (
       c.in_ok-set.ensures.bound ∙ c.places.invariant.0,
       steps_more (IsSettled rows bound) (IsTargetSet rows moves) c.args.number places i place set c.args.found.now c.places.found c.add.new.self
-          c.places-test.true refl state leads (subst (λ s. AddsEdge c.args.number place s c.places.found c.add.new.self) c.deref.ensures.value c.in_ok-add.ensures) c.places.invariant.1,
+          c.places-test.true refl state leads c.in_ok-add.ensures c.places.invariant.1,
     )

@@ -1,4 +1,4 @@
-use Rattle.std.proofs.Common.{◌<◌, [], ◌∷◌, ap, sym, subst, ◌∙◌}
+use Rattle.std.proofs.Common.{◌<◌, ap, sym, subst, ◌∙◌}
 use Rattle.fsa_subset.specs.Sets.{HasMove, IsSettled, LeadsBy}
 use Rattle.fsa_subset.proofs.Settling.{start_is}
 use Rattle.fsa_subset.proofs.Spreading.{spread_first}
@@ -15,4 +15,4 @@ returns-clause-found c =
     let same = c.in_ok-add.ensures.ok.grows.bound ∙ ap (λ m. m.bound) c.clear.ensures in
     let is = start_is rows c.clear.new.self c.add.new.self (ap (λ k. k.found) c.clear.ensures) c.in_ok-add.ensures.ok start c.in_ok-set.ensures.set in
     let state : IsSettled rows bound start = subst (λ n. IsSettled rows n start) same c.in_ok-set.ensures.settled in
-    (start, is, spread_first (IsSettled rows bound) (LeadsBy rows) (HasMove rows) start c.in_ok-found.found (c.in_ok-found.ensures.sets ∙ ap (λ s. s ∷ []) c.deref.ensures.value) c.in_ok-found.ensures.edges state)
+    (start, is, spread_first (IsSettled rows bound) (LeadsBy rows) (HasMove rows) start c.in_ok-found.found c.in_ok-found.ensures.sets c.in_ok-found.ensures.edges state)

@@ -11,7 +11,7 @@ automaton-requires-clause-start c = product_start _ _ c.in_ok-built.ensures.0 _ 
 pub automaton-requires-clause-within : goal.automaton-requires-clause-within
 automaton-requires-clause-within c = rw c.deref.ensures.value (product_within _ _ c.in_ok-built.ensures.0 _ _ c.in_ok-built.ensures.1)
 
-built : (c : goal.After-drop-first-inside-4) → IfOk c.automaton.result (λ m. IsProduct c.args.a.now c.args.b.now c.in_ok-built.ensures.0 m.edges m.finals)
+built : (c : goal.After-drop-first-inside-6) → IfOk c.automaton.result (λ m. IsProduct c.args.a.now c.args.b.now c.in_ok-built.ensures.0 m.edges m.finals)
 built c =
     built_product c.args.a.now c.args.b.now c.in_ok-first.first c.in_ok-second.second c.finals.result.now c.finals-2.result.now
     (rw c.edges.ensures.edges at c.in_ok-first.ensures) (rw c.edges-2.ensures.edges at c.in_ok-second.ensures) c.finals.ensures.finals c.finals-2.ensures.finals

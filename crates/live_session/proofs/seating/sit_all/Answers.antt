@@ -1,7 +1,6 @@
-use Rattle.std.proofs.Common.{◌≡◌, ◌<◌, ◌∙◌, ℕ, Some, IfSome, arith, length, length-set, slice_index_or, subst}
+use Rattle.std.proofs.Common.{◌≡◌, ◌<◌, ◌∙◌, IfSome, arith, length, length-set, slice_index_or, subst}
 use Rattle.std.proofs.lemmas.List.Elements.{All-pop}
 use Rattle.fsm_io.specs.Reading.{LinesView, at_start}
-use Rattle.lane_threads.specs.Lanes.{LaneView}
 use Rattle.project_versions.specs.Versions.{VersionView}
 use Rattle.publish_board.specs.Boards.{Seated}
 use Rattle.live_session.proofs.Sitting.{one_more_sits, one_shorter, others_stay, sits_on}

@@ -1,4 +1,4 @@
-use Rattle.std.proofs.Common.{sym, subst, ap, ◌∙◌, ◌≡◌, ◌∷◌, arith, take, length}
+use Rattle.std.proofs.Common.{sym, ap, ◌∙◌, ◌∷◌, arith}
 use Rattle.std.proofs.lemmas.List.{take_all}
 use Rattle.live_session.specs.Endings.{endings_in, worst}
 use Rattle.live_session.proofs.Worst.{none_worse, worst_with, worst_without}

@@ -4,4 +4,4 @@ use Rattle.network_build.proofs.symbols.symbols_among.Given as goal
 
 -- the symbols so far
 abbrev pub invariant-leaves : goal.invariant-leaves
-invariant-leaves l = AreAmong l.symbols.keys (take l.leaf-index l.leaves)
+invariant-leaves l = AreAmong l.symbols.items (take l.leaf-index l.leaves)

@@ -11,15 +11,8 @@ returns-in-Err-clause-error c =
     let fault = DemandFault c.args.definitions.now c.args.forms.now in
     refused_so (fault demand.Fits) (First fault demands) c.in-Err.error (λ found h. inl h) c.in-Err.ensures.error
 
-pub returns-in-Err-meet-clause-error : goal.returns-in-Err-meet-clause-error
-returns-in-Err-meet-clause-error c =
-    let fault = DemandFault c.args.definitions.now c.args.forms.now in
-    let fits = all_pass c.args.forms.now demand.Fits c.args.definitions.now c.in-Ok.ensures.met in
-    refused_so (fault demand.Light) (First fault demands) c.in-Err-meet.error (λ found h. inr (fits, inl h)) c.in-Err-meet.ensures.error
-
 pub returns-clause-error : goal.returns-clause-error
 returns-clause-error c =
     let fault = DemandFault c.args.definitions.now c.args.forms.now in
     let fits = all_pass c.args.forms.now demand.Fits c.args.definitions.now c.in-Ok.ensures.met in
-    let light = all_pass c.args.forms.now demand.Light c.args.definitions.now c.in-Ok-meet.ensures.met in
-    refused_or (fault demand.Built) (First fault demands) c.meet-3.result (λ found h. inr (fits, inr (light, inl h))) c.meet-3.ensures.error
+    refused_or (fault demand.Light) (First fault demands) c.meet-2.result (λ found h. inr (fits, inl h)) c.meet-2.ensures.error

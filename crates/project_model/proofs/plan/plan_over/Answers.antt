@@ -25,7 +25,7 @@ invariant_of-result c = record {
       is_plan (map written_of c.args.written.now) c.args.names.now c.args.alphabet.now c.args.table.now c.intern_all.new.table c.in_ok-definitions.definitions.items c.requires.names c.in_ok-intern_all.ensures.table c.in_ok-definitions.ensures
       c.requires.symbols c.requires.apart (rw c.deref.ensures.value at c.in-Ok.ensures.acyclic) c.in_ok-forms.forms.items (rw c.deref-2.ensures.value at c.in_ok-forms.ensures.count)
       (subst (λ (ds : List Definition). (said : Said) (table : List (List ℕ)) → AreDefined said table ds → AreForms (names_of said.written) (project_in said) c.in_ok-forms.forms.items) c.deref-2.ensures.value c.in_ok-forms.ensures.forms)
-      c.args.glosses c.requires.formed c.in_ok-symbols.symbols.items c.in_ok-symbols.ensures c.requires.distinct (rw (c.deref-4.ensures.value, c.deref-5.ensures.value) at c.in-Ok-check.ensures.fits) (rw (c.deref-4.ensures.value, c.deref-5.ensures.value) at c.in-Ok-check.ensures.light) (rw (c.deref-4.ensures.value, c.deref-5.ensures.value) at c.in-Ok-check.ensures.built);
+      c.args.glosses c.requires.formed c.in_ok-symbols.symbols.items c.in_ok-symbols.ensures c.requires.distinct (rw (c.deref-4.ensures.value, c.deref-5.ensures.value) at c.in-Ok-check.ensures.fits) (rw (c.deref-4.ensures.value, c.deref-5.ensures.value) at c.in-Ok-check.ensures.light) c.requires.built;
   ordered = rw c.deref.ensures.value at c.in-Ok.ensures.order;
 }
 
@@ -34,4 +34,4 @@ returns-clause-plan c manifest is =
     is_planned (map written_of c.args.written.now) c.args.names.now c.args.alphabet.now c.args.table.now c.intern_all.new.table c.in_ok-definitions.definitions.items c.requires.names c.in_ok-intern_all.ensures.table c.in_ok-definitions.ensures
     c.requires.symbols c.requires.apart (rw c.deref.ensures.value at c.in-Ok.ensures.acyclic) c.in_ok-forms.forms.items (rw c.deref-2.ensures.value at c.in_ok-forms.ensures.count)
     (subst (λ (ds : List Definition). (said : Said) (table : List (List ℕ)) → AreDefined said table ds → AreForms (names_of said.written) (project_in said) c.in_ok-forms.forms.items) c.deref-2.ensures.value c.in_ok-forms.ensures.forms)
-    c.args.glosses c.requires.formed c.in_ok-symbols.symbols.items c.in_ok-symbols.ensures c.requires.distinct (rw (c.deref-4.ensures.value, c.deref-5.ensures.value) at c.in-Ok-check.ensures.fits) (rw (c.deref-4.ensures.value, c.deref-5.ensures.value) at c.in-Ok-check.ensures.light) (rw (c.deref-4.ensures.value, c.deref-5.ensures.value) at c.in-Ok-check.ensures.built) manifest is
+    c.args.glosses c.requires.formed c.in_ok-symbols.symbols.items c.in_ok-symbols.ensures c.requires.distinct (rw (c.deref-4.ensures.value, c.deref-5.ensures.value) at c.in-Ok-check.ensures.fits) (rw (c.deref-4.ensures.value, c.deref-5.ensures.value) at c.in-Ok-check.ensures.light) c.requires.built manifest is

@@ -1,5 +1,8 @@
 use Rattle.std.proofs.Common.{All, map, sym, subst}
-use Rattle.project_meaning.specs.Projects.{Written}
+use Rattle.project_meaning.specs.Leaves.{resolved}
+use Rattle.project_meaning.specs.Projects.{Written, names_of}
+use Rattle.project_sources.specs.Built.{BodyIsBuilt}
+use Rattle.built_bodies.proofs.Bodies.{files_built}
 use Rattle.project_definitions.specs.Bodies.{IsFormed}
 use Rattle.project_model.specs.Answers.{written_of}
 use Rattle.project_model.proofs.Formed.{formed_files}
@@ -10,6 +13,12 @@ pub plan_of-requires-clause-formed : goal.plan_of-requires-clause-formed
 plan_of-requires-clause-formed c =
     subst (λ ws. All (λ (w : Written). IsFormed w.body) (map written_of ws)) (sym c.deref.ensures.value)
     (formed_files c.args.sources.now c.args.manifest.now (map written_of c.in-Ok.contents.written.items) (rw c.lines-lines.ensures.lines at c.in-Ok.ensures.written))
+
+pub plan_of-requires-clause-built : goal.plan_of-requires-clause-built
+plan_of-requires-clause-built c =
+    let written = map written_of c.in-Ok.contents.written.items in
+    subst (λ ws. All (λ (w : Written). BodyIsBuilt (resolved (names_of (map written_of ws)) w.body)) (map written_of ws)) (sym c.deref.ensures.value)
+    (files_built (names_of written) c.args.sources.now c.args.manifest.now written (rw c.lines-lines.ensures.lines at c.in-Ok.ensures.written))
 
 pub returns-clause-plan : goal.returns-clause-plan
 returns-clause-plan c content held is =

@@ -1,7 +1,5 @@
-use Rattle.std.proofs.Common.{ℕ, List, Vec, Global, All, sym, subst}
-use Rattle.interlinear.specs.Replies.{AreCells}
-use Rattle.interlinear.specs.declared.columns.Cell.{Cell}
-use Rattle.project_store.proofs.Glossed.{IsShort, text_glossed, words_short}
+use Rattle.std.proofs.Common.{ℕ, Vec, Global}
+use Rattle.project_store.proofs.Glossed.{text_glossed, words_short}
 use Rattle.project_store.proofs.Lawful.{if_ok}
 use Rattle.project_store.proofs.glosses.gloss_in.Goals as goal
 

@@ -1,4 +1,4 @@
-use Rattle.std.proofs.Common.{◌≡◌, ℕ, List, Option, Some, Vec, Global, IfOk, IfSome, sym, ap, subst, ◌∙◌}
+use Rattle.std.proofs.Common.{◌≡◌, ℕ, List, Some, Vec, Global, IfOk, IfSome, sym, ap, subst, ◌∙◌}
 use Rattle.std.specs.Option.{option_map}
 use Rattle.fsa.specs.Automaton.{Automaton}
 use Rattle.fsm_base.specs.declared.letters.Pair.{Pair}

@@ -1,6 +1,0 @@
-use Rattle.project_store.proofs.Networks.{BuiltSoFar}
-use Rattle.generated_report.proofs.networks.network_at.Given as goal
-
--- the networks so far
-abbrev pub invariant-order : goal.invariant-order
-invariant-order l = BuiltSoFar l.project l.order l.place l.next-index l.built.items
