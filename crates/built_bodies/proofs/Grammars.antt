@@ -231,7 +231,7 @@ statement_fine names in_sets tokens (set s) fine (list, atoms, named, is, some, 
 statement_fine names in_definitions tokens (definition d) fine (expression, named, is, no_edge) =
     let behind = subst AreFine named.0 fine in
     expression_fine names expression d.term (front_fine expression (operator Semicolon ∷ []) behind.1.1).0 is
-statement_fine names in_rules tokens (rule r) fine (centre, arrow, rest, is, centre_is, kind_is, contexts_are, some) =
+statement_fine names in_rules tokens (rule r) fine (centre, rest, is, centre_is, contexts_are, some) =
     let all = subst AreFine is fine in
     (centre_fine names centre r.centre all.1.0 centre_is, contexts_fine names rest r.contexts all.1.1.1 contexts_are)
 statement_fine names in_alphabet tokens (set s) fine is = absurd is

@@ -1,2 +1,3 @@
+mod Replaced
 pub mod Rowed
 mod Sets

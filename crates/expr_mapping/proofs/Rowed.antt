@@ -2,7 +2,7 @@
 use Rattle.std.proofs.Common.{◌≡◌, ◌+◌, ◌<◌, ◌≤◌, ℕ, List, [], ◌∷◌, ◌++◌, length, drop, get_or, map, refl, sym, ap, ◌∙◌}
 use Rattle.std.proofs.lemmas.List.{drop_all}
 use Rattle.word_relations.proofs.Behind.{left_behind}
-use Rattle.regex_ast.specs.Terms.{Terms, term, terms_of, links_of, contexts_of, steps_by, mappings_of, groups_of, then_term, no_term, no_link, no_context, no_step, no_mapping, no_group}
+use Rattle.regex_ast.specs.Terms.{Terms, term, terms_of, links_of, contexts_of, steps_by, mappings_of, groups_of, then_term, no_term, or, and, less, cross_with, then, no_link, no_context, no_step, no_mapping, no_group}
 use Rattle.regex_ast.specs.declared.expr.Expr.{Expr}
 use Rattle.regex_ast.specs.declared.expr.Context.{Context}
 use Rattle.regex_ast.specs.declared.expr.Group.{Group}
@@ -10,7 +10,7 @@ use Rattle.regex_ast.specs.declared.expr.Link.{Link, Or, And, Less}
 use Rattle.regex_ast.specs.declared.expr.Mapping.{Mapping, Plain, Markup, Insert}
 use Rattle.regex_ast.specs.declared.expr.Step.{Step, CrossWith, Then}
 use Rattle.expr_leaves.specs.Mapped.{mapped, mapped_each, mapped_links, mapped_contexts, mapped_steps, mapped_mappings, mapped_groups}
-use Rattle.expr_mapping.specs.Replaced.{link_before, step_before, context_before, mapping_before, group_before, IsLinkOf, IsStepOf, IsContextOf, IsMappingOf, IsGroupOf}
+use Rattle.expr_mapping.proofs.Replaced.{link_before, step_before, context_before, mapping_before, group_before, IsLinkOf, IsStepOf, IsContextOf, IsMappingOf, IsGroupOf}
 
 -- items in front of a row
 abbrev pub onto : {Y S : Type 0} → (Y → S → S) → List Y → S → S
@@ -136,3 +136,31 @@ module _ {A B : Type 0} (f : A → B) where
   pub groups_ended : (xs : List (Group A)) (i : ℕ) (found : List (Group B)) → length xs ≤ i
       → onto group_before found (mapped_groups f (groups_of (drop i xs))) ≡ mapped_groups f (groups_of xs) → groups_of found ≡ mapped_groups f (groups_of xs)
   groups_ended xs i found over = ended groups_of group_before group_before (mapped_groups f) (λ x xs. refl) xs i found (groups_of found) no_group over refl (groups_all found)
+
+  -- an item of the same form, whose expressions stand for those of the other with their leaves mapped
+  pub is_or : (x : Link A) (e : Expr A) (y : Expr B) → x ≡ Or e → term y ≡ mapped f (term e) → IsLinkOf f x (Or y)
+  is_or x e y is same = λ rest. rw is (ap (λ t. or t (mapped_links f rest)) same)
+
+  pub is_and : (x : Link A) (e : Expr A) (y : Expr B) → x ≡ And e → term y ≡ mapped f (term e) → IsLinkOf f x (And y)
+  is_and x e y is same = λ rest. rw is (ap (λ t. and t (mapped_links f rest)) same)
+
+  pub is_less : (x : Link A) (e : Expr A) (y : Expr B) → x ≡ Less e → term y ≡ mapped f (term e) → IsLinkOf f x (Less y)
+  is_less x e y is same = λ rest. rw is (ap (λ t. less t (mapped_links f rest)) same)
+
+  pub is_cross_with : (x : Step A) (e : Expr A) (y : Expr B) → x ≡ CrossWith e → term y ≡ mapped f (term e) → IsStepOf f x (CrossWith y)
+  is_cross_with x e y is same = λ rest. rw is (ap (λ t. cross_with t (mapped_steps f rest)) same)
+
+  pub is_then : (x : Step A) (e : Expr A) (y : Expr B) → x ≡ Then e → term y ≡ mapped f (term e) → IsStepOf f x (Then y)
+  is_then x e y is same = λ rest. rw is (ap (λ t. then t (mapped_steps f rest)) same)
+
+  pub is_between : (x : Context A) (y : Context B) → term y.left ≡ mapped f (term x.left) → term y.right ≡ mapped f (term x.right) → IsContextOf f x y
+  is_between x y left right = λ rest. rw (left, right) refl
+
+  pub is_plain : (x : Mapping A) (c r : Expr A) (d s : Expr B) → x ≡ Plain c r → term d ≡ mapped f (term c) → term s ≡ mapped f (term r) → IsMappingOf f x (Plain d s)
+  is_plain x c r d s is same same2 = λ rest. rw (is, same, same2) refl
+
+  pub is_markup : (x : Mapping A) (c b a : Expr A) (d p q : Expr B) → x ≡ Markup c b a → term d ≡ mapped f (term c) → term p ≡ mapped f (term b) → term q ≡ mapped f (term a) → IsMappingOf f x (Markup d p q)
+  is_markup x c b a d p q is same same2 same3 = λ rest. rw (is, same, same2, same3) refl
+
+  pub is_insert : (x : Mapping A) (r : Expr A) (s : Expr B) → x ≡ Insert r → term s ≡ mapped f (term r) → IsMappingOf f x (Insert s)
+  is_insert x r s is same = λ rest. rw (is, same) refl

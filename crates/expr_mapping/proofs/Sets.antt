@@ -1,10 +1,11 @@
 -- Rows of rules and groups by the items of the `Vec`s that hold them.
-use Rattle.std.proofs.Common.{◌≡◌, sym, ap, ◌∙◌}
+use Rattle.std.proofs.Common.{◌≡◌, ℕ, ◌<◌, ◌≤◌, List, length, get_or, sym, ap, ◌∙◌, arith}
+use denote.Param.Weighed.{most, at_most}
 use Rattle.regex_ast.specs.Terms.{term, rules, then_group, maps_of, side_of, contexts_in, mappings_of, contexts_of, groups_of}
 use Rattle.expr_leaves.specs.Mapped.{mapped_contexts, mapped_groups, mapped_mappings}
-use Rattle.expr_mapping.specs.Replaced.{IsGroupOf}
+use Rattle.expr_mapping.proofs.Replaced.{IsGroupOf}
 use Rattle.regex_ast.specs.declared.expr.Expr.{Rules, items_hidden-the_row-Context-2}
-use Rattle.regex_ast.specs.declared.expr.Expr.TheViews.{out-RuleSet, roll-out-RuleSet, out-Group, roll-Group, roll-out-Group}
+use Rattle.regex_ast.specs.declared.expr.Expr.TheViews.{out-RuleSet, roll-out-RuleSet, out-Group, size-Group, roll-Group, roll-out-Group}
 use Rattle.regex_ast.specs.declared.expr.RuleSet.{RuleSet}
 use Rattle.regex_ast.specs.declared.expr.Group.{Group, items_hidden-the_row-Mapping-4}
 use Rattle.regex_ast.proofs.Rows.{term-Rules}
@@ -29,3 +30,7 @@ side_of_is {A} g = ap (λ (s : Group A). side_of s) (sym (roll-out-Group A g))
 pub group_made : {A B : Type 0} (f : A → B) (old : Group A) (new : Group B) → mappings_of (maps_of new) ≡ mapped_mappings f (mappings_of (maps_of old)) → side_of new ≡ side_of old
     → contexts_of (contexts_in new) ≡ mapped_contexts f (contexts_of (contexts_in old)) → IsGroupOf f old new
 group_made f old new maps side contexts = λ rest i. then_group (maps i) (side i) (contexts i) (mapped_groups f rest)
+
+-- no group of a row is larger than the row's largest
+pub size_in : {A : Type 0} (gs : List (Group A)) (i : ℕ) (g : Group A) → i < length gs → g ≡ get_or gs i g → size-Group A g ≤ most (size-Group A) gs
+size_in {A} gs i g below is = omega (arith, at_most {X = Group A} (size-Group A) gs i g below, ap (size-Group A) is)

@@ -4,7 +4,7 @@ ghost use Rattle.regex_ast.specs.declared.lexc.FlagOp.{FlagOp};
 ghost use Rattle.std.specs.Option.{option_map};
 ghost use Rattle.flag_diacritics.specs.Numbers.{Keeps, StandsFor, AreActions, is_number, passes_by, number_behind, behind_action};
 
-use crate::texts::TextTable;
+use fsm_base::TextTable;
 use regex_ast::{FlagKind, FlagOp};
 use std::alloc::{AllocError, Global};
 
@@ -36,7 +36,7 @@ pub fn actions_of(alloc: Global, flags: &[FlagOp]) -> Result<Actions, AllocError
     let mut values = TextTable::new(alloc);
     let mut list = Vec::new(alloc);
     for flag in flags {
-        let action = action_of(alloc, flag, &mut features, &mut values)?;
+        let action = action_of(flag, &mut features, &mut values)?;
         list.push(action)?;
     }
     Ok(Actions {
@@ -47,7 +47,6 @@ pub fn actions_of(alloc: Global, flags: &[FlagOp]) -> Result<Actions, AllocError
 
 /// A flag by numbers. Its feature and its value get a number where they have none.
 fn action_of(
-    alloc: Global,
     flag: &FlagOp,
     features: &mut TextTable,
     values: &mut TextTable,
@@ -59,9 +58,9 @@ fn action_of(
     ensures values_once { OnOk result (IsDistinct values.new) }
     ensures action { IfOk result (λ action. StandsFor features.new values.new flag.now action) }
 {
-    let feature = features.number_of(alloc, flag.feature.as_str())?;
+    let feature = features.add(flag.feature.as_str())?;
     let value = match &flag.value {
-        Some(value) => Some(values.number_of(alloc, value.as_str())?),
+        Some(value) => Some(values.add(value.as_str())?),
         None => None,
     };
     Ok(Action {

@@ -6,3 +6,4 @@ pub mod MergedLanguage
 pub mod LettersNumbered
 pub mod SameEdges
 pub mod Cut
+pub mod Ordering

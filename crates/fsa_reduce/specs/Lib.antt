@@ -1,3 +1,4 @@
 pub mod Numbering
 pub mod Classes
 pub mod Merging
+pub mod Orders

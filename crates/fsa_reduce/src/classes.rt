@@ -1,8 +1,12 @@
-ghost use Rattle.std.specs.Prelude.{◌≡◌, ◌<◌, ◌-◌, ℕ, Some, IfOk, OnOk, map, reverse, take, length, slice_get, slice_index};
+ghost use Rattle.std.specs.Prelude.{◌≡◌, ◌<◌, ◌-◌, ℕ, Some, All, IfOk, OnOk, map, reverse, take, length, slice_get, slice_index};
 ghost use Rattle.fsa_explore.specs.Targets.{AreWithin};
 ghost use Rattle.fsa_reduce.specs.Numbering.{Keeps};
 ghost use Rattle.fsa_reduce.specs.Classes.{AreAlike, AreClasses, renumbered};
+ghost use Rattle.fsa_reduce.specs.Merging.{AreWithinBoth};
+ghost use Rattle.fsa_reduce.specs.Orders.{IsOrder};
 
+use crate::merging::{merged_finals, moved_edges};
+use crate::order::{lead_on, places_in_depth};
 use fsa::Edge;
 use fsa_explore::{EdgesByState, ListTable, signature_of};
 use std::alloc::{AllocError, Global};
@@ -17,10 +21,61 @@ pub struct Classes {
 }
 
 /// Which states go on alike. The class of the start is 0. With `ends_first` a state that an edge enters counts by
-/// its class where that was found already, the states being looked at from the last one back, and else by itself:
-/// then all common ends of an automaton without loops become one. Without it each state counts by itself, which
-/// finds a state that goes on like another into the same loop.
+/// its class where that was found already, and else by itself: then all common ends of an automaton without loops
+/// become one, since a state is looked at behind those that its edges lead to. Without it each state counts by
+/// itself, which finds a state that goes on like another into the same loop.
 pub fn classes_of(
+    alloc: Global,
+    finals: &[bool],
+    edges: &[Edge<usize>],
+    ends_first: bool,
+) -> Result<Classes, AllocError>
+    requires start { 0 < length finals.now }
+    requires within { AreWithinBoth edges.now (length finals.now) }
+    ensures start { IfOk result (λ c. slice_get c.of_states.items 0 ≡ Some 0) }
+    ensures alike { IfOk result (λ c. AreAlike finals.now edges.now c.of_states.items c.count) }
+{
+    if ends_first && !lead_on(edges) {
+        if let Some(places) = places_in_depth(alloc, finals.len(), edges)? {
+            return classes_by_place(alloc, finals, edges, &places);
+        }
+    }
+    classes_from_end(alloc, finals, edges, ends_first)
+}
+
+/// The same, the states being looked at from the last place back.
+fn classes_by_place(
+    alloc: Global,
+    finals: &[bool],
+    edges: &[Edge<usize>],
+    places: &[usize],
+) -> Result<Classes, AllocError>
+    requires start { 0 < length finals.now }
+    requires within { AreWithinBoth edges.now (length finals.now) }
+    requires order { IsOrder (length finals.now) places.now }
+    ensures start { IfOk result (λ c. slice_get c.of_states.items 0 ≡ Some 0) }
+    ensures alike { IfOk result (λ c. AreAlike finals.now edges.now c.of_states.items c.count) }
+{
+    let finals = merged_finals(alloc, finals, places, finals.len())?;
+    let edges = moved_edges(alloc, edges, places)?;
+    let found = classes_from_end(alloc, &finals, &edges, true)?;
+    let of_states = classes_at(alloc, &found.of_states, places)?;
+    Ok(Classes {
+        of_states,
+        count: found.count,
+    })
+}
+
+/// The classes at places.
+fn classes_at(alloc: Global, classes: &[usize], places: &[usize]) -> Result<Vec<usize>, AllocError>
+    requires { All (λ place. place < length classes.now) places.now }
+    ensures { IfOk result (λ v. v.items ≡ map (λ place. slice_index classes.now place) places.now) }
+{
+    places.iter().map(|place| classes[*place]).collect(alloc)
+}
+
+/// The same, the states being looked at from the last one back.
+fn classes_from_end(
     alloc: Global,
     finals: &[bool],
     edges: &[Edge<usize>],

@@ -4,7 +4,7 @@
 //!
 //! - [`reduced`]: merges states, takes epsilon edges away where that is cheap, and merges again.
 //! - `merging`: an automaton with one state for each class of states. `classes`: which states go on alike.
-//!   `numbering`: numbers in place of letters.
+//!   `order`: states in an order in which edges lead on. `numbering`: numbers in place of letters.
 //! - `cutting`: an automaton without a last state that nothing reaches. `epsilon`: whether epsilon edges
 //!   are cheap to take away.
 #![tactic(auto)]
@@ -14,6 +14,7 @@ mod cutting;
 mod epsilon;
 mod merging;
 mod numbering;
+mod order;
 mod reduction;
 
 pub use reduction::reduced;

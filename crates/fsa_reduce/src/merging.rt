@@ -29,7 +29,7 @@ pub fn merged<L: Letter>(alloc: Global, a: &Fsa<L>, ends_first: bool) -> Result<
 }
 
 /// Which classes have a final state.
-fn merged_finals(
+pub fn merged_finals(
     alloc: Global,
     finals: &[bool],
     classes: &[usize],
@@ -65,7 +65,7 @@ fn merged_edges(
 }
 
 /// An edge between classes for each edge.
-fn moved_edges(
+pub fn moved_edges(
     alloc: Global,
     edges: &[Edge<usize>],
     classes: &[usize],

@@ -4,6 +4,7 @@ ghost use Rattle.fsa.specs.Language.{Accepts};
 
 use crate::epsilon::is_cheap;
 use crate::merging::merged;
+use crate::order::lead_on;
 use fsa::{Edge, Fsa};
 use fsa_rational::without_empty;
 use fsm_base::Letter;
@@ -32,12 +33,16 @@ fn has_epsilon<L>(edges: &[Edge<L>]) -> bool {
     edges.iter().any(|edge| edge.letter.is_none())
 }
 
-/// Merges states as long as that takes away more than a sixteenth of them.
+/// Merges states, and again where there are loops, as long as that takes away more than a sixteenth of them.
 fn merged_often<L: Letter>(alloc: Global, a: &Fsa<L>) -> Result<Fsa<L>, AllocError>
     ensures letters { IfOk result (λ m. (x : L) → UsesLetter m x → UsesLetter a.now x) }
     ensures language { IfOk result (λ m. (w : List L) → Accepts m w ↔ Accepts a.now w) }
 {
     let mut m = merged(alloc, a, true)?;
+    if lead_on(m.edges()) {
+        // There is no loop, so that all common ends were found at once.
+        return Ok(m);
+    }
     for _pass in 0..PASSES {
         let next = merged_again(alloc, &m)?;
         let is_last = is_little(m.states(), next.states());

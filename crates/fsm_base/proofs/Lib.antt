@@ -5,3 +5,4 @@ pub mod NormalLemmas
 pub mod OrderLemmas
 pub mod SortedLemmas
 pub mod TableLemmas
+pub mod TextLemmas

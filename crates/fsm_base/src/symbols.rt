@@ -2,8 +2,7 @@ ghost use Rattle.std.specs.Prelude.{◌≡◌, ◌==◌, ◌<◌, [], length, ta
 ghost use Rattle.std.specs.Option.{option_map};
 ghost use Rattle.fsm_base.specs.Symbols.{IsTable, number_of, with_text};
 
-use crate::Sym;
-use indexmap::IndexSet;
+use crate::{Sym, TextTable};
 use std::alloc::{AllocError, Global};
 use std::marker::Model;
 
@@ -14,20 +13,19 @@ use std::marker::Model;
 /// symbol `n` stands at place `n`.
 #[derive(Drop)]
 pub struct SymbolTable {
-    /// The texts, each once. The place of a text is its number.
-    texts: IndexSet<String>,
+    /// The texts. The place of a text is its number.
+    texts: TextTable,
 }
 
 impl Model for SymbolTable {
-    ghost use Rattle.std.specs.Prelude.{List, ℕ, map};
-    ghost use Rattle.std.specs.String.{string_bytes};
+    ghost use Rattle.std.specs.Prelude.{List, ℕ};
     ghost use Rattle.fsm_base.specs.Symbols.{IsTable};
 
     ghost Value = { List (List ℕ) };
 
-    ghost view = { λ table. map string_bytes table.texts.keys };
+    ghost view = { λ table. table.texts };
 
-    ghost invariant = { λ table. IsTable (map string_bytes table.texts.keys) };
+    ghost invariant = { λ table. IsTable table.texts };
 }
 
 impl SymbolTable {
@@ -36,7 +34,7 @@ impl SymbolTable {
         ensures { result ≡ [] }
     {
         SymbolTable {
-            texts: IndexSet::new(alloc),
+            texts: TextTable::new(alloc),
         }
     }
 
@@ -63,11 +61,7 @@ impl SymbolTable {
         ensures table { OnOk result (self.new ≡ with_text text.now self.old) }
         ensures err { OnErr result (self.new ≡ self.old) }
     {
-        if let Some(place) = self.texts.get_index_of(text) {
-            return Ok(Sym(place as u32));
-        }
-        let owned = String::from_str(*self.texts.allocator(), text)?;
-        let (place, _) = self.texts.insert_full(owned)?;
+        let place = self.texts.add(text)?;
         Ok(Sym(place as u32))
     }
 
@@ -76,17 +70,14 @@ impl SymbolTable {
     pub fn number_of(&self, text: &str) -> Sym
         ensures { result.0 ≡ number_of text.now self.now }
     {
-        match self.texts.get_index_of(text) {
-            Some(place) => Sym(place as u32),
-            None => Sym(self.texts.len() as u32),
-        }
+        Sym(self.texts.number_of(text) as u32)
     }
 
     /// Forgets the symbols from the number `len` on.
     pub fn keep(&mut self, len: usize)
         ensures { self.new ≡ take len self.old }
     {
-        self.texts.truncate(len);
+        self.texts.keep(len);
     }
 
     /// The text of a symbol, or `None` where the table has no symbol of this number.
@@ -94,7 +85,6 @@ impl SymbolTable {
         ensures text { option_map (λ text. text.now) result ≡ slice_get self.now sym.0 }
         ensures formed { IsTable self.now }
     {
-        let text = self.texts.get_index(sym.0 as usize)?;
-        Some(text.as_str())
+        self.texts.text_at(sym.0 as usize)
     }
 }

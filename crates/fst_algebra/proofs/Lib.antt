@@ -1,2 +1,3 @@
-pub mod Relabelling
+pub mod SubstitutedWords
+pub mod Relabelled
 pub mod Sides

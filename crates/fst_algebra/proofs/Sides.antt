@@ -11,7 +11,7 @@ use Rattle.fsa.specs.Language.{Accepts}
 use Rattle.fst_relation.specs.Relation.{uppers, lowers, IsRelated}
 use Rattle.fst_relation.proofs.Languages.{uppers-append, lowers-append}
 use Rattle.fst_algebra.specs.Relations.{UsesUpper, UsesLower}
-use Rattle.fst_algebra.specs.Relabelled.{relabelled, IsRelabelled}
+use Rattle.fst_algebra.proofs.Relabelled.{relabelled, IsRelabelled}
 
 -- the replacements
 abbrev pub on_both : Sym → Option Pair

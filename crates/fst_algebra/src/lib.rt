@@ -5,9 +5,11 @@
 //! - [`identity`], [`cross`]: relations made of languages.
 //! - [`inverse`]: the sides exchanged.
 //! - [`upper`], [`lower`]: the language on a side.
+//! - [`substituted`]: the words of a language with each letter replaced, left out or forbidden ([`Substitution`]).
 #![tactic(auto)]
 
-mod relabel;
 mod relations;
+mod substitution;
 
 pub use relations::{cross, identity, inverse, lower, upper};
+pub use substitution::{Image, Substitution, substituted};

@@ -5,8 +5,10 @@ ghost use Rattle.fsa.specs.Automaton.{UsesLetter};
 ghost use Rattle.fsa.specs.Language.{Accepts};
 ghost use Rattle.fst_relation.specs.Relation.{IsRelated};
 ghost use Rattle.fst_algebra.specs.Relations.{UsesUpper, UsesLower};
+ghost use Rattle.fst_algebra.specs.Substituted.{letter_or_epsilon};
+ghost use Rattle.fst_algebra.specs.declared.substitution.Image.TheVariants.{Letter};
 
-use crate::relabel::{Relabelling, relabel};
+use crate::substitution::{Image, Substitution, letter_or_epsilon, substituted};
 use fsa::Fsa;
 use fsa_rational::concat;
 use fsm_base::{Pair, Sym};
@@ -18,7 +20,7 @@ pub fn identity(alloc: Global, a: &Fsa<Sym>) -> Result<Fsa<Pair>, AllocError>
     ensures lower { IfOk result (λ m. (x : Sym) → UsesLower m x → UsesLetter a.now x) }
     ensures relation { IfOk result (λ m. AreSame (IsRelated m) (IsIdentity (Accepts a.now))) }
 {
-    relabel(alloc, a, &OnBothSides)
+    substituted(alloc, a, &OnBothSides)
 }
 
 /// The transducer that relates each word of `a` to each word of `b`.
@@ -27,8 +29,8 @@ pub fn cross(alloc: Global, a: &Fsa<Sym>, b: &Fsa<Sym>) -> Result<Fsa<Pair>, All
     ensures lower { IfOk result (λ m. (x : Sym) → UsesLower m x → UsesLetter b.now x) }
     ensures relation { IfOk result (λ m. AreSame (IsRelated m) (IsCross (Accepts a.now) (Accepts b.now))) }
 {
-    let above = relabel(alloc, a, &OnUpperSide)?;
-    let below = relabel(alloc, b, &OnLowerSide)?;
+    let above = substituted(alloc, a, &OnUpperSide)?;
+    let below = substituted(alloc, b, &OnLowerSide)?;
     concat(alloc, &above, &below)
 }
 
@@ -38,7 +40,7 @@ pub fn inverse(alloc: Global, r: &Fsa<Pair>) -> Result<Fsa<Pair>, AllocError>
     ensures lower { IfOk result (λ m. (x : Sym) → UsesLower m x → UsesUpper r.now x) }
     ensures relation { IfOk result (λ m. AreSame (IsRelated m) (IsInverse (IsRelated r.now))) }
 {
-    relabel(alloc, r, &Exchanged)
+    substituted(alloc, r, &Exchanged)
 }
 
 /// The automaton of the words that `r` relates to some lower word.
@@ -46,7 +48,7 @@ pub fn upper(alloc: Global, r: &Fsa<Pair>) -> Result<Fsa<Sym>, AllocError>
     ensures letters { IfOk result (λ m. (x : Sym) → UsesLetter m x → UsesUpper r.now x) }
     ensures language { IfOk result (λ m. (w : List Sym) → Accepts m w ↔ IsUpper (IsRelated r.now) w) }
 {
-    relabel(alloc, r, &UpperSide)
+    substituted(alloc, r, &UpperSide)
 }
 
 /// The automaton of the words to which `r` relates some upper word.
@@ -54,17 +56,17 @@ pub fn lower(alloc: Global, r: &Fsa<Pair>) -> Result<Fsa<Sym>, AllocError>
     ensures letters { IfOk result (λ m. (x : Sym) → UsesLetter m x → UsesLower r.now x) }
     ensures language { IfOk result (λ m. (w : List Sym) → Accepts m w ↔ IsLower (IsRelated r.now) w) }
 {
-    relabel(alloc, r, &LowerSide)
+    substituted(alloc, r, &LowerSide)
 }
 
 /// A symbol, on both sides.
 struct OnBothSides;
 
-impl Relabelling<Sym, Pair> for OnBothSides {
-    ghost change = { λ _ x. Some (record { up = Some x; low = Some x }) };
+impl Substitution<Sym, Pair> for OnBothSides {
+    ghost image = { λ _ x. Letter (record { up = Some x; low = Some x }) };
 
-    fn letter_for(&self, symbol: Sym) -> Option<Pair> {
-        Some(Pair {
+    fn image_of(&self, symbol: Sym) -> Image<Pair> {
+        Image::Letter(Pair {
             up: Some(symbol),
             low: Some(symbol),
         })
@@ -74,11 +76,11 @@ impl Relabelling<Sym, Pair> for OnBothSides {
 /// A symbol, on the upper side alone.
 struct OnUpperSide;
 
-impl Relabelling<Sym, Pair> for OnUpperSide {
-    ghost change = { λ _ x. Some (record { up = Some x; low = None }) };
+impl Substitution<Sym, Pair> for OnUpperSide {
+    ghost image = { λ _ x. Letter (record { up = Some x; low = None }) };
 
-    fn letter_for(&self, symbol: Sym) -> Option<Pair> {
-        Some(Pair {
+    fn image_of(&self, symbol: Sym) -> Image<Pair> {
+        Image::Letter(Pair {
             up: Some(symbol),
             low: None,
         })
@@ -88,11 +90,11 @@ impl Relabelling<Sym, Pair> for OnUpperSide {
 /// A symbol, on the lower side alone.
 struct OnLowerSide;
 
-impl Relabelling<Sym, Pair> for OnLowerSide {
-    ghost change = { λ _ x. Some (record { up = None; low = Some x }) };
+impl Substitution<Sym, Pair> for OnLowerSide {
+    ghost image = { λ _ x. Letter (record { up = None; low = Some x }) };
 
-    fn letter_for(&self, symbol: Sym) -> Option<Pair> {
-        Some(Pair {
+    fn image_of(&self, symbol: Sym) -> Image<Pair> {
+        Image::Letter(Pair {
             up: None,
             low: Some(symbol),
         })
@@ -102,11 +104,11 @@ impl Relabelling<Sym, Pair> for OnLowerSide {
 /// A pair with its sides exchanged.
 struct Exchanged;
 
-impl Relabelling<Pair, Pair> for Exchanged {
-    ghost change = { λ _ pair. Some (record { up = pair.low; low = pair.up }) };
+impl Substitution<Pair, Pair> for Exchanged {
+    ghost image = { λ _ pair. Letter (record { up = pair.low; low = pair.up }) };
 
-    fn letter_for(&self, pair: Pair) -> Option<Pair> {
-        Some(Pair {
+    fn image_of(&self, pair: Pair) -> Image<Pair> {
+        Image::Letter(Pair {
             up: pair.low,
             low: pair.up,
         })
@@ -116,21 +118,21 @@ impl Relabelling<Pair, Pair> for Exchanged {
 /// The symbol on the upper side of a pair, where there is one.
 struct UpperSide;
 
-impl Relabelling<Pair, Sym> for UpperSide {
-    ghost change = { λ _ pair. pair.up };
+impl Substitution<Pair, Sym> for UpperSide {
+    ghost image = { λ _ pair. letter_or_epsilon pair.up };
 
-    fn letter_for(&self, pair: Pair) -> Option<Sym> {
-        pair.up
+    fn image_of(&self, pair: Pair) -> Image<Sym> {
+        letter_or_epsilon(pair.up)
     }
 }
 
 /// The symbol on the lower side of a pair, where there is one.
 struct LowerSide;
 
-impl Relabelling<Pair, Sym> for LowerSide {
-    ghost change = { λ _ pair. pair.low };
+impl Substitution<Pair, Sym> for LowerSide {
+    ghost image = { λ _ pair. letter_or_epsilon pair.low };
 
-    fn letter_for(&self, pair: Pair) -> Option<Sym> {
-        pair.low
+    fn image_of(&self, pair: Pair) -> Image<Sym> {
+        letter_or_epsilon(pair.low)
     }
 }

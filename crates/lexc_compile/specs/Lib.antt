@@ -1,3 +1,4 @@
+pub mod Marks
 pub mod Paths
 pub mod Blocks
 pub mod Words

@@ -1,17 +1,57 @@
 ghost use Rattle.std.specs.Prelude.{◌≡◌, ◌++◌, ◌∷◌, [], MatchOption, OnOk, Contains, ℕ};
+ghost use Rattle.std.specs.Cmp.Rules.{hashing};
+ghost use Rattle.std.specs.Hash as fed;
+ghost use Rattle.std.proofs.Common.{rules};
+ghost use Rattle.lexc_compile.specs.Marks.{mark_of, side_mark};
 
 use flag_diacritics::Tape;
+use fsm_base::Sym;
 use indexmap::IndexMap;
 use std::alloc::{AllocError, Global};
+use std::hash::{Hash, Hasher};
 use std::marker::Model;
 
 /// A step of a word: where its letter is read, or an edge with no letter taken.
-#[derive(Clone, Copy, Debug, PartialEq, Eq, Hash)]
+#[derive(Clone, Copy, Debug, PartialEq, Eq)]
 pub struct Step {
     /// The state that it leaves.
     pub from: usize,
     /// What it reads, or nothing.
     pub letter: Option<Tape>,
+}
+
+/// Hashed as two numbers, since lexicons take a step for most of their letters.
+impl Hash for Step {
+    ghost hash_input = { λ step. fed.usize step.from ++ fed.u64 (mark_of step.letter) };
+
+    ghost respects_eq = { Prim.search (hashing, rules) };
+
+    fn hash<H: Hasher>(&self, state: &mut H) {
+        self.from.hash(state);
+        mark_of(self.letter).hash(state);
+    }
+}
+
+/// The number by which a letter is hashed. Few others have the same.
+fn mark_of(letter: Option<Tape>) -> u64
+    ensures { result ≡ mark_of letter }
+{
+    match letter {
+        None => 0,
+        Some(Tape::Pair(pair)) => side_mark(pair.up) * 2147483648 + side_mark(pair.low),
+        Some(Tape::UpFlag(flag)) => u64::from(flag),
+        Some(Tape::LowFlag(flag)) => u64::from(flag),
+    }
+}
+
+/// The number of a side.
+fn side_mark(side: Option<Sym>) -> u64
+    ensures { result ≡ side_mark side }
+{
+    match side {
+        None => 0,
+        Some(sym) => u64::from(sym.0) + 1,
+    }
 }
 
 /// The states that steps lead to, found by a hash. Contracts see the list of the steps, each with its state.

@@ -13,7 +13,8 @@ use std::alloc::{AllocError, Global};
 pub fn encode(alloc: Global, characters: &[char]) -> Result<Text, AllocError>
     ensures { IfOk result (λ text. text ≡ encode_utf8_all characters.now) }
 {
-    let mut text = String::new(alloc);
+    // Each character has a byte at least.
+    let mut text = String::with_capacity(alloc, characters.len())?;
     'characters: for character in characters {
         text.push(*character)?;
     }

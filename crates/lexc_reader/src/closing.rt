@@ -5,11 +5,11 @@ ghost use Rattle.lexc_grammar.specs.Lexicons.{entry_of, lexicon_of};
 ghost use Rattle.lexc_reader.specs.Answers.{IsClosed, known_of};
 
 use crate::state::State;
-use crate::text_set::TextSet;
+use fsm_base::TextTable;
 use regex_ast::{Entry, Lexicon, Raw, ReadError, Why};
 
 /// Whether an entry goes on in a lexicon that has none of these names.
-fn is_unknown(names: &TextSet, entry: &Entry<Raw>) -> bool
+fn is_unknown(names: &TextTable, entry: &Entry<Raw>) -> bool
     ensures { result ≡ unknown_next names.now (entry_of entry.now).entry.next }
 {
     match &entry.next {
@@ -19,7 +19,7 @@ fn is_unknown(names: &TextSet, entry: &Entry<Raw>) -> bool
 }
 
 /// The line of the first entry of a lexicon that goes on in none with these names.
-fn first_unknown_entry(names: &TextSet, entries: &[Entry<Raw>]) -> Option<u32>
+fn first_unknown_entry(names: &TextTable, entries: &[Entry<Raw>]) -> Option<u32>
     ensures { result ≡ first_unknown names.now (map entry_of entries.now) }
 {
     'entries: for entry in entries {
@@ -31,7 +31,7 @@ fn first_unknown_entry(names: &TextSet, entries: &[Entry<Raw>]) -> Option<u32>
 }
 
 /// The same of all lexicons.
-fn first_unknown(names: &TextSet, lexicons: &[Lexicon<Raw>]) -> Option<u32>
+fn first_unknown(names: &TextTable, lexicons: &[Lexicon<Raw>]) -> Option<u32>
     ensures { result ≡ first_unknown names.now (flat_map (λ l. l.entries) (map lexicon_of lexicons.now)) }
 {
     'lexicons: for lexicon in lexicons {

@@ -9,7 +9,6 @@ mod laws;
 mod lexc;
 mod state;
 mod statements;
-mod text_set;
 
 pub use laws::lexicons_are_sound;
 pub use lexc::read_lexc;

@@ -7,8 +7,7 @@ ghost use Rattle.regex_ast.specs.declared.lexc.Piece.TheVariants as symbols;
 ghost use Rattle.regex_ast.specs.declared.expr.Raw.TheVariants as raws;
 ghost use Rattle.lexc_reader.specs.Answers.{IsAdded, known_of};
 
-use crate::text_set::TextSet;
-use fsm_base::Text;
+use fsm_base::{Text, TextTable};
 use lexc_forms::DeclaredSymbols;
 use regex_ast::{Entry, Form, Lexicon, Piece, Raw, Why};
 use std::alloc::{AllocError, Global};
@@ -29,11 +28,11 @@ pub struct State {
     /// The lexicon whose entries are read; at first that of the declared symbols.
     pub current: Lexicon<Raw>,
     /// The names of lexicons.
-    pub names: TextSet,
+    pub names: TextTable,
     /// How many entries the lexicons have.
     pub count: usize,
     /// The features that flags are about.
-    pub features: TextSet,
+    pub features: TextTable,
 }
 
 /// A side that is one symbol.
@@ -46,7 +45,7 @@ fn one_symbol(alloc: Global, text: Text) -> Result<Vec<Piece<Raw>>, AllocError>
 }
 
 /// Adds the features that the flags of a side are about.
-fn add_features(features: &mut TextSet, side: &[Piece<Raw>]) -> Result<(), AllocError>
+fn add_features(features: &mut TextTable, side: &[Piece<Raw>]) -> Result<(), AllocError>
     ensures { OnOk result (features.new ≡ with_texts features.old (flat_map feature_in (map piece_of side.now))) }
 {
     'pieces: for piece in side {
@@ -58,7 +57,7 @@ fn add_features(features: &mut TextSet, side: &[Piece<Raw>]) -> Result<(), Alloc
 }
 
 /// Adds the features that the flags of a form are about.
-fn add_features_of(features: &mut TextSet, form: &Form<Raw>) -> Result<(), AllocError>
+fn add_features_of(features: &mut TextTable, form: &Form<Raw>) -> Result<(), AllocError>
     ensures { OnOk result (features.new ≡ with_texts features.old (features_in (form_of form.now))) }
 {
     if let Form::Sides { upper, lower } = form {
@@ -81,9 +80,9 @@ impl State {
                 line: 0,
                 entries: Vec::new(alloc),
             },
-            names: TextSet::new(alloc),
+            names: TextTable::new(alloc),
             count: 0,
-            features: TextSet::new(alloc),
+            features: TextTable::new(alloc),
         }
     }
 

@@ -7,7 +7,7 @@ ghost use Rattle.project_meaning.specs.Leaves.{leaf_of};
 ghost use Rattle.name_resolution.specs.Names.{is_named, is_symbol_leaf};
 
 use crate::symbols::symbol_text;
-use indexmap::IndexSet;
+use fsm_base::TextTable;
 use regex_ast::Raw;
 use std::alloc::{AllocError, Global};
 use std::marker::Model;
@@ -15,20 +15,19 @@ use std::marker::Model;
 /// Different names, in the order in which they came. Contracts see them as the list of their texts.
 #[derive(Drop)]
 pub struct Names {
-    /// The texts, each once. The place of a name is its number.
-    texts: IndexSet<String>,
+    /// The texts. The place of a name is its number.
+    texts: TextTable,
 }
 
 impl Model for Names {
-    ghost use Rattle.std.specs.Prelude.{List, ℕ, map};
-    ghost use Rattle.std.specs.String.{string_bytes};
+    ghost use Rattle.std.specs.Prelude.{List, ℕ};
     ghost use Rattle.name_resolution.specs.Names.{IsNames};
 
     ghost Value = { List (List ℕ) };
 
-    ghost view = { λ names. map string_bytes names.texts.keys };
+    ghost view = { λ names. names.texts };
 
-    ghost invariant = { λ names. IsNames (map string_bytes names.texts.keys) };
+    ghost invariant = { λ names. IsNames names.texts };
 }
 
 impl Names {
@@ -37,7 +36,7 @@ impl Names {
         ensures { result ≡ [] }
     {
         Names {
-            texts: IndexSet::new(alloc),
+            texts: TextTable::new(alloc),
         }
     }
 
@@ -58,8 +57,7 @@ impl Names {
         if self.texts.contains(name) {
             return Ok(false);
         }
-        let owned = String::from_str(*self.texts.allocator(), name)?;
-        self.texts.insert_full(owned)?;
+        self.texts.add(name)?;
         Ok(true)
     }
 
@@ -74,10 +72,7 @@ impl Names {
     pub fn number_of(&self, name: &str) -> u32
         ensures { result ≡ number_of name.now self.now }
     {
-        match self.texts.get_index_of(name) {
-            Some(place) => place as u32,
-            None => self.texts.len() as u32,
-        }
+        self.texts.number_of(name) as u32
     }
 
     /// The place behind all names.

@@ -1,11 +1,11 @@
 ghost use Rattle.std.specs.Prelude.{◌≡◌, ◌↔◌, IfOk, List, Option, Some};
 ghost use Rattle.fsa.specs.Automaton.{UsesLetter};
 ghost use Rattle.fsa.specs.Language.{Accepts};
-ghost use Rattle.network_algebra.specs.Renamed.{IsRenamed, renamed_letter};
+ghost use Rattle.network_algebra.specs.Renamed.{IsRenamed, letter_or_nothing};
 
-use fsa::{Edge, Fsa};
-use fsa_rational::same_states;
+use fsa::Fsa;
 use fsm_base::Letter;
+use fst_algebra::{Image, Substitution, substituted};
 use std::alloc::{AllocError, Global};
 
 /// New names of letters. Some letters may have none.
@@ -27,31 +27,23 @@ pub fn renamed<L: Letter, M: Letter, R: Renaming<L, M>>(
     ensures letters { IfOk result (λ m. (y : M) → UsesLetter m y → (x : L) × UsesLetter a.now x × (R.name renaming.now x ≡ Some y)) }
     ensures language { IfOk result (λ m. (w : List M) → Accepts m w ↔ IsRenamed (R.name renaming.now) (Accepts a.now) w) }
 {
-    let mut m = same_states(alloc, a)?;
-    for edge in a.edges() {
-        if let Some(letter) = rename_letter(edge.letter, renaming) {
-            m.add_edge(Edge {
-                from: edge.from,
-                letter,
-                to: edge.to,
-            })?;
-        }
-    }
-    Ok(m)
+    substituted(alloc, a, &ByName { renaming })
 }
 
-/// What an edge carries in place of its letter, or None where that has no new name. An epsilon edge stays one.
-fn rename_letter<L: Letter, M: Letter, R: Renaming<L, M>>(
-    letter: Option<L>,
-    renaming: &R,
-) -> Option<Option<M>>
-    ensures { result ≡ renamed_letter (R.name renaming.now) letter }
-{
-    match letter {
-        None => Some(None),
-        Some(letter) => match renaming.name_of(letter) {
-            None => None,
-            Some(name) => Some(Some(name)),
-        },
+/// Each letter's new name in its place, or nothing where it has none.
+#[derive(Drop)]
+struct ByName<'a, R> {
+    /// The new names.
+    renaming: &'a R,
+}
+
+impl<L, M, R: Renaming<L, M>> Substitution<L, M> for ByName<'_, R> {
+    ghost image = { λ it x. letter_or_nothing (R.name it.renaming.now x) };
+
+    fn image_of(&self, letter: L) -> Image<M> {
+        match self.renaming.name_of(letter) {
+            Some(name) => Image::Letter(name),
+            None => Image::Nothing,
+        }
     }
 }

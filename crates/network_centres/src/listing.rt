@@ -21,20 +21,17 @@ fn add_centres<'a>(expr: &'a Expr<Atom>, found: &mut Vec<&'a Expr<Atom>>) -> Res
     ensures { OnOk result (terms_seen found.new.items ≡ terms_seen found.old.items ++ centres_in (term expr.now)) }
 {
     match expr {
-        Expr::Empty => Ok(()),
-        Expr::Any => Ok(()),
-        Expr::Edge => Ok(()),
-        Expr::Atom(_) => Ok(()),
-        Expr::Letters(_) => Ok(()),
-        Expr::Group(inner) => add_centres(inner, found),
-        Expr::Maybe(inner) => add_centres(inner, found),
-        Expr::NotOne(_, inner) => add_centres(inner, found),
+        Expr::Rules(rules) => add_groups(&rules.groups, found),
+        Expr::Empty | Expr::Any | Expr::Edge | Expr::Atom(_) | Expr::Letters(_) => Ok(()),
+        Expr::Group(inner)
+        | Expr::Maybe(inner)
+        | Expr::NotOne(_, inner)
+        | Expr::Suffixed(inner, _)
+        | Expr::Prefixed(_, inner) => add_centres(inner, found),
         Expr::Cross(upper, lower) => {
             add_centres(upper, found)?;
             add_centres(lower, found)
         }
-        Expr::Suffixed(inner, _) => add_centres(inner, found),
-        Expr::Prefixed(_, inner) => add_centres(inner, found),
         Expr::Ignore(operands) => add_each(operands, found),
         Expr::Concat(operands) => add_each(operands, found),
         Expr::Chain(first, links) => {
@@ -45,7 +42,6 @@ fn add_centres<'a>(expr: &'a Expr<Atom>, found: &mut Vec<&'a Expr<Atom>>) -> Res
             add_centres(centre, found)?;
             add_contexts(contexts, found)
         }
-        Expr::Rules(rules) => add_groups(&rules.groups, found),
         Expr::Steps(first, steps) => {
             add_centres(first, found)?;
             add_steps(steps, found)

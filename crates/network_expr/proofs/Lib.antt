@@ -1,4 +1,5 @@
 pub mod Weights
+pub mod Ready
 pub mod Rows
 pub mod Meant
 pub mod LeafWords

@@ -1,5 +1,5 @@
 -- What networks are that are made of networks of which it is known what they are.
-use Rattle.std.proofs.Common.{◌≡◌, ◌↔◌, ◌⊎◌, ◌<◌, ℕ, Bool, cond, arith, length, false, true, List, [], ◌∷◌, ◌++◌, Some, None, All, slice_get, refl, sym, ap, subst, ◌∙◌, inl, inr}
+use Rattle.std.proofs.Common.{◌≡◌, ◌↔◌, ◌⊎◌, ℕ, Bool, cond, false, true, List, [], ◌∷◌, ◌++◌, Some, None, All, slice_get, refl, sym, ap, subst, ◌∙◌, inl, inr}
 use Rattle.std.specs.List.{Contains}
 use Rattle.std.proofs.lemmas.List.Elements.{All-nil, All-cons, All-append}
 use Rattle.fsm_base.specs.declared.letters.Bound.{Bound}
@@ -352,17 +352,9 @@ given_two alphabet a b r first second whole = whole alphabet first second
 
 module _ (parts : List Part) (alphabet : List Sym) where
   -- words put in
-  pub ignore_row : (xs ys whole : List (Term Atom)) (before m : Automaton (Bound Sym)) → xs ++ ys ≡ whole → 0 < length xs → ((w : List (Bound Sym)) → Accepts before w ↔ In (stands parts) alphabet (ignore (terms_of xs)) w)
-      → ((w : List (Bound Sym)) → Accepts m w ↔ InIgnoring (stands parts) alphabet (Accepts before) (terms_of ys) w) → (w : List (Bound Sym)) → Accepts m w ↔ In (stands parts) alphabet (ignore (terms_of whole)) w
-  ignore_row [] ys whole before m is some first language = absurd (omega arith)
-  ignore_row (x ∷ xs) ys whole before m is some first language =
-      let P = In (stands parts) alphabet x in
-      let Front = InIgnoring (stands parts) alphabet P (terms_of xs) in
-      let Both = InIgnoring (stands parts) alphabet Front (terms_of ys) in
-      subst (λ (z : List (Term Atom)). SameWords (Accepts m) (In (stands parts) alphabet (ignore (terms_of z)))) is
-      (words_then (Accepts m) (InIgnoring (stands parts) alphabet (Accepts before) (terms_of ys)) (InIgnoring (stands parts) alphabet P (terms_of (xs ++ ys))) language
-      (words_then (InIgnoring (stands parts) alphabet (Accepts before) (terms_of ys)) Both (InIgnoring (stands parts) alphabet P (terms_of (xs ++ ys))) (put_in_same parts alphabet (terms_of ys) (Accepts before) Front first)
-      (words_back (InIgnoring (stands parts) alphabet P (terms_of (xs ++ ys))) Both (put_in_split parts alphabet xs ys P))))
+  pub ignore_row : (e : Term Atom) (es : Terms Atom) (before m : Automaton (Bound Sym)) → ((w : List (Bound Sym)) → Accepts before w ↔ In (stands parts) alphabet e w) → ((w : List (Bound Sym)) → Accepts m w ↔ InIgnoring (stands parts) alphabet (Accepts before) es w)
+      → (w : List (Bound Sym)) → Accepts m w ↔ In (stands parts) alphabet (ignore (then_term e es)) w
+  ignore_row e es before m first language = words_then (Accepts m) (InIgnoring (stands parts) alphabet (Accepts before) es) (InIgnoring (stands parts) alphabet (In (stands parts) alphabet e) es) language (put_in_same parts alphabet es (Accepts before) (In (stands parts) alphabet e) first)
 
   pub ignore_one : (e : Term Atom) (before words m : Automaton (Bound Sym)) → ((w : List (Bound Sym)) → Accepts words w ↔ In (stands parts) alphabet e w) → ((w : List (Bound Sym)) → Accepts m w ↔ IsIgnoring (Accepts before) (Accepts words) w) → (w : List (Bound Sym)) → Accepts m w ↔ InIgnoring (stands parts) alphabet (Accepts before) (then_term e no_term) w
   ignore_one e before words m second language =

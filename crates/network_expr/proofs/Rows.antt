@@ -1,6 +1,6 @@
 -- Rows of operands in two parts.
-use Rattle.std.proofs.Common.{◌≡◌, ◌↔◌, ◌⊎◌, ◌<◌, ◌≤◌, ℕ, List, [], ◌∷◌, ◌++◌, All, length, take, drop, get_or, arith, map, refl, sym, ap, ◌∙◌, inl, inr}
-use Rattle.std.proofs.lemmas.List.{map-append, take-append-drop}
+use Rattle.std.proofs.Common.{◌≡◌, ◌↔◌, ◌⊎◌, ◌<◌, ◌≤◌, ◌+◌, ℕ, List, [], ◌∷◌, ◌++◌, All, length, take, drop, get_or, arith, map, refl, sym, ap, ◌∙◌, inl, inr}
+use Rattle.std.proofs.lemmas.List.{map-append, take_more, take-append-drop}
 use Rattle.std.proofs.lemmas.List.Elements.{All-head, All-tail}
 use Rattle.fsm_base.specs.declared.letters.Bound.{Bound}
 use Rattle.fsm_base.specs.declared.letters.Sym.{Sym}
@@ -15,7 +15,7 @@ use Rattle.regex_ast.specs.declared.expr.Link.{Link, Or, And, Less}
 use Rattle.regex_ast.specs.declared.expr.Step.{Step, CrossWith, Then}
 use Rattle.regex_ast.specs.declared.expr.Context.{Context}
 use Rattle.regex_ast.specs.Terms.{Term, Terms, term, Links, Steps, no_term, then_term, no_link, or, and, less, no_step, cross_with, then, terms_of, links_of, contexts_of, steps_by}
-use Rattle.expr_kinds.specs.Kinds.{both, kind_of, kind_of_each, kind_of_chain, kind_of_steps, EachFits, EachFitsAsLanguage, ChainFits, StepsFit, ContextsFit}
+use Rattle.expr_kinds.specs.Kinds.{both, kind_of, kind_of_each, kind_of_chain, kind_of_steps, EachFits, ChainFits, StepsFit, ContextsFit}
 use Rattle.expr_kinds.specs.declared.form.Kind.{Kind}
 use Rattle.expr_kinds.specs.declared.form.Kind.TheVariants.{Language, Relation}
 use Rattle.expr_meaning.specs.Operators.{inner, IsItself}
@@ -23,7 +23,7 @@ use Rattle.network_expr.specs.Parts.{kinds, stands}
 use Rattle.network_expr.specs.declared.parts.Part.{Part}
 use Rattle.expr_meaning.specs.Meaning.{In, InEach, InIgnoring, InChain, InContext, InSteps, Relates, RelatesEach, RelatesChain, RelatesSteps}
 use Rattle.expr_meaning.proofs.Languages.{both_languages}
-use Rattle.network_expr.specs.Built.{AreBuiltOver, LinksAreBuiltOver, ContextsAreBuiltOver, StepsAreBuiltOver, IsChoice}
+use Rattle.network_expr.specs.Built.{AreBuiltOver, LinksAreBuiltOver, ContextsAreBuiltOver, IsChoice}
 use Rattle.network_affixes.proofs.Alike.{SameWords, ignoring_same, composition_same}
 
 pub both_three : (a b c : Kind) → both (both a b) c ≡ both a (both b c)
@@ -192,11 +192,6 @@ module _ (parts : List Part) (alphabet : List Sym) where
   steps_pairs_split (CrossWith e ∷ xs) ys P R = steps_pairs_split xs ys (λ v. P v × In (stands parts) alphabet (term e) v) (λ u w. P (inner u) × In (stands parts) alphabet (term e) (inner w))
   steps_pairs_split (Then e ∷ xs) ys P R = steps_pairs_split xs ys (λ v. P v × In (stands parts) alphabet (term e) v) (IsComposition R (Relates (stands parts) alphabet (term e)))
 
-  pub steps_built : (xs ys : List (Step Atom)) → StepsAreBuiltOver parts alphabet (steps_by (xs ++ ys)) → StepsAreBuiltOver parts alphabet (steps_by xs) × StepsAreBuiltOver parts alphabet (steps_by ys)
-  steps_built [] ys h = (tt, h)
-  steps_built (CrossWith e ∷ xs) ys (here, h) = let r = steps_built xs ys h in ((here, r.0), r.1)
-  steps_built (Then e ∷ xs) ys (here, h) = let r = steps_built xs ys h in ((here, r.0), r.1)
-
   -- contexts
   pub context_split : (xs ys : List (Context Atom)) (x z : List (Bound Sym)) → InContext (stands parts) alphabet (contexts_of (xs ++ ys)) x z ↔ (InContext (stands parts) alphabet (contexts_of xs) x z ⊎ InContext (stands parts) alphabet (contexts_of ys) x z)
   context_split [] ys x z = (λ h. inr h, λ or. elim or as (λ _. InContext (stands parts) alphabet (contexts_of ys) x z) [ inl none ↦ absurd none | inr h ↦ h ])
@@ -220,10 +215,6 @@ module _ (parts : List Part) where
   pub each_fits : (xs ys : List (Term Atom)) → EachFits (kinds parts) (terms_of (xs ++ ys)) → EachFits (kinds parts) (terms_of xs) × EachFits (kinds parts) (terms_of ys)
   each_fits [] ys h = (tt, h)
   each_fits (x ∷ xs) ys (here, h) = let r = each_fits xs ys h in ((here, r.0), r.1)
-
-  pub each_language : (xs ys : List (Term Atom)) → EachFitsAsLanguage (kinds parts) (terms_of (xs ++ ys)) → EachFitsAsLanguage (kinds parts) (terms_of xs) × EachFitsAsLanguage (kinds parts) (terms_of ys)
-  each_language [] ys h = (tt, h)
-  each_language (x ∷ xs) ys (is, here, h) = let r = each_language xs ys h in ((is, here, r.0), r.1)
 
   pub chain_kind : (xs ys : List (Link Atom)) (kind : Kind) → kind_of_chain (kinds parts) kind (links_of (xs ++ ys)) ≡ kind_of_chain (kinds parts) (kind_of_chain (kinds parts) kind (links_of xs)) (links_of ys)
   chain_kind [] ys kind = refl
@@ -256,11 +247,6 @@ module _ (parts : List Part) where
   steps_kind (CrossWith e ∷ xs) ys kind = steps_kind xs ys Relation
   steps_kind (Then e ∷ xs) ys kind = steps_kind xs ys (both kind (kind_of (kinds parts) (term e)))
 
-  pub steps_fit : (xs ys : List (Step Atom)) (kind : Kind) → StepsFit (kinds parts) kind (steps_by (xs ++ ys)) → StepsFit (kinds parts) kind (steps_by xs) × StepsFit (kinds parts) (kind_of_steps (kinds parts) kind (steps_by xs)) (steps_by ys)
-  steps_fit [] ys kind h = (tt, h)
-  steps_fit (CrossWith e ∷ xs) ys kind (is, language, here, h) = let r = steps_fit xs ys Relation h in ((is, language, here, r.0), r.1)
-  steps_fit (Then e ∷ xs) ys kind (here, h) = let r = steps_fit xs ys (both kind (kind_of (kinds parts) (term e))) h in ((here, r.0), r.1)
-
   pub contexts_fit : (xs ys : List (Context Atom)) → ContextsFit (kinds parts) (contexts_of (xs ++ ys)) → ContextsFit (kinds parts) (contexts_of xs) × ContextsFit (kinds parts) (contexts_of ys)
   contexts_fit [] ys h = (tt, h)
   contexts_fit (c ∷ xs) ys (a, b, d, e, h) = let rest = contexts_fit xs ys h in ((a, b, d, e, rest.0), rest.1)
@@ -275,12 +261,11 @@ one_item [] first some few is = absurd (omega arith)
 one_item (x ∷ []) first some few is = ap (λ z. z ∷ []) (sym is)
 one_item (x ∷ y ∷ xs) first some few is = absurd (omega arith)
 
-pub some_terms : (xs : List (Expr Atom)) → 0 < length xs → 0 < length (map term xs)
-some_terms [] some = absurd (omega arith)
-some_terms (x ∷ xs) some = omega arith
-
 pub halves_joined : {X : Type 0} (front back whole : List X) (n : ℕ) → front ≡ take n whole → back ≡ drop n whole → front ++ back ≡ whole
 halves_joined front back whole n first second = ap (λ z. z ++ back) first ∙ ap (λ z. take n whole ++ z) second ∙ take-append-drop n whole
+
+pub one_more : {X : Type 0} (xs : List X) (i : ℕ) (x : X) → i < length xs → x ≡ get_or xs i x → take i xs ++ x ∷ [] ≡ take (i + 1) xs
+one_more xs i x within is = ap (λ z. take i xs ++ z ∷ []) is ∙ sym (take_more xs i x within)
 
 pub terms_joined : (front back whole : List (Expr Atom)) → front ++ back ≡ whole → map term front ++ map term back ≡ map term whole
 terms_joined front back whole is = sym (map-append term front back) ∙ ap (λ z. map term z) is

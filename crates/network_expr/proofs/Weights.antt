@@ -68,11 +68,6 @@ contexts_append : (xs ys : List (Context Atom)) → weight_contexts (contexts_of
 contexts_append [] ys = omega arith
 contexts_append (c ∷ xs) ys = omega (arith, contexts_append xs ys)
 
-steps_append : (xs ys : List (Step Atom)) → weight_steps (steps_by (xs ++ ys)) ≡ weight_steps (steps_by xs) + weight_steps (steps_by ys)
-steps_append [] ys = omega arith
-steps_append (CrossWith e ∷ xs) ys = omega (arith, steps_append xs ys)
-steps_append (Then e ∷ xs) ys = omega (arith, steps_append xs ys)
-
 -- a row that isn't empty weighs something
 each_some : (xs : List (Term Atom)) → 0 < length xs → 0 < weight_each (terms_of xs)
 each_some [] some = absurd (omega arith)
@@ -87,11 +82,6 @@ links_some (Less e ∷ xs) some = omega arith
 contexts_some : (xs : List (Context Atom)) → 0 < length xs → 0 < weight_contexts (contexts_of xs)
 contexts_some [] some = absurd (omega arith)
 contexts_some (c ∷ xs) some = omega arith
-
-steps_some : (xs : List (Step Atom)) → 0 < length xs → 0 < weight_steps (steps_by xs)
-steps_some [] some = absurd (omega arith)
-steps_some (CrossWith e ∷ xs) some = omega arith
-steps_some (Then e ∷ xs) some = omega arith
 
 -- each half of a row weighs less, where neither is empty
 abbrev pub EachLighter : {X : Type 0} → (List X → ℕ) → List X → List X → List X → Type 0
@@ -116,9 +106,6 @@ links_halves front back whole is first second = halves (λ (xs : List (Link Atom
 
 pub contexts_halves : (front back whole : List (Context Atom)) → front ++ back ≡ whole → 0 < length front → 0 < length back → EachLighter (λ (xs : List (Context Atom)). weight_contexts (contexts_of xs)) whole front back
 contexts_halves front back whole is first second = halves (λ (xs : List (Context Atom)). weight_contexts (contexts_of xs)) front back whole is (contexts_append front back) (contexts_some front first) (contexts_some back second)
-
-pub steps_halves : (front back whole : List (Step Atom)) → front ++ back ≡ whole → 0 < length front → 0 < length back → EachLighter (λ (xs : List (Step Atom)). weight_steps (steps_by xs)) whole front back
-steps_halves front back whole is first second = halves (λ (xs : List (Step Atom)). weight_steps (steps_by xs)) front back whole is (steps_append front back) (steps_some front first) (steps_some back second)
 
 -- an operand with the operator before it
 abbrev pub link_weight : Link Atom → ℕ

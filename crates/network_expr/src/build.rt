@@ -172,7 +172,7 @@ fn crossed(
     }
 }
 
-/// The automaton of a row of `/`, from left to right. It is taken by halves, so that a long row is no deep recursion.
+/// The automaton of a row of `/`, from left to right.
 #[cycle(build)]
 fn ignored(
     alloc: Global,
@@ -186,13 +186,11 @@ fn ignored(
     ensures letters { IfOk result (UsesOnly (all_letters alphabet.now)) }
     ensures words { IfOk result (λ m. (w : List (Bound Sym)) → Accepts m w ↔ In (stands parts.now) alphabet.now (ignore (terms_of (map term operands.now))) w) }
 {
-    match operands {
-        [] => word(alloc, &[]),
-        [operand] => words_of(alloc, alphabet, parts, operand),
-        _ => {
-            let (front, back) = operands.split_at(operands.len() / 2);
-            let first = ignored(alloc, alphabet, parts, front)?;
-            in_ignoring(alloc, alphabet, parts, first, back)
+    match operands.split_first() {
+        None => word(alloc, &[]),
+        Some((first, others)) => {
+            let words = words_of(alloc, alphabet, parts, first)?;
+            in_ignoring(alloc, alphabet, parts, words, others)
         }
     }
 }
@@ -213,18 +211,12 @@ fn in_ignoring(
     ensures letters { IfOk result (UsesOnly (all_letters alphabet.now)) }
     ensures words { IfOk result (λ m. (w : List (Bound Sym)) → Accepts m w ↔ InIgnoring (stands parts.now) alphabet.now (Accepts before) (terms_of (map term operands.now)) w) }
 {
-    match operands {
-        [] => Ok(before),
-        [operand] => {
-            let words = words_of(alloc, alphabet, parts, operand)?;
-            ignore(alloc, alphabet, &before, &words)
-        }
-        _ => {
-            let (front, back) = operands.split_at(operands.len() / 2);
-            let first = in_ignoring(alloc, alphabet, parts, before, front)?;
-            in_ignoring(alloc, alphabet, parts, first, back)
-        }
+    let mut around = before;
+    'operands: for operand in operands {
+        let words = words_of(alloc, alphabet, parts, operand)?;
+        around = ignore(alloc, alphabet, &around, &words)?;
     }
+    Ok(around)
 }
 
 /// The network of expressions side by side, not reduced. They are joined by halves, so that each is copied a few times
@@ -445,15 +437,11 @@ fn in_steps(
     ensures letters { IfOk result (IsNetwork alphabet.now) }
     ensures meaning { IfOk result (IsFor (kind_of_steps (kinds parts.now) (kind_of_network before) (steps_by steps.now)) (InSteps (stands parts.now) alphabet.now (WordsOf before) (steps_by steps.now)) (RelatesSteps (stands parts.now) alphabet.now (WordsOf before) (PairsOf before) (steps_by steps.now))) }
 {
-    match steps {
-        [] => Ok(before),
-        [step] => in_step(alloc, alphabet, parts, before, step),
-        _ => {
-            let (front, back) = steps.split_at(steps.len() / 2);
-            let first = in_steps(alloc, alphabet, parts, before, front)?;
-            in_steps(alloc, alphabet, parts, first, back)
-        }
+    let mut network = before;
+    'steps: for step in steps {
+        network = in_step(alloc, alphabet, parts, network, step)?;
     }
+    Ok(network)
 }
 
 /// The network of what stands before and one more operand of `.x.` or `.o.`.

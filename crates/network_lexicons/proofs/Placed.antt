@@ -1,20 +1,17 @@
 -- The places of names.
-use Rattle.std.proofs.Common.{◌≡◌, ℕ, ◌+◌, Bool, true, false, cond, List, [], ◌∷◌, ◌++◌, Some, String, length, map, take, get_or, refl, sym, ap, arith, true≢false, ◌∙◌}
-use Rattle.std.specs.List.{Contains, slice_get, list_any, position}
+use Rattle.std.proofs.Common.{◌≡◌, ℕ, ◌+◌, Bool, true, false, cond, List, [], ◌∷◌, ◌++◌, Some, length, map, take, refl, sym, ap, arith, true≢false, ◌∙◌}
+use Rattle.std.specs.List.{Contains, slice_get, list_any}
 use Rattle.std.specs.Option.{option_map}
 use Rattle.std.specs.Str.{bytes_eq}
-use Rattle.std.specs.String.{string_bytes, string_eq}
 use Rattle.std.proofs.lemmas.List.{length-take, length-map}
-use Rattle.std.proofs.lemmas.List.Quantifiers.{position-Some}
-use Rattle.std.proofs.lemmas.Map.Keys.{any_passes_from_place}
 use Rattle.std.proofs.lemmas.Map.Views.{Contains-from_any}
-use Rattle.std.proofs.lemmas.Option.{slice_get-map, slice_get-get_or, slice_get_within}
+use Rattle.std.proofs.lemmas.Option.{slice_get-map, slice_get_within}
 use Rattle.std.proofs.lemmas.Slice.Eq.{bytes_eq-Decides}
-use Rattle.indexmap.specs.IndexSet.{insert_key}
 use Rattle.word_relations.specs.Words.{IsDistinct}
 use Rattle.word_relations.proofs.Places.{slice_get_from_Contains, take_more-slice_get}
 use Rattle.fsm_base.specs.Symbols.{with_text}
-use Rattle.fsm_base.proofs.TableLemmas.{list_any-strings, slice_get_front, with_text-strings}
+use Rattle.fsm_base.proofs.TableLemmas.{slice_get_front}
+use Rattle.fsm_base.proofs.TextLemmas.{held}
 use Rattle.regex_ast.specs.declared.expr.Atom.{Atom}
 use Rattle.regex_ast.specs.declared.lexc.Lexicon.{Lexicon as LexiconOf}
 use Rattle.project_meaning.specs.Trees.{Lexicon}
@@ -43,26 +40,14 @@ not_before texts distinct i text at = by (list_any (bytes_eq text) (take i texts
         absurd (omega (arith, length-take i texts))
 
 module _ (texts : List (List ℕ)) (distinct : IsDistinct texts) where
-  pub names_more : {Y : Type 0} (i : ℕ) (text : List ℕ) (keys new : List (String Y)) (owned : String Y) → slice_get texts i ≡ Some text → string_bytes owned ≡ text → new ≡ insert_key string_eq keys owned → map string_bytes keys ≡ take i texts → map string_bytes new ≡ take (i + 1) texts
-  names_more i text keys new owned at is inserted before =
-      ap (λ ks. map string_bytes ks) inserted ∙ with_text-strings text keys owned is ∙ ap (with_text text) before
+  pub names_more : (i : ℕ) (text : List ℕ) (before new : List (List ℕ)) → slice_get texts i ≡ Some text → new ≡ with_text text before → before ≡ take i texts → new ≡ take (i + 1) texts
+  names_more i text before new at added front =
+      added ∙ ap (with_text text) front
       ∙ ap (λ (b : Bool). cond b (take i texts) (take i texts ++ text ∷ [])) (not_before texts distinct i text at)
       ∙ sym (take_more-slice_get texts i text at)
 
-module _ {Y : Type 0} (text : List ℕ) (keys : List (String Y)) where
-  -- the place that a search gives
-  pub place_found : (i : ℕ) → position (λ k. bytes_eq text (string_bytes k)) keys ≡ Some i → slice_get (map string_bytes keys) i ≡ Some text
-  place_found i e = by keys e
-    where
-      by : (ks : List (String Y)) → position (λ k. bytes_eq text (string_bytes k)) ks ≡ Some i → slice_get (map string_bytes ks) i ≡ Some text
-      by [] found = cc
-      by (k ∷ ks) found =
-          let r = position-Some (λ q. bytes_eq text (string_bytes q)) (k ∷ ks) i k found in
-          slice_get-map string_bytes (k ∷ ks) i ∙ ap (option_map string_bytes) (slice_get-get_or (k ∷ ks) i k r.0)
-          ∙ ap Some (sym ((bytes_eq-Decides text (string_bytes (get_or (k ∷ ks) i k))).0 r.1))
-
-  pub place_missing : false ≡ list_any (λ k. bytes_eq text (string_bytes k)) keys → Contains (map string_bytes keys) text → ⊥
-  place_missing none held =
-      let place = slice_get_from_Contains (map string_bytes keys) text held in
-      let found : list_any (bytes_eq text) (map string_bytes keys) ≡ true = any_passes_from_place (bytes_eq text) (map string_bytes keys) place.0 text place.1 ((bytes_eq-Decides text text).1 refl) in
-      true≢false (sym found ∙ sym (list_any-strings text keys) ∙ sym none)
+-- a text that isn't found isn't there
+pub place_missing : (text : List ℕ) (texts : List (List ℕ)) → list_any (bytes_eq text) texts ≡ false → Contains texts text → ⊥
+place_missing text texts none among =
+    let place = slice_get_from_Contains texts text among in
+    true≢false (sym (held text texts place.0 place.1) ∙ none)

@@ -3,8 +3,7 @@ ghost use Rattle.word_relations.specs.Words.{IsDistinct};
 ghost use Rattle.network_lexicons.specs.Entries.{IsPlaceOf};
 ghost use Rattle.network_lexicons.specs.Plain.{lexicon_of, names_of};
 
-use fsm_base::Text;
-use indexmap::IndexSet;
+use fsm_base::{Text, TextTable};
 use regex_ast::{Atom, Lexicon};
 use std::alloc::{AllocError, Global};
 use std::marker::Model;
@@ -13,18 +12,17 @@ use std::marker::Model;
 #[derive(Drop)]
 pub struct Names {
     /// The names. The place of a name is that of its lexicon.
-    texts: IndexSet<String>,
+    texts: TextTable,
 }
 
 impl Model for Names {
-    ghost use Rattle.std.specs.Prelude.{List, ℕ, ◌<◌, ◌^◌, length, map};
-    ghost use Rattle.std.specs.String.{string_bytes};
+    ghost use Rattle.std.specs.Prelude.{List, ℕ, ◌<◌, ◌^◌, length};
 
     ghost Value = { List (List ℕ) };
 
-    ghost view = { λ names. map string_bytes names.texts.keys };
+    ghost view = { λ names. names.texts };
 
-    ghost invariant = { λ names. length (map string_bytes names.texts.keys) < 2 ^ 32 };
+    ghost invariant = { λ names. length names.texts < 2 ^ 32 };
 }
 
 impl Names {
@@ -36,9 +34,9 @@ impl Names {
         let Ok(_count) = u32::try_from(lexicons.len()) else {
             return Err(AllocError);
         };
-        let mut texts = IndexSet::new(alloc);
+        let mut texts = TextTable::new(alloc);
         'lexicons: for lexicon in lexicons {
-            texts.insert_full(String::from_str(alloc, lexicon.name.as_str())?)?;
+            texts.add(lexicon.name.as_str())?;
         }
         Ok(Names { texts })
     }
@@ -47,7 +45,7 @@ impl Names {
     pub fn place_of(&self, name: &str) -> Option<u32>
         ensures { MatchOption result (¬ Contains self.now name.now) (λ place. slice_get self.now place ≡ Some name.now) }
     {
-        match self.texts.get_index_of(name) {
+        match self.texts.place_of(name) {
             Some(place) => Some(place as u32),
             None => None,
         }

@@ -1,6 +1,6 @@
 -- Rows of operands in two parts, and what their automata accept.
-use Rattle.std.proofs.Common.{◌≡◌, ◌↔◌, ◌⊎◌, ◌<◌, ◌≤◌, ℕ, true, false, None, Some, List, [], ◌∷◌, ◌++◌, All, length, take, drop, get_or, arith, refl, sym, ap, subst, ◌∙◌, inl, inr}
-use Rattle.std.proofs.lemmas.List.{take-append-drop}
+use Rattle.std.proofs.Common.{◌≡◌, ◌↔◌, ◌⊎◌, ◌<◌, ◌≤◌, ◌+◌, ℕ, zero, suc, true, false, None, Some, List, [], ◌∷◌, ◌++◌, All, length, take, drop, get_or, arith, refl, sym, ap, subst, ◌∙◌, inl, inr}
+use Rattle.std.proofs.lemmas.List.{take_more, take-append-drop}
 use Rattle.std.proofs.lemmas.List.Elements.{All-head, All-tail}
 use Rattle.std.specs.List.{Contains, slice_get}
 use Rattle.fsm_base.specs.declared.letters.Bound.{Bound}
@@ -19,7 +19,7 @@ use Rattle.regex_ast.specs.declared.twolc.PairPart.{PairPart}
 use Rattle.expr_meaning.specs.Meaning.{In, InEach, InIgnoring, InChain}
 use Rattle.network_affixes.proofs.Alike.{SameWords, words_back, words_then, ignoring_same}
 use Rattle.project_meaning.specs.Trees.{Part}
-use Rattle.grammar_pairs.specs.Plain.{ArePairForms, LinksArePairForms, links_in, term_of, terms_in}
+use Rattle.grammar_pairs.specs.Plain.{ArePairForms, IsPairForm, LinksArePairForms, links_in, term_of, terms_in}
 use Rattle.pair_languages.specs.Rows.{IsChoice}
 
 -- the automaton accepts the words of the set
@@ -120,11 +120,10 @@ module _ (leaf : Part Atom → List Sym → List Sym → Type 0) (alphabet : Lis
       (words_back (InIgnoring leaf alphabet P (terms_in (xs ++ ys))) (InIgnoring leaf alphabet (InIgnoring leaf alphabet P (terms_in xs)) (terms_in ys)) (put_in_split xs ys P))))
 
   -- a row of `/` begins with its first operand
-  pub ignore_row : (xs ys whole : List (Expr (PairPart Atom))) (first m : Automaton (Bound Sym)) → xs ++ ys ≡ whole → 0 < length xs → HasWords first (In leaf alphabet (ignore (terms_in xs)))
-      → HasWords m (InIgnoring leaf alphabet (Accepts first) (terms_in ys)) → HasWords m (In leaf alphabet (ignore (terms_in whole)))
-  ignore_row [] ys whole first m is some f h = absurd (omega arith)
-  ignore_row (x ∷ xs) ys whole first m is some f h =
-      subst (λ (z : List (Expr (PairPart Atom))). HasWords m (In leaf alphabet (ignore (terms_in z)))) is (ignore_two xs ys (xs ++ ys) (In leaf alphabet (term_of x)) first m refl f h)
+  pub ignore_row : (x : Expr (PairPart Atom)) (xs whole : List (Expr (PairPart Atom))) (first m : Automaton (Bound Sym)) → whole ≡ x ∷ xs → HasWords first (In leaf alphabet (term_of x)) → HasWords m (InIgnoring leaf alphabet (Accepts first) (terms_in xs)) → HasWords m (In leaf alphabet (ignore (terms_in whole)))
+  ignore_row x xs whole first m is f h =
+      subst (λ (z : List (Expr (PairPart Atom))). HasWords m (In leaf alphabet (ignore (terms_in z)))) (sym is)
+      (words_then (Accepts m) (InIgnoring leaf alphabet (Accepts first) (terms_in xs)) (InIgnoring leaf alphabet (In leaf alphabet (term_of x)) (terms_in xs)) h (put_in_same (terms_in xs) (Accepts first) (In leaf alphabet (term_of x)) f))
 
   pub chain_two : (xs ys whole : List (Link (PairPart Atom))) (P : List (Bound Sym) → Type 0) (first m : Automaton (Bound Sym)) → xs ++ ys ≡ whole → HasWords first (InChain leaf alphabet P (links_in xs))
       → HasWords m (InChain leaf alphabet (Accepts first) (links_in ys)) → HasWords m (InChain leaf alphabet P (links_in whole))
@@ -173,6 +172,12 @@ links_forms (Or e ∷ xs) ys (here, h) = let r = links_forms xs ys h in ((here, 
 links_forms (And e ∷ xs) ys (here, h) = let r = links_forms xs ys h in ((here, r.0), r.1)
 links_forms (Less e ∷ xs) ys (here, h) = let r = links_forms xs ys h in ((here, r.0), r.1)
 
+-- and of an operand in a row
+pub operand_form : (xs : List (Expr (PairPart Atom))) (i : ℕ) (d : Expr (PairPart Atom)) → i < length xs → ArePairForms (terms_in xs) → IsPairForm (term_of (get_or xs i d))
+operand_form [] i d within h = absurd (omega arith)
+operand_form (x ∷ xs) zero d within (here, h) = here
+operand_form (x ∷ xs) (suc i) d within (here, h) = operand_form xs i d (omega arith) h
+
 -- rows of no operand, of one, and in two parts
 pub no_item : {X : Type 0} (xs : List X) → length xs < 1 → xs ≡ []
 no_item [] few = refl
@@ -185,6 +190,9 @@ one_item (x ∷ y ∷ xs) first some few is = absurd (omega arith)
 
 pub halves_joined : {X : Type 0} (front back whole : List X) (n : ℕ) → front ≡ take n whole → back ≡ drop n whole → front ++ back ≡ whole
 halves_joined front back whole n first second = ap (λ z. z ++ back) first ∙ ap (λ z. take n whole ++ z) second ∙ take-append-drop n whole
+
+pub one_more : {X : Type 0} (xs : List X) (i : ℕ) (x : X) → i < length xs → x ≡ get_or xs i x → take i xs ++ x ∷ [] ≡ take (i + 1) xs
+one_more xs i x within is = ap (λ z. take i xs ++ z ∷ []) is ∙ sym (take_more xs i x within)
 
 -- an automaton that uses no letter, and one that uses those of two
 pub empty_only : {L : Type 0} (letters : List L) (m : Automaton L) → ((x : L) → UsesLetter m x → Contains [] x) → (x : L) → UsesLetter m x → Contains letters x

@@ -1,5 +1,5 @@
 -- How much a term weighs: more than its operands together. The recursion over expressions ends by it.
-use Rattle.std.proofs.Common.{◌≡◌, ℕ, ◌+◌, ◌<◌, List, [], ◌∷◌, ◌++◌, length, map, ap, sym, ◌∙◌, arith}
+use Rattle.std.proofs.Common.{◌≡◌, ℕ, zero, suc, ◌+◌, ◌<◌, ◌≤◌, List, [], ◌∷◌, ◌++◌, length, get_or, map, ap, sym, ◌∙◌, arith}
 use Rattle.std.proofs.lemmas.List.{map-append}
 use Rattle.regex_ast.specs.Terms.{Term, term, group, maybe, not_one, suffixed, prefixed, ignore, concat, chain, Terms, no_term, then_term, Links, no_link, or, and, less, terms_of, links_of}
 use Rattle.regex_ast.specs.declared.expr.Expr.{Expr}
@@ -65,6 +65,12 @@ each_halves {A} front back whole is first second =
 
 pub links_halves : {A : Type 0} (front back whole : List (Link A)) → front ++ back ≡ whole → 0 < length front → 0 < length back → EachLighter (λ (xs : List (Link A)). weight_links (links_of xs)) whole front back
 links_halves {A} front back whole is first second = halves (λ (xs : List (Link A)). weight_links (links_of xs)) front back whole is (links_append front back) (links_some front first) (links_some back second)
+
+-- an operand of a row weighs less than the row
+pub operand_lighter : {A : Type 0} (xs : List (Expr A)) (most i : ℕ) (d : Expr A) → i < length xs → weight_each (terms_of (map term xs)) ≤ most → weight (term (get_or xs i d)) < most
+operand_lighter [] most i d within light = absurd (omega arith)
+operand_lighter (x ∷ xs) most zero d within light = omega (arith, light)
+operand_lighter (x ∷ xs) most (suc i) d within light = operand_lighter xs most i d (omega arith) (omega (arith, light))
 
 -- an operand with the operator before it
 abbrev pub link_weight : {A : Type 0} → Link A → ℕ

@@ -86,7 +86,7 @@ fn with_suffixes(
     Ok(apply_suffixes(alloc, Network::Words(words), suffixes)?.into_words())
 }
 
-/// The automaton of a row of `/`, from left to right. It is taken by halves, so that a long row is no deep recursion.
+/// The automaton of a row of `/`, from left to right.
 #[cycle(build)]
 fn ignored(
     alloc: Global,
@@ -98,13 +98,11 @@ fn ignored(
     ensures letters { IfOk result (UsesOnly (all_letters scope.now.numbers.items)) }
     ensures words { IfOk result (HasWordsOf scope.now (ignore (terms_in operands.now))) }
 {
-    match operands {
-        [] => word(alloc, &[]),
-        [operand] => words_of(alloc, scope, operand),
-        _ => {
-            let (front, back) = operands.split_at(operands.len() / 2);
-            let first = ignored(alloc, scope, front)?;
-            in_ignoring(alloc, scope, first, back)
+    match operands.split_first() {
+        None => word(alloc, &[]),
+        Some((first, others)) => {
+            let words = words_of(alloc, scope, first)?;
+            in_ignoring(alloc, scope, words, others)
         }
     }
 }
@@ -123,18 +121,12 @@ fn in_ignoring(
     ensures letters { IfOk result (UsesOnly (all_letters scope.now.numbers.items)) }
     ensures words { IfOk result (λ m. (w : List (Bound Sym)) → Accepts m w ↔ InIgnoring (stands scope.now) scope.now.numbers.items (Accepts before) (terms_in operands.now) w) }
 {
-    match operands {
-        [] => Ok(before),
-        [operand] => {
-            let words = words_of(alloc, scope, operand)?;
-            ignore(alloc, &scope.numbers, &before, &words)
-        }
-        _ => {
-            let (front, back) = operands.split_at(operands.len() / 2);
-            let first = in_ignoring(alloc, scope, before, front)?;
-            in_ignoring(alloc, scope, first, back)
-        }
+    let mut around = before;
+    'operands: for operand in operands {
+        let words = words_of(alloc, scope, operand)?;
+        around = ignore(alloc, &scope.numbers, &around, &words)?;
     }
+    Ok(around)
 }
 
 /// The automaton of expressions side by side, not reduced. They are joined by halves, so that each is copied a few times only.

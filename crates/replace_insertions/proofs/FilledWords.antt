@@ -17,27 +17,9 @@ use Rattle.lang_algebra.proofs.Made.{IsLang-same}
 use Rattle.replace_words.specs.declared.marks.Mark.{Mark}
 use Rattle.replace_words.specs.declared.marks.Mark.TheVariants.{Open, Close}
 use Rattle.replace_words.specs.Filled.{LeavesNoGap, NoTwo}
-use Rattle.replace_words.specs.Marked.{KeepsLeft, KeepsRight}
-use Rattle.replace_langs.proofs.Sets.{over_front, over_back}
+use Rattle.replace_langs.proofs.Sets.{accepted_by, accepted_letters, over_front, over_back}
 use Rattle.replace_rules.specs.declared.rules.LangContext.{LangContext}
 use Rattle.replace_insertions.specs.Marked.{LeftAt, RightAt, IsBetween, IsAskedAt, AreAskedIn}
-use Rattle.replace_insertions.proofs.GapWords.{accepted_over}
-
-accepted_by : (words lang : Complete (Bound Mark)) → lang.letters ≡ words.letters → (w : List (Bound Mark)) → Accepts words w → IsOver lang.letters w
-accepted_by words lang same w h = subst (λ ls. IsOver ls w) (sym same) (accepted_over words h)
-
-pub between_kept : (k : ℕ) (words left right begun ended first second : Complete (Bound Mark)) → left.letters ≡ words.letters → right.letters ≡ words.letters → IsLang left.letters (λ w. IsOver left.letters w × KeepsLeft (Accepts left) k w) begun → IsLang right.letters (λ w. IsOver right.letters w × KeepsRight (Accepts right) k w) ended
-    → IsLang words.letters (λ w. Accepts words w × Accepts begun w) first → IsLang first.letters (λ w. Accepts first w × Accepts ended w) second → IsLang words.letters (λ w. Accepts words w × IsBetween (Accepts left) (Accepts right) k w) second
-between_kept k words left right begun ended first second same_left same_right begun_is ended_is first_is second_is =
-    IsLang-same words.letters (λ w. Accepts first w × Accepts ended w) (λ w. Accepts words w × IsBetween (Accepts left) (Accepts right) k w) second
-    (λ w. (
-      λ h. let t = (first_is.words w).0 h.0 in (t.0, (((begun_is.words w).0 t.1).1, ((ended_is.words w).0 h.1).1)),
-      λ h. (
-        (first_is.words w).1 (h.0, (begun_is.words w).1 (accepted_by words left same_left w h.0, h.1.0)),
-        (ended_is.words w).1 (accepted_by words right same_right w h.0, h.1.1),
-      ),
-    ))
-    (subst (λ ls. IsLang ls (λ w. Accepts first w × Accepts ended w) second) first_is.over second_is)
 
 -- no gap is left where the words are intersected with those that leave none
 pub gaps_left : (words left right whole last : Complete (Bound Mark)) → left.letters ≡ words.letters → IsLang left.letters (λ w. IsOver left.letters w × LeavesNoGap (Accepts left) (Accepts right) w) whole
@@ -51,7 +33,7 @@ module _ (marks : List (Bound Mark)) (words left right kept : Complete (Bound Ma
     (left_is : IsLang marks (λ x. IsOver marks x × LeftAt side p x) left) (right_is : IsLang marks (λ z. IsOver marks z × RightAt side p z) right)
     (kept_is : IsLang words.letters (λ w. Accepts words w × IsBetween (Accepts left) (Accepts right) k w) kept) where
   over_words : (w : List (Bound Mark)) → Accepts words w → IsOver marks w
-  over_words w h = subst (λ ls. IsOver ls w) (sym same) (accepted_over words h)
+  over_words w h = subst (λ ls. IsOver ls w) (sym same) (accepted_letters words h)
 
   between_down : (w : List (Bound Mark)) → IsBetween (Accepts left) (Accepts right) k w → IsBetween (LeftAt side p) (RightAt side p) k w
   between_down w h = (λ x y is. ((left_is.words x).0 (h.0 x y is)).1, λ x y is. ((right_is.words y).0 (h.1 x y is)).1)
@@ -96,7 +78,7 @@ asked_kept marks Q any words all asked last same any_is all_is asked_is last_is 
     (λ w. (
       λ h. (h.0, ((asked_is.words w).0 h.1).1),
       λ h.
-          let over : IsOver marks w = subst (λ ls. IsOver ls w) (sym same) (accepted_over words h.0) in
+          let over : IsOver marks w = subst (λ ls. IsOver ls w) (sym same) (accepted_letters words h.0) in
           (h.0, (asked_is.words w).1 ((all_is.words w).1 (over, (any_is w).1 over), h.1)),
     ))
     last_is

@@ -1,17 +1,16 @@
 -- Words of marks that keep what insertions ask.
 use Rattle.std.proofs.Common.{◌≡◌, ◌↔◌, true, false, ℕ, ◌+◌, ◌<◌, length, take, get_or, List, [], ◌∷◌, ◌++◌, refl, sym, ap, subst, ◌∙◌, inl, inr, append_assoc}
 use Rattle.std.specs.List.{Contains}
-use Rattle.std.proofs.lemmas.List.Elements.{All-nil, All-cons, All-head, All-tail, Contains-append_left, Contains-append_right, Contains-push_cases}
+use Rattle.std.proofs.lemmas.List.Elements.{All-head, All-tail, Contains-append_left, Contains-append_right, Contains-push_cases}
 use Rattle.std.proofs.lemmas.List.{take_more}
 use Rattle.fsm_base.specs.declared.letters.Bound.{Bound}
 use Rattle.fsm_base.specs.declared.letters.Bound.TheVariants.{Edge, Inner}
 use Rattle.word_relations.specs.Words.{IsOver, IsConcatenation}
 use Rattle.word_relations.specs.Operations.{IsOneLetter}
 use Rattle.word_relations.proofs.Members.{Contains-nil_cases, Contains-head}
-use Rattle.word_relations.proofs.Places.{Contains-from_slice_get}
 use Rattle.fsa.specs.Automaton.{Automaton}
 use Rattle.fsa.specs.Language as language
-use Rattle.fsa.specs.Complete.{Complete, AcceptsFrom, Accepts, stop, read}
+use Rattle.fsa.specs.Complete.{Complete, Accepts}
 use Rattle.lang_algebra.specs.Languages.{IsLang}
 use Rattle.lang_algebra.proofs.Made.{IsLang-same}
 use Rattle.replace_words.specs.declared.marks.Mark.{Mark}
@@ -20,12 +19,7 @@ use Rattle.replace_words.specs.Filled.{IsFree, NoTwo, LeavesNoGap}
 use Rattle.replace_insertions.specs.declared.kinds.MarkKind.{MarkKind}
 use Rattle.replace_insertions.specs.declared.kinds.MarkKind.TheVariants.{Free, Opening, Closing}
 use Rattle.replace_insertions.specs.Kinds.{is_free, opens, closes, is_of, EndsIn, BeginsWith, MeetsNowhere}
-use Rattle.replace_langs.proofs.Sets.{over_front, over_back}
-
--- words of a language are over its letters
-pub accepted_over : {L : Type 0} (d : Complete L) {s : ℕ} {w : List L} → AcceptsFrom d s w → IsOver d.letters w
-accepted_over d (stop h) = All-nil (Contains d.letters)
-accepted_over d (read {x = x} {w = w} k letter goes rest) = All-cons (Contains d.letters) x w (Contains-from_slice_get d.letters k x letter) (accepted_over d rest)
+use Rattle.replace_langs.proofs.Sets.{accepted_letters, over_front, over_back}
 
 -- those of a list that have a property, one after another
 module _ (P : Bound Mark → Type 0) where
@@ -64,7 +58,7 @@ module _ (lang : Complete (Bound Mark)) (marks : List (Bound Mark)) (same : mark
     (found_is : (m : Bound Mark) → Contains found m ↔ (Contains marks m × (is_of kind m ≡ true))) (all_is : (w : List (Bound Mark)) → language.Accepts all w ↔ IsOver marks w) (one_is : (w : List (Bound Mark)) → language.Accepts one w ↔ IsOneLetter found w)
     (part_is : IsLang marks (λ w. IsOver marks w × language.Accepts whole w) part) (last_is : IsLang lang.letters (λ w. Accepts lang w × Accepts part w) last) where
   over_marks : (w : List (Bound Mark)) → Accepts lang w → IsOver marks w
-  over_marks w h = subst (λ ls. IsOver ls w) (sym same) (accepted_over lang h)
+  over_marks w h = subst (λ ls. IsOver ls w) (sym same) (accepted_letters lang h)
 
   one_there : (m : Bound Mark) → Contains marks m → is_of kind m ≡ true → language.Accepts one (m ∷ [])
   one_there m among is = (one_is (m ∷ [])).1 (m, (found_is m).1 (among, is), refl)

@@ -24,10 +24,10 @@ use Rattle.replace_words.specs.Places.{HoldsBetween, ReplacesAt, AppliesAt, IsRe
 use Rattle.replace_words.specs.Marked.{upper_of, lower_of, symbol_of, bracket, ups, lows, IsBlock}
 use Rattle.replace_words.proofs.Inserted.{insertions_are_marked}
 use Rattle.replace_langs.specs.Letters.{IsMarkOf}
+use Rattle.replace_langs.proofs.Sets.{accepted_letters}
 use Rattle.replace_rules.specs.declared.rules.LangContext.{LangContext}
 use Rattle.replace_insertions.specs.Insertions.{AllowsAt, InsertsBy, AsksBy}
 use Rattle.replace_insertions.specs.Marked.{inserting, AreAskedIn, IsBlockOf, AreBlocksOf, HoldsEverywhere}
-use Rattle.replace_insertions.proofs.GapWords.{accepted_over}
 
 module _ (symbols : List Sym) (put : Complete Sym) (side : Side) (contexts : List LangContext) where
   -- contexts insert and do nothing else
@@ -73,7 +73,7 @@ module _ (symbols : List Sym) (put : Complete Sym) (side : Side) (contexts : Lis
     Of m = IsMarkOf symbols (length contexts) m
 
     put_over : (r : List Sym) → Accepts put r → IsOver symbols r
-    put_over r h = All-weaker (Contains put.letters) (Contains symbols) (λ s among. All-contains (Contains symbols) put.letters s over among) r (accepted_over put h)
+    put_over r h = All-weaker (Contains put.letters) (Contains symbols) (λ s among. All-contains (Contains symbols) put.letters s over among) r (accepted_letters put h)
 
     block_over : (v : List (Bound Mark)) → IsBlockOf symbols put (length contexts) v → All Of v
     block_over v (inl (s, e, among)) = subst (All Of) (sym e) (All-cons Of (Inner (Copy s)) [] among (All-nil Of))

@@ -4,13 +4,13 @@ ghost use Rattle.fsa.specs.Complete as complete;
 ghost use Rattle.fsa.specs.Language.{Accepts};
 ghost use Rattle.lang_algebra.specs.Languages.{IsLang};
 ghost use Rattle.replace_words.specs.Filled.{LeavesNoGap};
-ghost use Rattle.replace_insertions.specs.Marked.{AreAskedIn, IsAskedAt, IsBetween};
+ghost use Rattle.replace_insertions.specs.Marked.{AreAskedIn, IsAskedAt};
 
 use crate::gaps::{leaves_no_gap, leaves_no_two};
 use fsa::Fsa;
 use fsm_base::Bound;
 use lang_algebra::Lang;
-use replace_langs::{any, keeps_left, keeps_right, left_words, over, right_words};
+use replace_langs::{any, kept_between, left_words, over, right_words};
 use replace_rules::{LangContext, Side};
 use replace_words::Mark;
 use std::alloc::{AllocError, Global};
@@ -68,30 +68,11 @@ fn asked_at(
     let marks = words.letters();
     let left = left_words(alloc, marks, side, &context.left)?;
     let right = right_words(alloc, marks, side, &context.right)?;
-    let kept = in_context(alloc, number, words, &left, &right)?;
+    let kept = kept_between(alloc, number, words, &left, &right)?;
     if optional {
         return Ok(kept);
     }
     without_gaps(alloc, &kept, &left, &right)
-}
-
-/// Those of the words in which each insertion by the place of this number stands behind a word of the one language and before one
-/// of the other.
-fn in_context(
-    alloc: Global,
-    number: usize,
-    words: &Lang<Bound<Mark>>,
-    left: &Lang<Bound<Mark>>,
-    right: &Lang<Bound<Mark>>,
-) -> Result<Lang<Bound<Mark>>, AllocError>
-    requires left { left.now.letters ≡ words.now.letters }
-    requires right { right.now.letters ≡ words.now.letters }
-    ensures { IfOk result (IsLang words.now.letters (λ w. complete.Accepts words.now w × IsBetween (complete.Accepts left.now) (complete.Accepts right.now) number w)) }
-{
-    let begun = keeps_left(alloc, number, left)?;
-    let ended = keeps_right(alloc, number, right)?;
-    let first = words.both(alloc, &begun)?;
-    first.both(alloc, &ended)
 }
 
 /// Those of the words in which no place without an insertion stands behind a word of the one language and before one of the

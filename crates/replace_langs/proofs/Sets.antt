@@ -1,5 +1,5 @@
 -- Sets of words over some letters: what contexts and rules ask of them.
-use Rattle.std.proofs.Common.{◌≡◌, ◌↔◌, ◌⊎◌, List, [], ◌∷◌, ◌++◌, Option, Some, map, refl, sym, ap, subst, ◌∙◌, inl, inr}
+use Rattle.std.proofs.Common.{◌≡◌, ◌↔◌, ◌⊎◌, ℕ, List, [], ◌∷◌, ◌++◌, Option, Some, map, refl, sym, ap, subst, ◌∙◌, inl, inr}
 use Rattle.std.specs.List.{Contains, filter_map}
 use Rattle.std.proofs.lemmas.List.Elements.{All-nil, All-cons, All-head, All-tail, filter_map-append}
 use Rattle.fsm_base.specs.declared.letters.Sym.{Sym}
@@ -8,16 +8,17 @@ use Rattle.fsm_base.specs.declared.letters.Bound.TheVariants.{Inner}
 use Rattle.word_relations.specs.Words.{IsOver, IsConcatenation, IsRepetition, Translates}
 use Rattle.word_relations.specs.Operations.{IsOneLetter}
 use Rattle.word_relations.proofs.Laws.{IsOver-repetition, IsRepetition-more}
+use Rattle.word_relations.proofs.Places.{Contains-from_slice_get}
 use Rattle.fsa.specs.Automaton.{Automaton}
 use Rattle.fsa.specs.Language as language
-use Rattle.fsa.specs.Complete.{Complete, IsComplete, Accepts}
+use Rattle.fsa.specs.Complete.{Complete, IsComplete, AcceptsFrom, Accepts, stop, read}
 use Rattle.fsa_product.proofs.Turned.{accepts_or_not}
 use Rattle.lang_algebra.specs.Languages.{IsLang}
 use Rattle.lang_algebra.proofs.Made.{IsLang-same}
 use Rattle.expr_meaning.specs.Operators.{HasPrefix, HasSuffix}
 use Rattle.network_algebra.specs.Renamed.{IsRenamed}
 use Rattle.replace_words.specs.declared.marks.Mark.{Mark}
-use Rattle.replace_words.specs.Marked.{copies, LeavesNone}
+use Rattle.replace_words.specs.Marked.{copies, KeepsLeft, KeepsRight, LeavesNone}
 use Rattle.replace_langs.specs.Letters.{table_of, own_table, mark_as}
 use Rattle.replace_langs.specs.declared.langs.Written.{Written}
 use Rattle.replace_langs.proofs.Tables.{row_cases, translated, filter_split, all_named, names_all}
@@ -185,6 +186,28 @@ module _ (marks : List (Bound Mark)) (lang others broken kept : Complete (Bound 
           let t = (rest_is r.1).0 r.4 in
           let e : r.1 ≡ m ∷ t.1 = t.2 ∙ ap (λ z. z ++ t.1) ((bracket_is t.0).0 t.3) in
           never t.1 t.4 (keeps r.0 t.1 (r.2 ∙ ap (λ z. r.0 ++ z) e))
+
+-- words of a language are over its letters
+pub accepted_letters : {L : Type 0} (d : Complete L) {s : ℕ} {w : List L} → AcceptsFrom d s w → IsOver d.letters w
+accepted_letters d (stop h) = All-nil (Contains d.letters)
+accepted_letters d (read {x = x} {w = w} k letter goes rest) = All-cons (Contains d.letters) x w (Contains-from_slice_get d.letters k x letter) (accepted_letters d rest)
+
+pub accepted_by : (words lang : Complete (Bound Mark)) → lang.letters ≡ words.letters → (w : List (Bound Mark)) → Accepts words w → IsOver lang.letters w
+accepted_by words lang same w h = subst (λ ls. IsOver ls w) (sym same) (accepted_letters words h)
+
+-- the words between those of two languages
+pub between_kept : (k : ℕ) (words left right begun ended first second : Complete (Bound Mark)) → left.letters ≡ words.letters → right.letters ≡ words.letters → IsLang left.letters (λ w. IsOver left.letters w × KeepsLeft (Accepts left) k w) begun → IsLang right.letters (λ w. IsOver right.letters w × KeepsRight (Accepts right) k w) ended
+    → IsLang words.letters (λ w. Accepts words w × Accepts begun w) first → IsLang first.letters (λ w. Accepts first w × Accepts ended w) second → IsLang words.letters (λ w. Accepts words w × (KeepsLeft (Accepts left) k w × KeepsRight (Accepts right) k w)) second
+between_kept k words left right begun ended first second same_left same_right begun_is ended_is first_is second_is =
+    IsLang-same words.letters (λ w. Accepts first w × Accepts ended w) (λ w. Accepts words w × (KeepsLeft (Accepts left) k w × KeepsRight (Accepts right) k w)) second
+    (λ w. (
+      λ h. let t = (first_is.words w).0 h.0 in (t.0, (((begun_is.words w).0 t.1).1, ((ended_is.words w).0 h.1).1)),
+      λ h. (
+        (first_is.words w).1 (h.0, (begun_is.words w).1 (accepted_by words left same_left w h.0, h.1.0)),
+        (ended_is.words w).1 (accepted_by words right same_right w h.0, h.1.1),
+      ),
+    ))
+    (subst (λ ls. IsLang ls (λ w. Accepts first w × Accepts ended w) second) first_is.over second_is)
 
 -- the words that leave no centre
 pub none_left : (marks : List (Bound Mark)) (left right broken kept : Complete (Bound Mark)) (same : marks ≡ left.letters) (centre : Automaton Sym) (before copied behind rest whole : Automaton (Bound Mark))

@@ -14,8 +14,26 @@ use network_algebra::word;
 use replace_words::Mark;
 use std::alloc::{AllocError, Global};
 
+/// Those of the words in which each replacement by the place stands behind a word of the first language and before one of the second.
+pub fn kept_between(
+    alloc: Global,
+    place: usize,
+    words: &Lang<Bound<Mark>>,
+    left: &Lang<Bound<Mark>>,
+    right: &Lang<Bound<Mark>>,
+) -> Result<Lang<Bound<Mark>>, AllocError>
+    requires left { left.now.letters ≡ words.now.letters }
+    requires right { right.now.letters ≡ words.now.letters }
+    ensures { IfOk result (IsLang words.now.letters (λ w. Accepts words.now w × (KeepsLeft (Accepts left.now) place w × KeepsRight (Accepts right.now) place w))) }
+{
+    let begun = keeps_left(alloc, place, left)?;
+    let ended = keeps_right(alloc, place, right)?;
+    let first = words.both(alloc, &begun)?;
+    first.both(alloc, &ended)
+}
+
 /// The words in which each replacement by the place begins behind a word of the language.
-pub fn keeps_left(
+fn keeps_left(
     alloc: Global,
     place: usize,
     left: &Lang<Bound<Mark>>,
@@ -34,7 +52,7 @@ pub fn keeps_left(
 }
 
 /// The words in which each replacement by the place ends before a word of the language.
-pub fn keeps_right(
+fn keeps_right(
     alloc: Global,
     place: usize,
     right: &Lang<Bound<Mark>>,

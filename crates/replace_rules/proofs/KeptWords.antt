@@ -3,44 +3,23 @@ use Rattle.std.proofs.Common.{◌≡◌, ◌↔◌, ℕ, ◌+◌, ◌<◌, ◌�
 use Rattle.std.specs.List.{Contains, slice_get}
 use Rattle.std.proofs.lemmas.Bool.{cases_lt}
 use Rattle.std.proofs.lemmas.Option.{slice_get_within}
-use Rattle.std.proofs.lemmas.List.Elements.{All-nil, All-cons, All-tail}
+use Rattle.std.proofs.lemmas.List.Elements.{All-tail}
 use Rattle.fsm_base.specs.declared.letters.Sym.{Sym}
 use Rattle.fsm_base.specs.declared.letters.Bound.{Bound}
 use Rattle.fsm_base.specs.declared.letters.Bound.TheVariants.{Inner}
 use Rattle.word_relations.specs.Words.{IsOver}
-use Rattle.word_relations.proofs.Places.{Contains-from_slice_get, same_at}
+use Rattle.word_relations.proofs.Places.{same_at}
 use Rattle.fsa.specs.Automaton.{Automaton}
 use Rattle.fsa.specs.Language as language
-use Rattle.fsa.specs.Complete.{Complete, AcceptsFrom, Accepts, stop, read}
+use Rattle.fsa.specs.Complete.{Complete, Accepts}
 use Rattle.lang_algebra.specs.Languages.{IsLang}
 use Rattle.lang_algebra.proofs.Made.{IsLang-same}
 use Rattle.replace_words.specs.declared.marks.Mark.{Mark}
 use Rattle.replace_words.specs.declared.marks.Mark.TheVariants.{Open, Close}
 use Rattle.replace_words.specs.Marked.{copies, KeepsLeft, KeepsRight, LeavesNone, LeftHolds, RightHolds, IsKept}
-use Rattle.replace_langs.proofs.Sets.{over_front, over_back}
+use Rattle.replace_langs.proofs.Sets.{accepted_by, accepted_letters, over_front, over_back}
 use Rattle.replace_rules.specs.declared.rules.LangMap.{LangMap}
-use Rattle.replace_rules.specs.Places.{Place, HasCentreIn, IsBetween, rules_by}
-
--- words of a language are over its letters
-pub accepted_letters : {L : Type 0} (d : Complete L) {s : ℕ} {w : List L} → AcceptsFrom d s w → IsOver d.letters w
-accepted_letters d (stop h) = All-nil (Contains d.letters)
-accepted_letters d (read {x = x} {w = w} k letter goes rest) = All-cons (Contains d.letters) x w (Contains-from_slice_get d.letters k x letter) (accepted_letters d rest)
-
-accepted_by : (words lang : Complete (Bound Mark)) → lang.letters ≡ words.letters → (w : List (Bound Mark)) → Accepts words w → IsOver lang.letters w
-accepted_by words lang same w h = subst (λ ls. IsOver ls w) (sym same) (accepted_letters words h)
-
-pub between_kept : (k : ℕ) (words left right begun ended first second : Complete (Bound Mark)) → left.letters ≡ words.letters → right.letters ≡ words.letters → IsLang left.letters (λ w. IsOver left.letters w × KeepsLeft (Accepts left) k w) begun → IsLang right.letters (λ w. IsOver right.letters w × KeepsRight (Accepts right) k w) ended
-    → IsLang words.letters (λ w. Accepts words w × Accepts begun w) first → IsLang first.letters (λ w. Accepts first w × Accepts ended w) second → IsLang words.letters (λ w. Accepts words w × IsBetween (Accepts left) (Accepts right) k w) second
-between_kept k words left right begun ended first second same_left same_right begun_is ended_is first_is second_is =
-    IsLang-same words.letters (λ w. Accepts first w × Accepts ended w) (λ w. Accepts words w × IsBetween (Accepts left) (Accepts right) k w) second
-    (λ w. (
-      λ h. let t = (first_is.words w).0 h.0 in (t.0, (((begun_is.words w).0 t.1).1, ((ended_is.words w).0 h.1).1)),
-      λ h. (
-        (first_is.words w).1 (h.0, (begun_is.words w).1 (accepted_by words left same_left w h.0, h.1.0)),
-        (ended_is.words w).1 (accepted_by words right same_right w h.0, h.1.1),
-      ),
-    ))
-    (subst (λ ls. IsLang ls (λ w. Accepts first w × Accepts ended w) second) first_is.over second_is)
+use Rattle.replace_rules.specs.Places.{Place, HasCentreIn, rules_by}
 
 pub centres_left : (maps : List LangMap) (words left right whole last : Complete (Bound Mark)) (centre : Automaton Sym) → left.letters ≡ words.letters → ((c : List Sym) → language.Accepts centre c ↔ HasCentreIn maps c)
     → IsLang left.letters (λ w. IsOver left.letters w × LeavesNone (language.Accepts centre) (Accepts left) (Accepts right) w) whole → IsLang words.letters (λ w. Accepts words w × Accepts whole w) last
@@ -55,14 +34,14 @@ centres_left maps words left right whole last centre same centre_is whole_is las
 
 module _ (marks : List (Bound Mark)) (words left right kept : Complete (Bound Mark)) (same : marks ≡ words.letters) (optional : Bool) (k : ℕ) (p : Place)
     (left_is : IsLang marks (λ x. IsOver marks x × LeftHolds rules_by p x) left) (right_is : IsLang marks (λ z. IsOver marks z × RightHolds rules_by p z) right)
-    (kept_is : IsLang words.letters (λ w. Accepts words w × IsBetween (Accepts left) (Accepts right) k w) kept) where
+    (kept_is : IsLang words.letters (λ w. Accepts words w × (KeepsLeft (Accepts left) k w × KeepsRight (Accepts right) k w)) kept) where
   over_words : (w : List (Bound Mark)) → Accepts words w → IsOver marks w
   over_words w h = subst (λ ls. IsOver ls w) (sym same) (accepted_letters words h)
 
-  between_down : (w : List (Bound Mark)) → IsBetween (Accepts left) (Accepts right) k w → KeepsLeft (LeftHolds rules_by p) k w × KeepsRight (RightHolds rules_by p) k w
+  between_down : (w : List (Bound Mark)) → KeepsLeft (Accepts left) k w × KeepsRight (Accepts right) k w → KeepsLeft (LeftHolds rules_by p) k w × KeepsRight (RightHolds rules_by p) k w
   between_down w h = (λ x y is. ((left_is.words x).0 (h.0 x y is)).1, λ x y is. ((right_is.words y).0 (h.1 x y is)).1)
 
-  between_up : (w : List (Bound Mark)) → IsOver marks w → KeepsLeft (LeftHolds rules_by p) k w → KeepsRight (RightHolds rules_by p) k w → IsBetween (Accepts left) (Accepts right) k w
+  between_up : (w : List (Bound Mark)) → IsOver marks w → KeepsLeft (LeftHolds rules_by p) k w → KeepsRight (RightHolds rules_by p) k w → KeepsLeft (Accepts left) k w × KeepsRight (Accepts right) k w
   between_up w over keeps_left keeps_right = (
     λ x y is. (left_is.words x).1 (over_front marks x (Inner (Open k) ∷ y) (subst (IsOver marks) is over), keeps_left x y is),
     λ x y is. (right_is.words y).1 (All-tail (Contains marks) (Inner (Close k)) y (over_back marks x (Inner (Close k) ∷ y) (subst (IsOver marks) is over)), keeps_right x y is),
@@ -70,7 +49,7 @@ module _ (marks : List (Bound Mark)) (words left right kept : Complete (Bound Ma
 
   pub kept_optional : optional ≡ true → IsLang words.letters (λ w. Accepts words w × IsKept rules_by optional k p w) kept
   kept_optional is =
-      IsLang-same words.letters (λ w. Accepts words w × IsBetween (Accepts left) (Accepts right) k w) (λ w. Accepts words w × IsKept rules_by optional k p w) kept
+      IsLang-same words.letters (λ w. Accepts words w × (KeepsLeft (Accepts left) k w × KeepsRight (Accepts right) k w)) (λ w. Accepts words w × IsKept rules_by optional k p w) kept
       (λ w. (
         λ h. let r = between_down w h.1 in (h.0, record { left = r.0; right = r.1; centre = λ must. absurd (let e : true ≡ false = sym is ∙ must in cc) }),
         λ h. (h.0, between_up w (over_words w h.0) h.1.left h.1.right),

@@ -11,7 +11,7 @@ use Rattle.word_relations.proofs.Members.{Contains-nil_cases, Contains-cons_case
 use Rattle.word_relations.proofs.Places.{Contains-from_slice_get}
 use Rattle.fsa.specs.Automaton.{Automaton}
 use Rattle.fsa.specs.Language as language
-use Rattle.fsa.specs.Complete.{Complete, AcceptsFrom, Accepts, stop, read}
+use Rattle.fsa.specs.Complete.{Complete, Accepts}
 use Rattle.lang_algebra.specs.Languages.{IsLang}
 use Rattle.expr_meaning.specs.Operators.{inner}
 use Rattle.expr_meaning.specs.Replacement.{Piece, copied, replaced, read_before, read_behind, IsPiece, IsRewritten}
@@ -21,6 +21,7 @@ use Rattle.replace_words.specs.Places.{HasNoEmptyCentre, HoldsBetween, ReplacesA
 use Rattle.replace_words.specs.Marked.{ups, lows, sames, bracket, upper_of, lower_of, symbol_of, IsReplacement, IsBlock, IsWellMarked, IsKept}
 use Rattle.replace_words.proofs.Claimed.{rewritings_are_marked}
 use Rattle.replace_langs.specs.Letters.{IsMarkOf}
+use Rattle.replace_langs.proofs.Sets.{accepted_letters}
 use Rattle.replace_rules.specs.declared.rules.LangMap.{LangMap}
 use Rattle.replace_rules.specs.declared.rules.LangContext.{LangContext}
 use Rattle.replace_rules.specs.declared.rules.LangGroup.{LangGroup}
@@ -141,11 +142,7 @@ no_empty_centres symbols groups over p among = record {
     not_empty : (m : LangMap) → Contains p.maps m → Accepts m.centre [] → ⊥
     not_empty m there h = let g = place_maps groups p among in (over g.0 g.1 m (subst (λ ms. Contains ms m) g.2 there)).no_empty h
 
--- words of a language are over its letters
-accepted_letters : {L : Type 0} (d : Complete L) {s : ℕ} {w : List L} → AcceptsFrom d s w → IsOver d.letters w
-accepted_letters d (stop h) = All-nil (Contains d.letters)
-accepted_letters d (read {x = x} {w = w} k letter goes rest) = All-cons (Contains d.letters) x w (Contains-from_slice_get d.letters k x letter) (accepted_letters d rest)
-
+-- words of a language whose letters are among some symbols are over these
 accepted_symbols : (symbols : List Sym) (d : Complete Sym) (w : List Sym) → IsOver symbols d.letters → Accepts d w → IsOver symbols w
 accepted_symbols symbols d w over h = All-weaker (Contains d.letters) (Contains symbols) (λ s among. All-contains (Contains symbols) d.letters s over among) w (accepted_letters d h)
 

@@ -1,6 +1,6 @@
 -- The places of groups, by which the construction goes: each is the mappings of a group with one of its contexts, or with none
 -- where the group has none.
-use Rattle.std.specs.Prelude.{◌≡◌, ℕ, List, [], ◌∷◌, ◌++◌, map, Option, Some, None, Contains}
+use Rattle.std.specs.Prelude.{◌≡◌, List, [], ◌∷◌, ◌++◌, map, Option, Some, None, Contains}
 use Rattle.std.specs.List.{flat_map}
 use Rattle.fsm_base.specs.declared.letters.Bound.{Bound}
 use Rattle.fsm_base.specs.declared.letters.Sym.{Sym}
@@ -8,7 +8,7 @@ use Rattle.regex_ast.specs.declared.expr.Side.{Side}
 use Rattle.fsa.specs.Complete.{Complete, Accepts}
 use Rattle.expr_meaning.specs.Operators.{HasPrefix, HasSuffix}
 use Rattle.replace_words.specs.declared.marks.Mark.{Mark}
-use Rattle.replace_words.specs.Marked.{ups, lows, sames, KeepsLeft, KeepsRight}
+use Rattle.replace_words.specs.Marked.{ups, lows, sames}
 use Rattle.replace_words.specs.Places.{Rules}
 use Rattle.replace_rules.specs.declared.rules.LangMap.{LangMap}
 use Rattle.replace_rules.specs.declared.rules.LangContext.{LangContext}
@@ -68,7 +68,3 @@ IsBodyOf centre result (Some after) b = (f : List Sym) × (c : List Sym) × (a :
 
 abbrev pub IsBody : List LangMap → List (Bound Mark) → Type 0
 IsBody maps b = (m : LangMap) × Contains maps m × IsBodyOf m.centre m.result m.after b
-
--- each replacement by the place of the number stands behind a word of the first set and before one of the second
-abbrev pub IsBetween : (List (Bound Mark) → Type 0) → (List (Bound Mark) → Type 0) → ℕ → List (Bound Mark) → Type 0
-IsBetween P Q k w = KeepsLeft P k w × KeepsRight Q k w

@@ -5,7 +5,7 @@ ghost use Rattle.fsa.specs.Complete as complete;
 ghost use Rattle.fsa.specs.Language.{Accepts};
 ghost use Rattle.lang_algebra.specs.Languages.{IsLang};
 ghost use Rattle.replace_words.specs.Marked.{IsKept, LeavesNone};
-ghost use Rattle.replace_rules.specs.Places.{HasCentreIn, IsBetween, Place, rules_by};
+ghost use Rattle.replace_rules.specs.Places.{HasCentreIn, Place, rules_by};
 
 use crate::places::Place;
 use crate::rules::LangMap;
@@ -13,7 +13,7 @@ use fsa::Fsa;
 use fsa_rational::union;
 use fsm_base::{Bound, Sym};
 use lang_algebra::Lang;
-use replace_langs::{keeps_left, keeps_right, leaves_none, over};
+use replace_langs::{kept_between, leaves_none, over};
 use replace_words::Mark;
 use std::alloc::{AllocError, Global};
 
@@ -48,30 +48,11 @@ fn kept_at(
     let marks = words.letters();
     let left = place.left(alloc, marks)?;
     let right = place.right(alloc, marks)?;
-    let kept = in_context(alloc, number, words, &left, &right)?;
+    let kept = kept_between(alloc, number, words, &left, &right)?;
     if optional {
         return Ok(kept);
     }
     without_centres(alloc, place.maps(), &kept, &left, &right)
-}
-
-/// Those of the words in which each replacement by the place of this number stands behind a word of the one language and before
-/// one of the other.
-fn in_context(
-    alloc: Global,
-    number: usize,
-    words: &Lang<Bound<Mark>>,
-    left: &Lang<Bound<Mark>>,
-    right: &Lang<Bound<Mark>>,
-) -> Result<Lang<Bound<Mark>>, AllocError>
-    requires left { left.now.letters ≡ words.now.letters }
-    requires right { right.now.letters ≡ words.now.letters }
-    ensures { IfOk result (IsLang words.now.letters (λ w. complete.Accepts words.now w × IsBetween (complete.Accepts left.now) (complete.Accepts right.now) number w)) }
-{
-    let begun = keeps_left(alloc, number, left)?;
-    let ended = keeps_right(alloc, number, right)?;
-    let first = words.both(alloc, &begun)?;
-    first.both(alloc, &ended)
 }
 
 /// Those of the words in which no centre of the mappings stands in copied symbols behind a word of the one language and before one

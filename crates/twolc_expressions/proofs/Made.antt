@@ -2,18 +2,16 @@
 use Rattle.std.proofs.Common.{◌≡◌, ◌+◌, ◌<◌, ◌≤◌, ℕ, List, [], ◌∷◌, ◌++◌, Option, None, Some, length, drop, get_or, map, refl, sym, ap, subst, ◌∙◌}
 use Rattle.std.proofs.lemmas.List.{drop_all}
 use Rattle.std.specs.Option.{option_map, option_and_then}
-use Rattle.regex_ast.specs.Terms.{Term, Terms, Links, term, terms_of, links_of, then_term, no_term, no_link, or, and, less}
+use Rattle.regex_ast.specs.Terms.{Terms, term, terms_of, then_term, no_term, no_link, or, and, less}
 use Rattle.regex_ast.specs.declared.expr.Expr.{Expr}
 use Rattle.regex_ast.specs.declared.expr.Link.{Link, Or, And, Less}
 use Rattle.regex_ast.specs.declared.expr.Raw.{Raw}
 use Rattle.regex_ast.specs.declared.twolc.PairPart.{PairPart}
-use Rattle.expr_leaves.specs.Mapped.{mapped, mapped_each, mapped_links}
 use Rattle.word_relations.proofs.Behind.{left_behind}
 use Rattle.project_meaning.specs.Trees.{Part}
-use Rattle.twolc_atoms.specs.Views.{part_view}
 use Rattle.twolc_grammar.specs.Atoms.{Names}
 use Rattle.twolc_grammar.specs.Expressions.{over_pairs, each_over_pairs}
-use Rattle.twolc_expressions.specs.Reading.{pair_term, pair_terms, pair_links, link_before, links_made}
+use Rattle.twolc_expressions.specs.Reading.{pair_term, pair_terms, pair_links, link_before}
 
 -- items in front of a row
 abbrev pub onto : {Y S : Type 0} → (Y → S → S) → List Y → S → S

@@ -1,5 +1,5 @@
 -- Nodes over pairs, from what their operands are over pairs.
-use Rattle.std.proofs.Common.{◌≡◌, List, Option, None, Some, Vec, Box, Global, map, sym, ap, ◌∙◌}
+use Rattle.std.proofs.Common.{◌≡◌, Option, None, Some, Vec, Box, Global, map, sym, ap, ◌∙◌}
 use Rattle.std.specs.Option.{option_map, option_and_then}
 use Rattle.regex_ast.specs.Terms.{Terms, Links, term, terms_of, links_of, ignore, concat, chain}
 use Rattle.regex_ast.specs.declared.expr.Expr.{Expr, Ignore, Concat, Chain}

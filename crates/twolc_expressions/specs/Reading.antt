@@ -1,5 +1,5 @@
 -- Words for what the functions of this crate compute on their way to an expression over pairs.
-use Rattle.std.specs.Prelude.{◌≡◌, List, [], ◌∷◌, false, Option, None, Some, map}
+use Rattle.std.specs.Prelude.{◌≡◌, List, ◌∷◌, false, Option, None, Some, map}
 use Rattle.std.specs.Option.{option_map, option_and_then}
 use Rattle.regex_ast.specs.Terms.{Term, Terms, Links, term, terms_of, links_of, or, and, less}
 use Rattle.regex_ast.specs.declared.expr.Expr.{Expr}

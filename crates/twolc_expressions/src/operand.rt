@@ -90,12 +90,6 @@ fn in_xfst(operator: Operator) -> Option<xfst::Operator>
         Operator::Slash => Some(xfst::Operator::Slash),
         Operator::Question => Some(xfst::Operator::Question),
         Operator::Edge => Some(xfst::Operator::Edge),
-        Operator::Semicolon
-        | Operator::Underscore
-        | Operator::Equals
-        | Operator::Only
-        | Operator::Must
-        | Operator::Both
-        | Operator::Never => None,
+        Operator::Arrow(_) | Operator::Semicolon | Operator::Underscore | Operator::Equals => None,
     }
 }

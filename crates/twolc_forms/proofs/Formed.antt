@@ -121,7 +121,7 @@ statement_formed : (names : Names) (section : Section) (tokens : List Token) (s 
 statement_formed names in_alphabet tokens (alphabet pairs) is = tt
 statement_formed names in_sets tokens (set s) is = tt
 statement_formed names in_definitions tokens (definition d) (expression, named, is, no_edge) = expression_formed names expression d.term is
-statement_formed names in_rules tokens (rule r) (centre, arrow, rest, tokens_are, centre_is, kind_is, contexts_are, some) =
+statement_formed names in_rules tokens (rule r) (centre, rest, tokens_are, centre_is, contexts_are, some) =
     let sides = centre_named names centre (sides_of centre) r.centre centre_is in
     (sides.0, sides.1, contexts_formed names rest r.contexts contexts_are)
 statement_formed names in_alphabet tokens (set s) is = absurd is

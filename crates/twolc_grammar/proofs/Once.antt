@@ -10,6 +10,7 @@ use Rattle.regex_ast.specs.declared.twolc.RuleKind.{RuleKind}
 use Rattle.regex_tokens.specs.Bytes.{begins}
 use Rattle.regex_tokens.specs.declared.token.Ending.{Ending}
 use Rattle.regex_tokens.specs.declared.token.Ending.TheVariants.{Whole, NoToken}
+use Rattle.regex_ast.specs.declared.twolc.RuleKind.{RuleKind}
 use Rattle.regex_tokens.specs.declared.token.Operator.{Operator as XfstOperator}
 use Rattle.regex_tokens.specs.declared.token.Token.{Token as XfstToken}
 use Rattle.regex_tokens.specs.declared.token.Token.TheVariants.{Operator as xfst_operator}
@@ -17,16 +18,15 @@ use Rattle.regex_tokens.proofs.Lists.{and_true, split_once}
 use Rattle.regex_grammar.specs.Whole.{IsReading}
 use Rattle.regex_reader.specs.Files.{FaultAt}
 use Rattle.regex_reader.proofs.Readings.{same_term}
-use Rattle.project_meaning.specs.Trees.{Pair, Part, Set, PairDefinition, Rule, Grammar}
-use Rattle.twolc_tokens.specs.declared.token.Operator.{Operator}
-use Rattle.twolc_tokens.specs.declared.token.Operator.TheVariants.{Semicolon, Underscore, Equals}
+use Rattle.project_meaning.specs.Trees.{Part, Set, PairDefinition, Rule, Grammar}
+use Rattle.twolc_tokens.specs.declared.token.Operator.TheVariants.{Arrow, Semicolon, Underscore, Equals}
 use Rattle.twolc_tokens.specs.declared.token.Placed.{Placed}
 use Rattle.twolc_tokens.specs.declared.token.Token.{Token}
 use Rattle.twolc_tokens.specs.declared.token.Token.TheVariants.{Operator as operator, Quoted as quoted, Atom as atom}
 use Rattle.twolc_tokens.proofs.Texts.{cuts_once}
 use Rattle.twolc_grammar.specs.Atoms.{Names, symbols_in, one_symbol_in, centre_in}
-use Rattle.twolc_grammar.specs.Expressions.{in_xfst, as_token, as_xfst, is_caret, over_pairs, IsExpression, IsPart, has_edge, has_high_power}
-use Rattle.twolc_grammar.specs.Statements.{Statement, alphabet, set, definition, rule, Section, in_alphabet, in_sets, in_definitions, in_rules, IsList, IsNamed, kind_of, AreContexts, IsStatement, is_too_deep, is_large, is_again, Verdict, deep, unread, power, large, again, fine}
+use Rattle.twolc_grammar.specs.Expressions.{in_xfst, as_token, as_xfst, is_caret, over_pairs, IsExpression, IsPart}
+use Rattle.twolc_grammar.specs.Statements.{Statement, alphabet, set, definition, rule, Section, in_alphabet, in_sets, in_definitions, in_rules, IsList, IsNamed, AreContexts, IsStatement, is_large, is_again, Verdict, deep, unread, power, large, again, fine}
 use Rattle.twolc_grammar.specs.Sections.{Stage, beginning, within, leads, may_begin, is_quoted, is_semicolon, tokens_of, IsEnded, begins_rule, IsOne, is_open, with_statement, stage_behind, names_of, fault_at, State, nothing_read, at_end, Says, ended, head, strange, no_token, unended, read, refused, OneReading}
 
 some_same : {A : Type 0} (x y : A) → Some x ≡ Some y → x ≡ y
@@ -153,8 +153,8 @@ rule_same s t name centre kind contexts = λ i. rule (record { name = name i; ce
 quoted_same : (a b : List ℕ) → quoted a ≡ quoted b → a ≡ b
 quoted_same a b e = cc
 
-operator_same : (a b : Operator) → operator a ≡ operator b → a ≡ b
-operator_same a b e = cc
+kind_same : (a b : RuleKind) → operator (Arrow a) ≡ operator (Arrow b) → a ≡ b
+kind_same a b e = cc
 
 one_statement : (names : Names) (section : Section) (tokens : List Token) (s t : Statement) → IsStatement names section tokens s → IsStatement names section tokens t → s ≡ t
 one_statement names in_alphabet tokens (alphabet ps) (alphabet qs) (a, la, ea) (b, lb, eb) = ap alphabet (somes_same ps qs (ea ∙ ap (map symbols_in) (list_once tokens a b la lb) ∙ sym eb))
@@ -165,15 +165,15 @@ one_statement names in_definitions tokens (definition s) (definition t) (xa, na,
     let named = named_once tokens s.name t.name (xa ++ operator Semicolon ∷ []) (xb ++ operator Semicolon ∷ []) na nb in
     let same = split_once stands xa xb (operator Semicolon ∷ []) (operator Semicolon ∷ []) (expression_stands names xa s.term ea) (expression_stands names xb t.term eb) refl refl named.1 in
     definition_same s t named.0 (expression_once names xb s.term t.term (subst (λ ts. IsExpression names ts s.term) same.0 ea) eb)
-one_statement names in_rules tokens (rule s) (rule t) (ca, oa, ra, ea, centre_a, kind_a, are_a, some_a) (cb, ob, rb, eb, centre_b, kind_b, are_b, some_b) =
-    let same : quoted s.name ∷ atom ca ∷ operator oa ∷ ra ≡ quoted t.name ∷ atom cb ∷ operator ob ∷ rb = sym ea ∙ eb in
-    let name : s.name ≡ t.name = quoted_same s.name t.name (heads (quoted s.name) (quoted t.name) (atom ca ∷ operator oa ∷ ra) (atom cb ∷ operator ob ∷ rb) same) in
-    let behind : atom ca ∷ operator oa ∷ ra ≡ atom cb ∷ operator ob ∷ rb = tails (quoted s.name) (quoted t.name) (atom ca ∷ operator oa ∷ ra) (atom cb ∷ operator ob ∷ rb) same in
-    let centre : ca ≡ cb = atom_same ca cb (heads (atom ca) (atom cb) (operator oa ∷ ra) (operator ob ∷ rb) behind) in
-    let last : operator oa ∷ ra ≡ operator ob ∷ rb = tails (atom ca) (atom cb) (operator oa ∷ ra) (operator ob ∷ rb) behind in
-    let arrow : oa ≡ ob = operator_same oa ob (heads (operator oa) (operator ob) ra rb last) in
-    let rest : ra ≡ rb = tails (operator oa) (operator ob) ra rb last in
-    rule_same s t name (some_same s.centre t.centre (sym centre_a ∙ ap (centre_in names) centre ∙ centre_b)) (some_same s.kind t.kind (sym kind_a ∙ ap kind_of arrow ∙ kind_b))
+one_statement names in_rules tokens (rule s) (rule t) (ca, ra, ea, centre_a, are_a, some_a) (cb, rb, eb, centre_b, are_b, some_b) =
+    let same : quoted s.name ∷ atom ca ∷ operator (Arrow s.kind) ∷ ra ≡ quoted t.name ∷ atom cb ∷ operator (Arrow t.kind) ∷ rb = sym ea ∙ eb in
+    let name : s.name ≡ t.name = quoted_same s.name t.name (heads (quoted s.name) (quoted t.name) (atom ca ∷ operator (Arrow s.kind) ∷ ra) (atom cb ∷ operator (Arrow t.kind) ∷ rb) same) in
+    let behind : atom ca ∷ operator (Arrow s.kind) ∷ ra ≡ atom cb ∷ operator (Arrow t.kind) ∷ rb = tails (quoted s.name) (quoted t.name) (atom ca ∷ operator (Arrow s.kind) ∷ ra) (atom cb ∷ operator (Arrow t.kind) ∷ rb) same in
+    let centre : ca ≡ cb = atom_same ca cb (heads (atom ca) (atom cb) (operator (Arrow s.kind) ∷ ra) (operator (Arrow t.kind) ∷ rb) behind) in
+    let last : operator (Arrow s.kind) ∷ ra ≡ operator (Arrow t.kind) ∷ rb = tails (atom ca) (atom cb) (operator (Arrow s.kind) ∷ ra) (operator (Arrow t.kind) ∷ rb) behind in
+    let kind : s.kind ≡ t.kind = kind_same s.kind t.kind (heads (operator (Arrow s.kind)) (operator (Arrow t.kind)) ra rb last) in
+    let rest : ra ≡ rb = tails (operator (Arrow s.kind)) (operator (Arrow t.kind)) ra rb last in
+    rule_same s t name (some_same s.centre t.centre (sym centre_a ∙ ap (centre_in names) centre ∙ centre_b)) kind
     (contexts_once names s.contexts t.contexts rb (subst (λ ts. AreContexts names ts s.contexts) rest are_a) are_b)
 one_statement names in_alphabet tokens (alphabet s) (set t) h g = absurd g
 one_statement names in_alphabet tokens (alphabet s) (definition t) h g = absurd g

@@ -7,7 +7,7 @@ use Rattle.regex_ast.specs.declared.expr.Raw.TheVariants.{Run}
 use Rattle.regex_ast.specs.declared.twolc.RuleKind.TheVariants as kinds
 use Rattle.regex_tokens.specs.declared.token.Ending.TheVariants.{Whole}
 use Rattle.project_meaning.specs.Trees.{Pair, Rule, Grammar, one}
-use Rattle.twolc_tokens.specs.declared.token.Operator.TheVariants.{Semicolon, Underscore, Only}
+use Rattle.twolc_tokens.specs.declared.token.Operator.TheVariants.{Arrow, Semicolon, Underscore}
 use Rattle.twolc_tokens.specs.declared.token.Placed.{Placed}
 use Rattle.twolc_tokens.specs.declared.token.Token.{Token}
 use Rattle.twolc_tokens.specs.declared.token.Token.TheVariants.{Operator as operator, Quoted as quoted, Atom as atom}
@@ -18,7 +18,7 @@ abbrev at : Token → Placed
 at token = record { token = token; line = 1 }
 
 abbrev rules : List Placed
-rules = at (quoted (codes "r")) ∷ at (atom (codes "a:b")) ∷ at (operator Only) ∷ at (operator Underscore) ∷ at (operator Semicolon) ∷ []
+rules = at (quoted (codes "r")) ∷ at (atom (codes "a:b")) ∷ at (operator (Arrow kinds.Only)) ∷ at (operator Underscore) ∷ at (operator Semicolon) ∷ []
 
 abbrev text : List Placed
 text = at (atom (codes "Alphabet")) ∷ at (atom (codes "a")) ∷ at (operator Semicolon) ∷ at (atom (codes "Rules")) ∷ rules
@@ -44,8 +44,8 @@ has_context e = cc
 rules_said : Says (record { stage = listed; grammar = with_pair; rest = at (atom (codes "Rules")) ∷ rules; ending = Whole }) (Ok all_said)
 rules_said =
     head listed with_pair (at (atom (codes "Rules"))) rules Whole in_rules (Ok all_said) refl
-    (read in_rules with_pair (at (quoted (codes "r"))) (at (atom (codes "a:b")) ∷ at (operator Only) ∷ at (operator Underscore) ∷ at (operator Semicolon) ∷ []) [] Whole (rule the_rule) (Ok all_said) refl refl (refl, refl) (inr (inl refl))
-    (fine (rule the_rule) refl (codes "a:b", Only, operator Underscore ∷ operator Semicolon ∷ [], refl, refl, refl, ([], [], [], refl, refl, refl, refl), has_context) refl refl refl) (ended (within in_rules) all_said Whole))
+    (read in_rules with_pair (at (quoted (codes "r"))) (at (atom (codes "a:b")) ∷ at (operator (Arrow kinds.Only)) ∷ at (operator Underscore) ∷ at (operator Semicolon) ∷ []) [] Whole (rule the_rule) (Ok all_said) refl refl (refl, refl) (inr (inl refl))
+    (fine (rule the_rule) refl (codes "a:b", operator Underscore ∷ operator Semicolon ∷ [], refl, refl, ([], [], [], refl, refl, refl, refl), has_context) refl refl refl) (ended (within in_rules) all_said Whole))
 
 text_said : Says (nothing_read text Whole) (Ok all_said)
 text_said =

@@ -1,12 +1,10 @@
 -- The statements of a twolc text: the list of the alphabet, `NAME = x y .. ;` in the sets, `NAME = EXPRESSION ;` in the
 -- definitions, and rules `"name" x:y ARROW L _ R ; ..`.
-use Rattle.std.specs.Prelude.{◌≡◌, ◌≢◌, ◌<◌, ◌+◌, ℕ, Bool, true, false, nat_lt, List, [], ◌∷◌, ◌++◌, length, map, Option, None, Some, Result, Ok, Err}
+use Rattle.std.specs.Prelude.{◌≡◌, ◌≢◌, ◌<◌, ◌+◌, ℕ, Bool, true, false, nat_lt, List, [], ◌∷◌, ◌++◌, length, map, Some, Result, Ok, Err}
 use Rattle.regex_ast.specs.Terms.{Contexts, no_context, between}
 use Rattle.regex_ast.specs.declared.expr.Raw.{Raw}
 use Rattle.regex_ast.specs.declared.fault.Why.{Why}
 use Rattle.regex_ast.specs.declared.fault.Why.TheVariants as why
-use Rattle.regex_ast.specs.declared.twolc.RuleKind.{RuleKind}
-use Rattle.regex_ast.specs.declared.twolc.RuleKind.TheVariants as kinds
 use Rattle.regex_reader.specs.Brackets.{nests_too_deep}
 use Rattle.regex_reader.specs.Files.{is_name}
 use Rattle.regex_reader.specs.Limits.{most_in_rules}
@@ -15,8 +13,7 @@ use Rattle.regex_reader.specs.declared.brackets.Bracket.TheVariants.{Opening, Cl
 use Rattle.project_meaning.specs.Trees.{Pair, Part, Set, PairDefinition, Rule}
 use Rattle.twolc_grammar.specs.Atoms.{Names, is_known, symbols_in, centre_in, one_symbol_in}
 use Rattle.twolc_grammar.specs.Expressions.{IsExpression, IsPart, has_edge, has_high_power}
-use Rattle.twolc_tokens.specs.declared.token.Operator.{Operator}
-use Rattle.twolc_tokens.specs.declared.token.Operator.TheVariants.{OpenSquare, CloseSquare, OpenRound, CloseRound, Semicolon, Underscore, Equals, Only, Must, Both, Never}
+use Rattle.twolc_tokens.specs.declared.token.Operator.TheVariants.{OpenSquare, CloseSquare, OpenRound, CloseRound, Arrow, Semicolon, Underscore, Equals}
 use Rattle.twolc_tokens.specs.declared.token.Token.{Token}
 use Rattle.twolc_tokens.specs.declared.token.Token.TheVariants.{Operator as operator, Quoted as quoted, Atom as atom}
 
@@ -57,14 +54,6 @@ IsList tokens atoms = tokens ≡ map atom atoms ++ operator Semicolon ∷ []
 abbrev pub IsNamed : List Token → List ℕ → List Token → Type 0
 IsNamed tokens name behind = (tokens ≡ atom name ∷ operator Equals ∷ behind) × (is_name name ≡ true)
 
--- the kind of rule that an arrow is, if it is one
-abbrev pub kind_of : Operator → Option RuleKind
-kind_of Only = Some kinds.Only
-kind_of Must = Some kinds.Must
-kind_of Both = Some kinds.Both
-kind_of Never = Some kinds.Never
-kind_of _ = None
-
 -- contexts, each with its `;`
 abbrev pub AreContexts : Names → List Token → Contexts (Part Raw) → Type 0
 AreContexts names tokens no_context = tokens ≡ []
@@ -80,8 +69,8 @@ IsStatement names in_sets tokens (set s) =
 IsStatement names in_definitions tokens (definition d) =
     (expression : List Token) × IsNamed tokens d.name (expression ++ operator Semicolon ∷ []) × IsExpression names expression d.term × (has_edge expression ≡ false)
 IsStatement names in_rules tokens (rule r) =
-    (centre : List ℕ) × (arrow : Operator) × (rest : List Token) × (tokens ≡ quoted r.name ∷ atom centre ∷ operator arrow ∷ rest)
-    × (centre_in names centre ≡ Some r.centre) × (kind_of arrow ≡ Some r.kind) × AreContexts names rest r.contexts × (r.contexts ≢ no_context)
+    (centre : List ℕ) × (rest : List Token) × (tokens ≡ quoted r.name ∷ atom centre ∷ operator (Arrow r.kind) ∷ rest)
+    × (centre_in names centre ≡ Some r.centre) × AreContexts names rest r.contexts × (r.contexts ≢ no_context)
 IsStatement names section tokens _ = ⊥
 
 -- Limits, and names that are declared again.

@@ -79,7 +79,7 @@ rule_names p inner r behind e none at =
     ap (λ t. name_in p.line t ++ names_at inner) (first_same p.token (quoted r.name) (tokens_of inner) behind e) ∙ (ap (λ ns. (r.name, p.line) ∷ ns) (no_names inner none) ∙ ap (λ line. (r.name, line) ∷ []) (sym at))
 
 statement_names : (names : Names) (section : Section) (p : Placed) (inner rest : List Placed) (s : Statement) → IsStatement names section (tokens_of (p ∷ inner)) (statement_view s) → IsOne section (p ∷ inner) rest → HasLine p.line s → names_at (p ∷ inner) ≡ names_of_statement s
-statement_names names in_rules p inner rest (Rule r) h one at = rule_names p inner r _ h.3 one.0 at
+statement_names names in_rules p inner rest (Rule r) h one at = rule_names p inner r _ h.2 one.0 at
 statement_names names in_alphabet p inner rest (Pairs pairs) h one at = no_names (p ∷ inner) (none_in_statement names in_alphabet (tokens_of (p ∷ inner)) (statement_view (Pairs pairs)) (λ e. cc) h)
 statement_names names in_sets p inner rest (Set s) h one at = no_names (p ∷ inner) (none_in_statement names in_sets (tokens_of (p ∷ inner)) (statement_view (Set s)) (λ e. cc) h)
 statement_names names in_definitions p inner rest (Definition d) h one at = no_names (p ∷ inner) (none_in_statement names in_definitions (tokens_of (p ∷ inner)) (statement_view (Definition d)) (λ e. cc) h)

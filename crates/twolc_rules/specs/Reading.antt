@@ -5,14 +5,14 @@ use Rattle.regex_ast.specs.Terms.{Contexts, no_context, between}
 use Rattle.regex_ast.specs.declared.expr.Context.{Context}
 use Rattle.regex_ast.specs.declared.expr.Raw.{Raw}
 use Rattle.regex_ast.specs.declared.twolc.PairPart.{PairPart}
+use Rattle.regex_ast.specs.declared.twolc.RuleKind.{RuleKind}
 use Rattle.regex_ast.specs.declared.twolc.TwoLevelRule.{TwoLevelRule}
 use Rattle.project_meaning.specs.Trees.{Part, Rule}
 use Rattle.twolc_atoms.specs.Views.{pair_view}
 use Rattle.twolc_expressions.specs.Reading.{pair_term}
 use Rattle.twolc_rules.specs.declared.separator.Separator.{Separator}
 use Rattle.twolc_rules.specs.declared.separator.Separator.TheVariants.{Underscore as behind_left, Semicolon as behind_right}
-use Rattle.twolc_tokens.specs.declared.token.Operator.{Operator}
-use Rattle.twolc_tokens.specs.declared.token.Operator.TheVariants.{Semicolon, Underscore}
+use Rattle.twolc_tokens.specs.declared.token.Operator.TheVariants.{Arrow, Semicolon, Underscore}
 use Rattle.twolc_tokens.specs.declared.token.Token.{Token}
 use Rattle.twolc_tokens.specs.declared.token.Token.TheVariants.{Operator as operator, Quoted as quoted, Atom as atom}
 
@@ -46,7 +46,7 @@ abbrev pub IsSplit : Separator → List Token → Option (List Token × List Tok
 IsSplit separator tokens None = list_all (is_inner separator) tokens ≡ true
 IsSplit separator tokens (Some x) = (list_all (is_inner separator) x.0 ≡ true) × (tokens ≡ x.0 ++ sign separator ∷ x.1)
 
--- a quoted text, an atom and an operator in front of these, or none
+-- a quoted text, an atom and the arrow of a kind of rules in front of these, or none
 abbrev pub IsQuotedSplit : List Token → Option (List ℕ × List Token) → Type 0
 IsQuotedSplit tokens None = (text : List ℕ) (rest : List Token) → tokens ≡ quoted text ∷ rest → ⊥
 IsQuotedSplit tokens (Some x) = tokens ≡ quoted x.0 ∷ x.1
@@ -55,6 +55,6 @@ abbrev pub IsAtomSplit : List Token → Option (List ℕ × List Token) → Type
 IsAtomSplit tokens None = (text : List ℕ) (rest : List Token) → tokens ≡ atom text ∷ rest → ⊥
 IsAtomSplit tokens (Some x) = tokens ≡ atom x.0 ∷ x.1
 
-abbrev pub IsOperatorSplit : List Token → Option (Operator × List Token) → Type 0
-IsOperatorSplit tokens None = (o : Operator) (rest : List Token) → tokens ≡ operator o ∷ rest → ⊥
-IsOperatorSplit tokens (Some x) = tokens ≡ operator x.0 ∷ x.1
+abbrev pub IsArrowSplit : List Token → Option (RuleKind × List Token) → Type 0
+IsArrowSplit tokens None = (kind : RuleKind) (rest : List Token) → tokens ≡ operator (Arrow kind) ∷ rest → ⊥
+IsArrowSplit tokens (Some x) = tokens ≡ operator (Arrow x.0) ∷ x.1

@@ -1,9 +1,10 @@
 ghost use Rattle.std.specs.Prelude.{◌≡◌};
 ghost use Rattle.std.specs.Option.{option_map};
 ghost use Rattle.twolc_grammar.specs.Sections.{tokens_of};
-ghost use Rattle.twolc_rules.specs.Reading.{IsAtomSplit, IsOperatorSplit, IsQuotedSplit};
+ghost use Rattle.twolc_rules.specs.Reading.{IsArrowSplit, IsAtomSplit, IsQuotedSplit};
 
 use fsm_base::Text;
+use regex_ast::RuleKind;
 use twolc_tokens::{Operator, Placed, Token};
 
 /// The quoted text in front, and the tokens behind it.
@@ -32,15 +33,15 @@ pub fn split_atom(tokens: &[Placed]) -> Option<(&Text, &[Placed])>
     }
 }
 
-/// The operator in front, and the tokens behind it.
-pub fn split_operator(tokens: &[Placed]) -> Option<(Operator, &[Placed])>
-    ensures { IsOperatorSplit (tokens_of tokens.now) (option_map (λ x. (x.0, tokens_of x.1.now)) result) }
+/// The kind of the rules in which the arrow in front stands, and the tokens behind it.
+pub fn split_arrow(tokens: &[Placed]) -> Option<(RuleKind, &[Placed])>
+    ensures { IsArrowSplit (tokens_of tokens.now) (option_map (λ x. (x.0, tokens_of x.1.now)) result) }
 {
     let Some((first, rest)) = tokens.split_first() else {
         return None;
     };
     match &first.token {
-        Token::Operator(operator) => Some((*operator, rest)),
+        Token::Operator(Operator::Arrow(kind)) => Some((*kind, rest)),
         _ => None,
     }
 }

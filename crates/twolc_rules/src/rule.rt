@@ -2,16 +2,16 @@ ghost use Rattle.std.specs.Prelude.{◌≡◌, IfOk, IfSome};
 ghost use Rattle.std.specs.Option.{option_map};
 ghost use Rattle.twolc_expressions.specs.Reading.{IsFound};
 ghost use Rattle.twolc_grammar.specs.Sections.{tokens_of};
-ghost use Rattle.twolc_grammar.specs.Statements.{IsStatement, in_rules, kind_of, rule};
+ghost use Rattle.twolc_grammar.specs.Statements.{IsStatement, in_rules, rule};
 ghost use Rattle.twolc_rules.specs.Reading.{rule_view};
 
 use crate::contexts::contexts_in;
-use crate::head::{split_atom, split_operator, split_quoted};
+use crate::head::{split_arrow, split_atom, split_quoted};
 use fsm_base::Text;
-use regex_ast::{Raw, RuleKind, TwoLevelRule};
+use regex_ast::{Raw, TwoLevelRule};
 use std::alloc::{AllocError, Global};
 use twolc_atoms::{KnownNames, centre_in};
-use twolc_tokens::{Operator, Placed};
+use twolc_tokens::Placed;
 
 /// The rule that the tokens are where these names are known; `None` where they are none. It keeps the line that is passed, in
 /// which the first of them begins.
@@ -30,10 +30,7 @@ pub fn rule_in(
     let Some((centre, behind_centre)) = split_atom(behind_name) else {
         return Ok(None);
     };
-    let Some((arrow, rest)) = split_operator(behind_centre) else {
-        return Ok(None);
-    };
-    let Some(kind) = kind_of(arrow) else {
+    let Some((kind, rest)) = split_arrow(behind_centre) else {
         return Ok(None);
     };
     let Some(pair) = centre_in(alloc, names, centre.as_str())? else {
@@ -53,17 +50,4 @@ pub fn rule_in(
         kind,
         contexts,
     }))
-}
-
-/// The kind of rule that an arrow is.
-fn kind_of(arrow: Operator) -> Option<RuleKind>
-    ensures { result ≡ kind_of arrow }
-{
-    match arrow {
-        Operator::Only => Some(RuleKind::Only),
-        Operator::Must => Some(RuleKind::Must),
-        Operator::Both => Some(RuleKind::Both),
-        Operator::Never => Some(RuleKind::Never),
-        _ => None,
-    }
 }

@@ -1,5 +1,5 @@
 -- Whether a run is a flag.
-use Rattle.std.proofs.Common.{◌≡◌, ◌++◌, ℕ, Bool, true, false, List, [], ◌∷◌, Option, Some, None, refl, sym, ◌∙◌, append_assoc, IsTrue, MatchOption}
+use Rattle.std.proofs.Common.{◌≡◌, ◌++◌, ℕ, Bool, true, false, List, [], ◌∷◌, Option, Some, None, sym, ◌∙◌, append_assoc, IsTrue, MatchOption}
 use Rattle.std.specs.Option.{is_some}
 use Rattle.regex_ast.specs.Flags.{IsFlag, valued, plain}
 use Rattle.regex_ast.specs.declared.lexc.FlagOp.{FlagOp}

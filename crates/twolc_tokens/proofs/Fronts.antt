@@ -1,9 +1,10 @@
 -- What is read, by its bytes and what is behind them. Atoms and quotes.
-use Rattle.std.proofs.Common.{◌≡◌, ◌≤◌, ◌<◌, ℕ, ◌+◌, Bool, true, false, ◌==◌, List, [], ◌∷◌, ◌++◌, length, take, drop, Some, refl, sym, ap, subst, ◌∙◌, ◌⊎◌, inl, inr, arith, append_assoc, length-append, length-drop}
+use Rattle.std.proofs.Common.{◌≡◌, ◌≤◌, ◌<◌, ℕ, ◌+◌, true, false, ◌==◌, List, [], ◌∷◌, ◌++◌, length, take, drop, Some, refl, sym, ap, subst, ◌∙◌, ◌⊎◌, inl, inr, arith, append_assoc, length-append, length-drop}
 use Rattle.std.specs.List.{list_all, prefix_len}
 use Rattle.std.specs.Str.{IsUtf8, IsCharBoundary}
 use Rattle.std.proofs.lemmas.Str.{IsCharBoundary-at_seam, IsUtf8-drop}
 use Rattle.std.proofs.lemmas.List.{take-append-drop}
+use Rattle.regex_ast.specs.declared.twolc.RuleKind.TheVariants.{Only, Must, Both, Never}
 use Rattle.regex_tokens.specs.Bytes.{begins, is_quoted_byte}
 use Rattle.regex_tokens.specs.Spelling.{IsQuoted}
 use Rattle.regex_tokens.specs.Reading.{taken, left}
@@ -14,7 +15,7 @@ use Rattle.twolc_tokens.specs.Spelling.{spelling, IsAtom, Spells}
 use Rattle.twolc_tokens.specs.Cuts.{IsLongest}
 use Rattle.twolc_tokens.specs.Reading.{HasNoAtom, HasNone, IsAtomLen, IsRead}
 use Rattle.twolc_tokens.specs.declared.token.Operator.{Operator}
-use Rattle.twolc_tokens.specs.declared.token.Operator.TheVariants.{OpenSquare, CloseSquare, OpenRound, CloseRound, Bar, Ampersand, Minus, Tilde, Backslash, Dollar, Star, Plus, Caret, Slash, Question, Edge, Semicolon, Underscore, Equals, Only, Must, Both, Never}
+use Rattle.twolc_tokens.specs.declared.token.Operator.TheVariants.{OpenSquare, CloseSquare, OpenRound, CloseRound, Bar, Ampersand, Minus, Slash, Arrow, Tilde, Backslash, Dollar, Star, Plus, Caret, Question, Edge, Semicolon, Underscore, Equals}
 use Rattle.twolc_tokens.specs.declared.token.Token.{Token}
 use Rattle.twolc_tokens.specs.declared.token.Token.TheVariants.{Operator as operator, Quoted as quoted, Atom as atom}
 use Rattle.twolc_tokens.proofs.Atoms.{Head, begins_atom, atom_head}
@@ -52,22 +53,22 @@ apart CloseRound rest = inl refl
 apart Bar rest = inl refl
 apart Ampersand rest = inl refl
 apart Minus rest = inl refl
+apart Slash rest = inl refl
+apart (Arrow Only) rest = inl refl
+apart (Arrow Must) rest = inl refl
+apart (Arrow Both) rest = inl refl
+apart (Arrow Never) rest = inl refl
 apart Tilde rest = inl refl
 apart Backslash rest = inl refl
 apart Dollar rest = inl refl
 apart Star rest = inl refl
 apart Plus rest = inl refl
 apart Caret rest = inl refl
-apart Slash rest = inl refl
 apart Question rest = inr refl
 apart Edge rest = inl refl
 apart Semicolon rest = inl refl
 apart Underscore rest = inl refl
 apart Equals rest = inl refl
-apart Only rest = inl refl
-apart Must rest = inl refl
-apart Both rest = inl refl
-apart Never rest = inl refl
 
 begun : (bytes rest : List ℕ) → IsAtom bytes → begins begins_atom (bytes ++ rest) ≡ true
 begun bytes rest a = let h : Head begins_atom bytes = atom_head bytes a in ap (λ bs. begins begins_atom (bs ++ rest)) h.spelled ∙ h.passes
@@ -111,22 +112,22 @@ signs CloseRound rest = refl
 signs Bar rest = refl
 signs Ampersand rest = refl
 signs Minus rest = refl
+signs Slash rest = refl
+signs (Arrow Only) rest = refl
+signs (Arrow Must) rest = refl
+signs (Arrow Both) rest = refl
+signs (Arrow Never) rest = refl
 signs Tilde rest = refl
 signs Backslash rest = refl
 signs Dollar rest = refl
 signs Star rest = refl
 signs Plus rest = refl
 signs Caret rest = refl
-signs Slash rest = refl
 signs Question rest = refl
 signs Edge rest = refl
 signs Semicolon rest = refl
 signs Underscore rest = refl
 signs Equals rest = refl
-signs Only rest = refl
-signs Must rest = refl
-signs Both rest = refl
-signs Never rest = refl
 
 pub no_operator : (o : Operator) (text more behind : List ℕ) → text ≡ 34 ∷ more → text ≡ spelling o ++ behind → ⊥
 no_operator o text more behind e stands = let clash : true ≡ false = ap (begins (λ b. b == 34)) (sym e ∙ stands) ∙ signs o behind in cc

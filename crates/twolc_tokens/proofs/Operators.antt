@@ -1,16 +1,17 @@
 -- The longest operator at the front of a text that begins with neither an atom nor quotes.
-use Rattle.std.proofs.Common.{◌≡◌, ◌≤◌, ℕ, ◌+◌, Bool, true, false, cond, ◌&&◌, ◌||◌, ◌==◌, nat_eq, nat_le, List, [], ◌∷◌, ◌++◌, length, drop, Some, None, refl, sym, ap, subst, ◌∙◌, ◌⊎◌, inl, inr, arith}
+use Rattle.std.proofs.Common.{◌≡◌, ◌≤◌, ℕ, Bool, true, false, cond, ◌&&◌, ◌||◌, ◌==◌, nat_eq, nat_le, List, [], ◌∷◌, ◌++◌, length, drop, Some, None, refl, sym, ap, subst, ◌∙◌, arith}
 use Rattle.std.specs.List.{list_all, starts_with}
 use Rattle.std.specs.Str.{IsUtf8, bytes_eq}
 use Rattle.std.proofs.lemmas.Slice.Eq.{starts_is, bytes_eq-Decides}
 use Rattle.std.proofs.lemmas.Bool.Decides.{Decides-eqb, nat_tests}
+use Rattle.regex_ast.specs.declared.twolc.RuleKind.TheVariants.{Only, Must, Both, Never}
 use Rattle.regex_tokens.specs.Bytes.{begins}
 use Rattle.regex_tokens.proofs.Lists.{and_left, and_right}
 use Rattle.regex_tokens.proofs.Utf8.{is_ascii, past_ascii}
 use Rattle.twolc_tokens.specs.Spelling.{spelling, Spells}
 use Rattle.twolc_tokens.specs.Reading.{longest_first, first_of, HasNoAtom, HasNone, IsRead}
 use Rattle.twolc_tokens.specs.declared.token.Operator.{Operator}
-use Rattle.twolc_tokens.specs.declared.token.Operator.TheVariants.{OpenSquare, CloseSquare, OpenRound, CloseRound, Bar, Ampersand, Minus, Tilde, Backslash, Dollar, Star, Plus, Caret, Slash, Question, Edge, Semicolon, Underscore, Equals, Only, Must, Both, Never}
+use Rattle.twolc_tokens.specs.declared.token.Operator.TheVariants.{OpenSquare, CloseSquare, OpenRound, CloseRound, Bar, Ampersand, Minus, Slash, Arrow, Tilde, Backslash, Dollar, Star, Plus, Caret, Question, Edge, Semicolon, Underscore, Equals}
 use Rattle.twolc_tokens.specs.declared.token.Token.{Token}
 use Rattle.twolc_tokens.specs.declared.token.Token.TheVariants.{Operator as operator, Quoted as quoted, Atom as atom}
 use Rattle.twolc_tokens.proofs.Fronts.{read_some}
@@ -35,22 +36,22 @@ listed CloseRound = refl
 listed Bar = refl
 listed Ampersand = refl
 listed Minus = refl
+listed Slash = refl
+listed (Arrow Only) = refl
+listed (Arrow Must) = refl
+listed (Arrow Both) = refl
+listed (Arrow Never) = refl
 listed Tilde = refl
 listed Backslash = refl
 listed Dollar = refl
 listed Star = refl
 listed Plus = refl
 listed Caret = refl
-listed Slash = refl
 listed Question = refl
 listed Edge = refl
 listed Semicolon = refl
 listed Underscore = refl
 listed Equals = refl
-listed Only = refl
-listed Must = refl
-listed Both = refl
-listed Never = refl
 
 abbrev falls : List Operator → Bool
 falls [] = true
@@ -109,22 +110,22 @@ operator_ascii CloseRound = refl
 operator_ascii Bar = refl
 operator_ascii Ampersand = refl
 operator_ascii Minus = refl
+operator_ascii Slash = refl
+operator_ascii (Arrow Only) = refl
+operator_ascii (Arrow Must) = refl
+operator_ascii (Arrow Both) = refl
+operator_ascii (Arrow Never) = refl
 operator_ascii Tilde = refl
 operator_ascii Backslash = refl
 operator_ascii Dollar = refl
 operator_ascii Star = refl
 operator_ascii Plus = refl
 operator_ascii Caret = refl
-operator_ascii Slash = refl
 operator_ascii Question = refl
 operator_ascii Edge = refl
 operator_ascii Semicolon = refl
 operator_ascii Underscore = refl
 operator_ascii Equals = refl
-operator_ascii Only = refl
-operator_ascii Must = refl
-operator_ascii Both = refl
-operator_ascii Never = refl
 
 quotes : (text ds behind : List ℕ) (rest : List ℕ) → begins (λ b. b == 34) text ≡ false → text ≡ (34 ∷ ds ++ 34 ∷ []) ++ rest → ⊥
 quotes text ds behind rest none e = let clash : true ≡ false = sym (ap (begins (λ b. b == 34)) e) ∙ none in cc

@@ -1,9 +1,10 @@
 -- A text has one cut.
-use Rattle.std.proofs.Common.{◌≡◌, ◌↔◌, ℕ, ◌+◌, true, false, cond, List, [], ◌∷◌, ◌++◌, length, take, drop, Option, Some, None, refl, sym, ap, subst, ◌∙◌, ◌⊎◌, inl, inr, arith, IsTrue}
+use Rattle.std.proofs.Common.{◌≡◌, ℕ, true, false, cond, List, [], ◌∷◌, ◌++◌, length, take, drop, Option, Some, None, refl, sym, ap, subst, ◌∙◌, inl, inr, arith}
 use Rattle.std.specs.Str.{bytes_eq}
+use Rattle.regex_ast.specs.declared.twolc.RuleKind.TheVariants.{Only, Must, Both, Never}
 use Rattle.regex_tokens.specs.Bytes.{begins, is_quoted_byte}
 use Rattle.regex_tokens.specs.Spelling.{IsQuoted}
-use Rattle.regex_tokens.specs.Cuts.{gap, behind_gap, newlines}
+use Rattle.regex_tokens.specs.Cuts.{behind_gap}
 use Rattle.regex_tokens.specs.declared.comments.Comments.TheVariants.{OfEntries}
 use Rattle.regex_tokens.specs.declared.token.Ending.{Ending}
 use Rattle.regex_tokens.specs.declared.token.Ending.TheVariants.{Whole, NoToken}
@@ -12,7 +13,7 @@ use Rattle.twolc_tokens.specs.Spelling.{spelling, IsAtom, Spells}
 use Rattle.twolc_tokens.specs.Cuts.{IsLongest, IsFirst, HasNoFirst, IsRefused, Cuts, HasOneCut}
 use Rattle.twolc_tokens.specs.Reading.{longest_first, HasNone, IsRead, IsTaken}
 use Rattle.twolc_tokens.specs.declared.token.Operator.{Operator}
-use Rattle.twolc_tokens.specs.declared.token.Operator.TheVariants.{OpenSquare, CloseSquare, OpenRound, CloseRound, Bar, Ampersand, Minus, Tilde, Backslash, Dollar, Star, Plus, Caret, Slash, Question, Edge, Semicolon, Underscore, Equals, Only, Must, Both, Never}
+use Rattle.twolc_tokens.specs.declared.token.Operator.TheVariants.{OpenSquare, CloseSquare, OpenRound, CloseRound, Bar, Ampersand, Minus, Slash, Arrow, Tilde, Backslash, Dollar, Star, Plus, Caret, Question, Edge, Semicolon, Underscore, Equals}
 use Rattle.twolc_tokens.specs.declared.token.Placed.{Placed}
 use Rattle.twolc_tokens.specs.declared.token.Token.{Token}
 use Rattle.twolc_tokens.specs.declared.token.Token.TheVariants.{Operator as operator, Quoted as quoted, Atom as atom}
@@ -33,22 +34,22 @@ named_is CloseRound = refl
 named_is Bar = refl
 named_is Ampersand = refl
 named_is Minus = refl
+named_is Slash = refl
+named_is (Arrow Only) = refl
+named_is (Arrow Must) = refl
+named_is (Arrow Both) = refl
+named_is (Arrow Never) = refl
 named_is Tilde = refl
 named_is Backslash = refl
 named_is Dollar = refl
 named_is Star = refl
 named_is Plus = refl
 named_is Caret = refl
-named_is Slash = refl
 named_is Question = refl
 named_is Edge = refl
 named_is Semicolon = refl
 named_is Underscore = refl
 named_is Equals = refl
-named_is Only = refl
-named_is Must = refl
-named_is Both = refl
-named_is Never = refl
 
 same_some : {A : Type 0} (x y : A) → Some x ≡ Some y → x ≡ y
 same_some x y e = cc
@@ -133,22 +134,22 @@ long (operator o) front h e = by o (sym h ∙ e)
     by Bar e = cc
     by Ampersand e = cc
     by Minus e = cc
+    by Slash e = cc
+    by (Arrow Only) e = cc
+    by (Arrow Must) e = cc
+    by (Arrow Both) e = cc
+    by (Arrow Never) e = cc
     by Tilde e = cc
     by Backslash e = cc
     by Dollar e = cc
     by Star e = cc
     by Plus e = cc
     by Caret e = cc
-    by Slash e = cc
     by Question e = cc
     by Edge e = cc
     by Semicolon e = cc
     by Underscore e = cc
     by Equals e = cc
-    by Only e = cc
-    by Must e = cc
-    by Both e = cc
-    by Never e = cc
 long (quoted cs) front h e = let clash : 34 ∷ cs ++ 34 ∷ [] ≡ [] = sym h.1 ∙ e in cc
 long (atom b) front h e = let s : Head begins_atom front = atom_head front h.0 in let clash : s.first ∷ s.more ≡ [] = sym s.spelled ∙ e in cc
 

@@ -1,8 +1,8 @@
 -- Words for what the functions of this crate compute on their way to the tokens of a text.
 use Rattle.std.specs.Prelude.{◌≡◌, ◌<◌, ◌≤◌, ◌+◌, ◌==◌, ℕ, Bool, false, true, not, nat_eq, ◌⊎◌, List, [], ◌∷◌, ◌++◌, take, drop, length, if◌then◌else◌, Option, None, Some, MatchOption}
 use Rattle.std.specs.List.{starts_with}
-use Rattle.std.specs.Option.{option_map}
 use Rattle.std.specs.Str.{IsUtf8, IsCharBoundary}
+use Rattle.regex_ast.specs.declared.twolc.RuleKind.TheVariants.{Only, Must, Both, Never}
 use Rattle.regex_tokens.specs.Bytes.{begins, is_quoted_byte}
 use Rattle.regex_tokens.specs.Reading.{IsPiecesLen}
 use Rattle.twolc_tokens.specs.Spelling.{is_run_byte, spelling, sides_of, IsAtom, Spells}
@@ -10,7 +10,7 @@ use Rattle.twolc_tokens.specs.Cuts.{IsLongest, IsFirst, HasNoFirst}
 use Rattle.twolc_tokens.specs.declared.bytes.ByteClass.{ByteClass}
 use Rattle.twolc_tokens.specs.declared.bytes.ByteClass.TheVariants.{Line, Quoted}
 use Rattle.twolc_tokens.specs.declared.token.Operator.{Operator}
-use Rattle.twolc_tokens.specs.declared.token.Operator.TheVariants.{OpenSquare, CloseSquare, OpenRound, CloseRound, Bar, Ampersand, Minus, Tilde, Backslash, Dollar, Star, Plus, Caret, Slash, Question, Edge, Semicolon, Underscore, Equals, Only, Must, Both, Never}
+use Rattle.twolc_tokens.specs.declared.token.Operator.TheVariants.{OpenSquare, CloseSquare, OpenRound, CloseRound, Bar, Ampersand, Minus, Slash, Arrow, Tilde, Backslash, Dollar, Star, Plus, Caret, Question, Edge, Semicolon, Underscore, Equals}
 use Rattle.twolc_tokens.specs.declared.token.Token.{Token}
 
 abbrev pub is_of : ByteClass → ℕ → Bool
@@ -39,8 +39,8 @@ pub record IsAtomLen (text : List ℕ) (n : ℕ) : Type 0 where
 -- the operators, none behind one that is shorter
 abbrev pub longest_first : List Operator
 longest_first =
-    Edge ∷ Both ∷ Never ∷ Only ∷ Must ∷ OpenSquare ∷ CloseSquare ∷ OpenRound ∷ CloseRound ∷ Bar ∷ Ampersand ∷ Minus
-    ∷ Tilde ∷ Backslash ∷ Dollar ∷ Star ∷ Plus ∷ Caret ∷ Slash ∷ Question ∷ Semicolon ∷ Underscore ∷ Equals ∷ []
+    Edge ∷ Arrow Both ∷ Arrow Never ∷ Arrow Only ∷ Arrow Must ∷ OpenSquare ∷ CloseSquare ∷ OpenRound ∷ CloseRound ∷ Bar ∷ Ampersand
+    ∷ Minus ∷ Slash ∷ Tilde ∷ Backslash ∷ Dollar ∷ Star ∷ Plus ∷ Caret ∷ Question ∷ Semicolon ∷ Underscore ∷ Equals ∷ []
 
 -- the first of the operators that the text begins with
 abbrev pub first_of : List Operator → List ℕ → Option Operator

@@ -3,10 +3,11 @@
 use Rattle.std.specs.Prelude.{◌≡◌, ℕ, Bool, true, false, not, ◌&&◌, ◌==◌, IsTrue, ◌⊎◌, List, [], ◌∷◌, ◌++◌, codes, Option, None, Some, cond}
 use Rattle.std.specs.List.{list_any, list_all}
 use Rattle.std.specs.Option.{option_map}
+use Rattle.regex_ast.specs.declared.twolc.RuleKind.TheVariants.{Only, Must, Both, Never}
 use Rattle.regex_tokens.specs.Bytes.{is_blank}
 use Rattle.regex_tokens.specs.Spelling.{Piece, is_piece, written, meant, IsQuoted}
 use Rattle.twolc_tokens.specs.declared.token.Operator.{Operator}
-use Rattle.twolc_tokens.specs.declared.token.Operator.TheVariants.{OpenSquare, CloseSquare, OpenRound, CloseRound, Bar, Ampersand, Minus, Tilde, Backslash, Dollar, Star, Plus, Caret, Slash, Question, Edge, Semicolon, Underscore, Equals, Only, Must, Both, Never}
+use Rattle.twolc_tokens.specs.declared.token.Operator.TheVariants.{OpenSquare, CloseSquare, OpenRound, CloseRound, Bar, Ampersand, Minus, Slash, Arrow, Tilde, Backslash, Dollar, Star, Plus, Caret, Question, Edge, Semicolon, Underscore, Equals}
 use Rattle.twolc_tokens.specs.declared.token.Token.{Token}
 use Rattle.twolc_tokens.specs.declared.token.Token.TheVariants.{Operator as operator, Quoted as quoted, Atom as atom}
 
@@ -19,22 +20,22 @@ spelling CloseRound = codes ")"
 spelling Bar = codes "|"
 spelling Ampersand = codes "&"
 spelling Minus = codes "-"
+spelling Slash = codes "/"
+spelling (Arrow Only) = codes "=>"
+spelling (Arrow Must) = codes "<="
+spelling (Arrow Both) = codes "<=>"
+spelling (Arrow Never) = codes "/<="
 spelling Tilde = codes "~"
 spelling Backslash = codes "\\"
 spelling Dollar = codes "$"
 spelling Star = codes "*"
 spelling Plus = codes "+"
 spelling Caret = codes "^"
-spelling Slash = codes "/"
 spelling Question = codes "?"
 spelling Edge = codes ".#."
 spelling Semicolon = codes ";"
 spelling Underscore = codes "_"
 spelling Equals = codes "="
-spelling Only = codes "=>"
-spelling Must = codes "<="
-spelling Both = codes "<=>"
-spelling Never = codes "/<="
 
 -- operators, brackets, what begins a comment, quotes and the escape `%`
 abbrev pub special : List ℕ

@@ -3,14 +3,15 @@ ghost use Rattle.regex_tokens.specs.Bytes.{begins};
 ghost use Rattle.twolc_tokens.specs.Reading.{HasNoAtom, IsRead, first_of, longest_first};
 
 use crate::token::{Operator, Token};
+use regex_ast::RuleKind;
 
 /// The operators, none behind one that is shorter.
 const LONGEST_FIRST: [Operator; 23] = [
     Operator::Edge,
-    Operator::Both,
-    Operator::Never,
-    Operator::Only,
-    Operator::Must,
+    Operator::Arrow(RuleKind::Both),
+    Operator::Arrow(RuleKind::Never),
+    Operator::Arrow(RuleKind::Only),
+    Operator::Arrow(RuleKind::Must),
     Operator::OpenSquare,
     Operator::CloseSquare,
     Operator::OpenRound,
@@ -18,13 +19,13 @@ const LONGEST_FIRST: [Operator; 23] = [
     Operator::Bar,
     Operator::Ampersand,
     Operator::Minus,
+    Operator::Slash,
     Operator::Tilde,
     Operator::Backslash,
     Operator::Dollar,
     Operator::Star,
     Operator::Plus,
     Operator::Caret,
-    Operator::Slash,
     Operator::Question,
     Operator::Semicolon,
     Operator::Underscore,

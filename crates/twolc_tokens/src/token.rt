@@ -2,6 +2,7 @@ ghost use Rattle.std.specs.Prelude.{◌≡◌};
 ghost use Rattle.twolc_tokens.specs.Spelling.{spelling};
 
 use fsm_base::Text;
+use regex_ast::RuleKind;
 use regex_tokens::Ending;
 
 /// A token that is spelled in one way.
@@ -21,6 +22,10 @@ pub enum Operator {
     Ampersand,
     /// `-`.
     Minus,
+    /// `/`.
+    Slash,
+    /// `=>`, `<=`, `<=>` or `/<=`, by the kind of the rules in which it stands.
+    Arrow(RuleKind),
     /// `~`.
     Tilde,
     /// `\`.
@@ -33,8 +38,6 @@ pub enum Operator {
     Plus,
     /// `^`.
     Caret,
-    /// `/`.
-    Slash,
     /// `?`.
     Question,
     /// `.#.`.
@@ -45,14 +48,6 @@ pub enum Operator {
     Underscore,
     /// `=`.
     Equals,
-    /// `=>`.
-    Only,
-    /// `<=`.
-    Must,
-    /// `<=>`.
-    Both,
-    /// `/<=`.
-    Never,
 }
 
 /// A token of a twolc text.
@@ -97,22 +92,22 @@ impl Operator {
             Operator::Bar => "|",
             Operator::Ampersand => "&",
             Operator::Minus => "-",
+            Operator::Slash => "/",
+            Operator::Arrow(RuleKind::Only) => "=>",
+            Operator::Arrow(RuleKind::Must) => "<=",
+            Operator::Arrow(RuleKind::Both) => "<=>",
+            Operator::Arrow(RuleKind::Never) => "/<=",
             Operator::Tilde => "~",
             Operator::Backslash => "\\",
             Operator::Dollar => "$",
             Operator::Star => "*",
             Operator::Plus => "+",
             Operator::Caret => "^",
-            Operator::Slash => "/",
             Operator::Question => "?",
             Operator::Edge => ".#.",
             Operator::Semicolon => ";",
             Operator::Underscore => "_",
             Operator::Equals => "=",
-            Operator::Only => "=>",
-            Operator::Must => "<=",
-            Operator::Both => "<=>",
-            Operator::Never => "/<=",
         }
     }
 }

@@ -10,7 +10,7 @@ classes_of-requires-clause-within g c = λ e h.
     let numbered = c.in_ok-with_numbers.with_numbers.edges.items in
     let given = rw c.edges.ensures.edges at c.in_ok-with_numbers.ensures in
     let within = numbered_within a.edges c.in_ok-with_numbers.with_numbers.letters.items numbered (length a.finals) c.edges.ensures.formed.within given in
-    rw c.finals.ensures.finals (within e (subst (λ es. Contains es e) c.deref.ensures.value h)).1
+    rw c.finals.ensures.finals (within e (subst (λ es. Contains es e) c.deref.ensures.value h))
 
 pub merged_edges-requires : goal.merged_edges-requires
 merged_edges-requires g c = λ e h.

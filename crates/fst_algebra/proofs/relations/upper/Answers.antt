@@ -1,6 +1,10 @@
 use Rattle.std.proofs.lemmas.Result.{IfOk-weaker}
-use Rattle.fst_algebra.proofs.Sides.{upper_language}
+use Rattle.fst_algebra.proofs.Relabelled.{as_relabelled, relabelled_letters}
+use Rattle.fst_algebra.proofs.Sides.{upper_of, upper_language}
 use Rattle.fst_algebra.proofs.relations.upper.Goals as goal
 
+pub returns-clause-letters : goal.returns-clause-letters
+returns-clause-letters c = IfOk-weaker _ _ _ (λ m letters. relabelled_letters upper_of c.args.r.now m letters) c.substituted.ensures.letters
+
 pub returns-clause-language : goal.returns-clause-language
-returns-clause-language c = IfOk-weaker _ _ _ (λ m same. upper_language c.args.r.now m same) c.relabel.ensures.language
+returns-clause-language c = IfOk-weaker _ _ _ (λ m same. upper_language c.args.r.now m (as_relabelled upper_of c.args.r.now m same)) c.substituted.ensures.language

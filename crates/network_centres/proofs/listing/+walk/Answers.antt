@@ -51,7 +51,7 @@ add_centres-returns-in_ok-add_centres-in-Only t c =
 pub add_centres-returns-in-Rules : goal.add_centres-returns-in-Rules
 add_centres-returns-in-Rules t c =
     let is = ap term c.in-Rules.is ∙ term_rules c.in-Rules.rules in
-    let done = rw c.deref-in-Rules.ensures.value at c.add_groups.ensures in
+    let done = rw c.deref.ensures.value at c.add_groups.ensures in
     subst (λ e. OnOk c.add_groups.result (terms_seen c.add_groups.new.found.items ≡ terms_seen c.args.found.now.items ++ centres_in e)) (sym is) done
 
 pub add_centres-returns-in_ok-add_centres-in-Steps : goal.add_centres-returns-in_ok-add_centres-in-Steps

@@ -1,7 +1,5 @@
-use Rattle.std.proofs.Common.{◌↔◌, ◌+◌, ◌∷◌, [], ◌/◌, List, take, IfOk, All, length, map, refl, sym, ap, subst, ◌∙◌, arith}
+use Rattle.std.proofs.Common.{◌+◌, ◌∷◌, [], ◌/◌, List, take, IfOk, All, length, map, refl, sym, ap, subst, ◌∙◌, arith}
 use Rattle.std.proofs.lemmas.Result.{IfOk-weaker}
-use Rattle.fsm_base.specs.declared.letters.Bound.{Bound}
-use Rattle.fsm_base.specs.declared.letters.Sym.{Sym}
 use Rattle.fsa.specs.Language.{Accepts}
 use Rattle.regex_ast.specs.declared.expr.Atom.{Atom}
 use Rattle.regex_ast.specs.declared.expr.Expr.{Expr}
@@ -14,7 +12,7 @@ use Rattle.regex_ast.specs.declared.expr.Mapping.{Mapping}
 use Rattle.regex_ast.specs.Terms.{term, terms_of, links_of, contexts_of, steps_by, mappings_of, groups_of, concat, ignore, maybe, no_term}
 use Rattle.regex_ast.proofs.Rows.{term-Concat, term-Ignore, term-Chain, term-Only, term-Steps}
 use Rattle.expr_kinds.specs.Built.{has_no_insertion, is_insertion}
-use Rattle.expr_kinds.specs.Kinds.{ChainFits, ContextsFit, EachFits, EachFitsAsLanguage, Fits, MappingsFit, StepsFit, kind_of, kind_of_chain}
+use Rattle.expr_kinds.specs.Kinds.{ChainFits, ContextsFit, EachFits, EachFitsAsLanguage, Fits, MappingsFit, StepsFit, kind_of, kind_of_chain, kind_of_steps}
 use Rattle.expr_kinds.specs.declared.form.Kind.TheVariants.{Language}
 use Rattle.expr_meaning.specs.Meaning.{In, InChain, InIgnoring, Relates, RelatesChain}
 use Rattle.network_algebra.specs.Networks.{all_letters, kind_of_network, WordsOf, PairsOf}
@@ -24,11 +22,11 @@ use Rattle.network_sets.proofs.Inside.{over_left, over_right, inside_all}
 use Rattle.network_sets.proofs.Splits.{both_only}
 use Rattle.network_sets.proofs.Restrictions.{edge_only}
 use Rattle.network_expr.specs.Parts.{kinds, stands}
-use Rattle.network_expr.specs.Built.{AreBuiltOver, ContextsAreBuiltOver, IsBuiltOver, IsChoice, IsMeant, IsNarrowing, LinksAreBuiltOver, MappingsAreBuiltOver, StepsAreBuiltOver}
-use Rattle.network_expr.proofs.Weights.{weight, weight_contexts, weight_mappings, weight_groups, each_halves, links_halves, contexts_halves, steps_halves as steps_lighter}
-use Rattle.network_expr.proofs.Rows.{each_built, each_fits, each_language, chain_built, chain_fits, choice_fits, contexts_built, contexts_fit, steps_built, steps_fit, no_item, one_item, halves_joined, terms_joined, some_terms}
+use Rattle.network_expr.specs.Built.{AreBuiltOver, ContextsAreBuiltOver, IsBuiltOver, IsChoice, IsMeant, IsNarrowing, LinksAreBuiltOver, MappingsAreBuiltOver}
+use Rattle.network_expr.proofs.Weights.{weight, weight_contexts, weight_mappings, weight_groups, each_halves, links_halves, contexts_halves, weight_each, weight_steps}
+use Rattle.network_expr.proofs.Rows.{each_built, each_fits, chain_built, chain_fits, choice_fits, contexts_built, contexts_fit, no_item, one_item, halves_joined, terms_joined, one_more}
 use Rattle.network_expr.proofs.Meant.{IsChosen, IsStepped, AreIn, reduced_for, alone_chosen, chain_for, chain_halves, chain_choice, choice_halves, none_chosen, none_accepted, steps_for, steps_halves, then_stepped, context_one, context_halves, no_contexts, only_meant, words_meant, meant_words, letters_meant, colon_language, maybe_meant, same_meant, turn_alone, turns_meant, prefixed_meant, not_one_meant, ignore_row, ignore_one, ignore_halves, each_kind_language, language_meant, empty_only, given_one, given_two}
-use Rattle.network_affixes.proofs.Suffixed.{suffixed_for}
+use Rattle.network_affixes.proofs.Suffixed.{suffixed_for, for_itself}
 use Rattle.network_expr.proofs.Narrowed.{fails, two_links, before_narrowing, halves_fit, narrowed_halves, narrowed_meant, narrowed_only}
 use Rattle.expr_kinds.proofs.Sets.{term_rules, maps_of_is, contexts_in_is}
 use Rattle.network_expr.proofs.Ruled.{MapsReady, ContextsReady, GroupsReady, map_ready, context_ready, group_ready, side_of_is, take_whole, rules_meant, insertion_meant, else_second}
@@ -38,6 +36,8 @@ use Rattle.network_rules.proofs.Meaning.{groups_over, insertion_rows}
 use Rattle.replace_rules.specs.declared.rules.LangMap.{LangMap}
 use Rattle.replace_rules.specs.declared.rules.LangContext.{LangContext}
 use Rattle.replace_rules.specs.declared.rules.LangGroup.{LangGroup}
+use Rattle.network_expr.proofs.Ready.{OperandReady, StepReady, operand_ready, step_ready}
+use Rattle.network_affixes.proofs.Alike.{SameWords}
 use Rattle.network_expr.proofs.build.+build.Goals as goal
 
 pub union_operands-union_operands-requires : goal.union_operands-union_operands-requires
@@ -99,49 +99,66 @@ crossed-returns-then-are_alike-clause-meaning t c =
     let f = term c.args.lower.now in
     same_meant c.args.parts.now c.args.alphabet.now e f c.in_ok-above.above c.in_ok-below.below c.in_ok-both.field-0 (colon_language c.args.parts.now c.args.alphabet.now e f c.are_alike.result c.are_alike.ensures c.if-are_alike.true) c.in_ok-above.ensures.words c.in_ok-below.ensures.words c.in_ok-both.ensures.words
 
-pub ignored-returns-in-empty-clause-letters : goal.ignored-returns-in-empty-clause-letters
-ignored-returns-in-empty-clause-letters t c = IfOk-weaker _ _ _ (λ m. empty_only (all_letters c.args.alphabet.now) m) c.word.ensures.letters
-
-pub ignored-ignored-requires : goal.ignored-ignored-requires
-ignored-ignored-requires t c =
+pub ignored-words_of-requires : goal.ignored-words_of-requires
+ignored-words_of-requires t c =
+    let P = c.args.parts.now in
     let A = c.args.alphabet.now in
-    let front = c.split_at.result.0.now in
-    let back = c.split_at.result.1.now in
-    let whole = c.args.operands.now in
-    let is = halves_joined front back whole (length whole / 2) c.split_at.ensures.front c.split_at.ensures.back in
-    let light = each_halves front back whole is (omega arith) (omega arith) in
-    let terms = terms_joined front back whole is in
-    let built = each_built c.args.parts.now A (map term front) (map term back) (subst (λ z. AreBuiltOver c.args.parts.now A (terms_of z)) (sym terms) c.requires.built) in
-    let fits = each_language c.args.parts.now (map term front) (map term back) (subst (λ z. EachFitsAsLanguage (kinds c.args.parts.now) (terms_of z)) (sym terms) c.requires.fits) in
-    (omega (arith, c.decreases, light.0), (c.requires.ground, (built.0, fits.0)))
+    let is = c.in-Some.ensures.cases.0 in
+    let built = subst (λ (z : List (Expr Atom)). AreBuiltOver P A (terms_of (map term z))) is c.requires.built in
+    let fits = subst (λ (z : List (Expr Atom)). EachFitsAsLanguage (kinds P) (terms_of (map term z))) is c.requires.fits in
+    (omega (arith, c.decreases, ap (λ (z : List (Expr Atom)). weight_each (terms_of (map term z))) is), (c.requires.ground, (built.0, (fits.1, fits.0))))
 
 pub ignored-in_ignoring-requires : goal.ignored-in_ignoring-requires
 ignored-in_ignoring-requires t c =
+    let P = c.args.parts.now in
     let A = c.args.alphabet.now in
-    let front = c.split_at.result.0.now in
-    let back = c.split_at.result.1.now in
-    let whole = c.args.operands.now in
-    let is = halves_joined front back whole (length whole / 2) c.split_at.ensures.front c.split_at.ensures.back in
-    let light = each_halves front back whole is (omega arith) (omega arith) in
-    let terms = terms_joined front back whole is in
-    let built = each_built c.args.parts.now A (map term front) (map term back) (subst (λ z. AreBuiltOver c.args.parts.now A (terms_of z)) (sym terms) c.requires.built) in
-    let fits = each_language c.args.parts.now (map term front) (map term back) (subst (λ z. EachFitsAsLanguage (kinds c.args.parts.now) (terms_of z)) (sym terms) c.requires.fits) in
-    (omega (arith, c.decreases, light.1), (c.requires.ground, (c.in_ok-first-in_default.ensures.letters, (built.1, fits.1))))
+    let is = c.in-Some.ensures.cases.0 in
+    let built = subst (λ (z : List (Expr Atom)). AreBuiltOver P A (terms_of (map term z))) is c.requires.built in
+    let fits = subst (λ (z : List (Expr Atom)). EachFitsAsLanguage (kinds P) (terms_of (map term z))) is c.requires.fits in
+    (omega (arith, c.decreases, ap (λ (z : List (Expr Atom)). weight_each (terms_of (map term z))) is), (c.requires.ground, (c.in_ok-words-in-Some.ensures.letters, (built.1, fits.2))))
 
-pub ignored-returns-in-len1-clause-words : goal.ignored-returns-in-len1-clause-words
-ignored-returns-in-len1-clause-words t c =
+pub ignored-returns-in_ok-words-in-Some-clause-words : goal.ignored-returns-in_ok-words-in-Some-clause-words
+ignored-returns-in_ok-words-in-Some-clause-words t c =
+    let P = c.args.parts.now in
     let A = c.args.alphabet.now in
+    let row = terms_of (map term c.in-Some.others.now) in
+    subst (λ (z : List (Expr Atom)). IfOk c.in_ignoring.result (λ m. SameWords (Accepts m) (In (stands P) A (ignore (terms_of (map term z)))))) (sym c.in-Some.ensures.cases.0)
+    (IfOk-weaker _ _ _ (λ m. ignore_row P A (term c.in-Some.first.now) row c.in_ok-words-in-Some.words m c.in_ok-words-in-Some.ensures.words) c.in_ignoring.ensures.words)
+
+pub ignored-returns-in-None-clause-letters : goal.ignored-returns-in-None-clause-letters
+ignored-returns-in-None-clause-letters t c = IfOk-weaker _ _ _ (λ m. empty_only (all_letters c.args.alphabet.now) m) c.word.ensures.letters
+
+pub in_ignoring-words_of-requires : goal.in_ignoring-words_of-requires
+in_ignoring-words_of-requires t c =
+    let P = c.args.parts.now in
+    let A = c.args.alphabet.now in
+    let whole = c.args.operands.now in
     let item = c.operand-item.result in
-    subst (λ (z : List (Expr Atom)). IfOk c.words_of.result (λ m. (w : List (Bound Sym)) → Accepts m w ↔ In (stands c.args.parts.now) A (ignore (terms_of (map term z))) w)) (sym (one_item c.args.operands.now item (omega arith) (omega arith) c.operand-item.is)) c.words_of.ensures.words
+    let most = weight_each (terms_of (map term whole)) in
+    let ready = subst (λ (z : Expr Atom). OperandReady P A (term z) most) (sym c.operand-item.is) (operand_ready P A whole most c.operands.operand-index item c.operands-test.true c.requires.built c.requires.fits (omega arith)) in
+    let light = ready.light in
+    (omega (arith, c.decreases, light), (c.requires.ground, (ready.built, (ready.fits, ready.language))))
 
-pub ignored-returns-in_ok-first-in_default-clause-words : goal.ignored-returns-in_ok-first-in_default-clause-words
-ignored-returns-in_ok-first-in_default-clause-words t c =
-    let front = c.split_at.result.0.now in
-    let back = c.split_at.result.1.now in
+pub in_ignoring-operands-preserved : goal.in_ignoring-operands-preserved
+in_ignoring-operands-preserved t c =
+    let P = c.args.parts.now in
+    let A = c.args.alphabet.now in
     let whole = c.args.operands.now in
-    let is = halves_joined front back whole (length whole / 2) c.split_at.ensures.front c.split_at.ensures.back in
-    IfOk-weaker _ _ _ (λ m. ignore_row c.args.parts.now c.args.alphabet.now (map term front) (map term back) (map term whole) c.in_ok-first-in_default.first m (terms_joined front back whole is) (some_terms front (omega arith)) c.in_ok-first-in_default.ensures.words)
-    c.in_ignoring.ensures.words
+    let item = c.operand-item.result in
+    let i = c.operands.operand-index in
+    let terms = terms_joined (take i whole) (item ∷ []) (take (i + 1) whole) (one_more whole i item c.operands-test.true c.operand-item.is) in
+    let words = c.in_ok-words.words in
+    let made = c.in_ok-around.around in
+    record {
+      letters = c.in_ok-around.ensures.letters;
+      words = ignore_halves P A (map term (take i whole)) (term item ∷ []) (map term (take (i + 1) whole)) c.args.before c.operands.around made terms c.operands.invariant.words
+          (ignore_one P A (term item) c.operands.around words made c.in_ok-words.ensures.words c.in_ok-around.ensures.words);
+    }
+
+pub in_ignoring-returns-clause-words : goal.in_ignoring-returns-clause-words
+in_ignoring-returns-clause-words t c =
+    let whole = c.args.operands.now in
+    subst (λ (z : List (Expr Atom)). SameWords (Accepts c.operands.around) (InIgnoring (stands c.args.parts.now) c.args.alphabet.now (Accepts c.args.before) (terms_of (map term z)))) (take_whole whole c.operands.operand-index c.operands-test.false) c.operands.invariant.words
 
 pub in_chain-union_operands-requires : goal.in_chain-union_operands-requires
 in_chain-union_operands-requires t c =
@@ -266,89 +283,49 @@ in_contexts-returns-in_ok-second-in_default-clause-words t c =
     let is = halves_joined front back whole (length whole / 2) c.split_at.ensures.front c.split_at.ensures.back in
     IfOk-weaker _ _ _ (λ m. context_halves c.args.parts.now c.args.alphabet.now front back whole c.in_ok-first-in_default.first c.in_ok-second-in_default.second m is c.in_ok-first-in_default.ensures.words c.in_ok-second-in_default.ensures.words) c.union.ensures.language
 
-pub in_ignoring-in_ignoring-requires : goal.in_ignoring-in_ignoring-requires
-in_ignoring-in_ignoring-requires t c =
-    let A = c.args.alphabet.now in
-    let front = c.split_at.result.0.now in
-    let back = c.split_at.result.1.now in
-    let whole = c.args.operands.now in
-    let is = halves_joined front back whole (length whole / 2) c.split_at.ensures.front c.split_at.ensures.back in
-    let light = each_halves front back whole is (omega arith) (omega arith) in
-    let terms = terms_joined front back whole is in
-    let built = each_built c.args.parts.now A (map term front) (map term back) (subst (λ z. AreBuiltOver c.args.parts.now A (terms_of z)) (sym terms) c.requires.built) in
-    let fits = each_language c.args.parts.now (map term front) (map term back) (subst (λ z. EachFitsAsLanguage (kinds c.args.parts.now) (terms_of z)) (sym terms) c.requires.fits) in
-    (omega (arith, c.decreases, light.0), (c.requires.ground, (c.requires.before, (built.0, fits.0))))
-
-pub in_ignoring-in_ignoring-requires-in_default : goal.in_ignoring-in_ignoring-requires-in_default
-in_ignoring-in_ignoring-requires-in_default t c =
-    let A = c.args.alphabet.now in
-    let front = c.split_at.result.0.now in
-    let back = c.split_at.result.1.now in
-    let whole = c.args.operands.now in
-    let is = halves_joined front back whole (length whole / 2) c.split_at.ensures.front c.split_at.ensures.back in
-    let light = each_halves front back whole is (omega arith) (omega arith) in
-    let terms = terms_joined front back whole is in
-    let built = each_built c.args.parts.now A (map term front) (map term back) (subst (λ z. AreBuiltOver c.args.parts.now A (terms_of z)) (sym terms) c.requires.built) in
-    let fits = each_language c.args.parts.now (map term front) (map term back) (subst (λ z. EachFitsAsLanguage (kinds c.args.parts.now) (terms_of z)) (sym terms) c.requires.fits) in
-    (omega (arith, c.decreases, light.1), (c.requires.ground, (c.in_ok-first-in_default.ensures.letters, (built.1, fits.1))))
-
-pub in_ignoring-returns-in_ok-words-in-len1-clause-words : goal.in_ignoring-returns-in_ok-words-in-len1-clause-words
-in_ignoring-returns-in_ok-words-in-len1-clause-words t c =
-    let A = c.args.alphabet.now in
-    let item = c.operand-item.result in
-    subst (λ (z : List (Expr Atom)). IfOk c.ignore.result (λ m. (w : List (Bound Sym)) → Accepts m w ↔ InIgnoring (stands c.args.parts.now) A (Accepts c.args.before) (terms_of (map term z)) w)) (sym (one_item c.args.operands.now item (omega arith) (omega arith) c.operand-item.is))
-    (IfOk-weaker _ _ _ (λ m. ignore_one c.args.parts.now A (term item) c.args.before c.in_ok-words-in-len1.words m c.in_ok-words-in-len1.ensures.words) c.ignore.ensures.words)
-
-pub in_ignoring-returns-in_ok-first-in_default-clause-words : goal.in_ignoring-returns-in_ok-first-in_default-clause-words
-in_ignoring-returns-in_ok-first-in_default-clause-words t c =
-    let front = c.split_at.result.0.now in
-    let back = c.split_at.result.1.now in
-    let whole = c.args.operands.now in
-    let is = halves_joined front back whole (length whole / 2) c.split_at.ensures.front c.split_at.ensures.back in
-    IfOk-weaker _ _ _ (λ m. ignore_halves c.args.parts.now c.args.alphabet.now (map term front) (map term back) (map term whole) c.args.before c.in_ok-first-in_default.first m (terms_joined front back whole is) c.in_ok-first-in_default.ensures.words) c.in_ignoring-in_default.ensures.words
-
 pub in_step-returns-in_ok-network-in-Then-clause-meaning : goal.in_step-returns-in_ok-network-in-Then-clause-meaning
 in_step-returns-in_ok-network-in-Then-clause-meaning t c =
     let A = c.args.alphabet.now in
     subst (λ (z : Step Atom). IfOk c.compose.result (IsStepped c.args.parts.now A c.args.before (z ∷ []))) (sym c.in-Then.is)
     (IfOk-weaker _ _ _ (λ r. then_stepped c.args.parts.now A c.args.before c.in_ok-network-in-Then.network r (term c.in-Then.operand) c.in_ok-network-in-Then.ensures.meaning) c.compose.ensures.meaning)
 
-pub in_steps-in_steps-requires : goal.in_steps-in_steps-requires
-in_steps-in_steps-requires t c =
+pub in_steps-steps-init : goal.in_steps-steps-init
+in_steps-steps-init t c = record { letters = c.requires.before; meaning = for_itself c.args.before }
+
+pub in_steps-in_step-requires : goal.in_steps-in_step-requires
+in_steps-in_step-requires t c =
+    let P = c.args.parts.now in
     let A = c.args.alphabet.now in
     let K = kind_of_network c.args.before in
-    let front = c.split_at.result.0.now in
-    let back = c.split_at.result.1.now in
     let whole = c.args.steps.now in
-    let is = halves_joined front back whole (length whole / 2) c.split_at.ensures.front c.split_at.ensures.back in
-    let light = steps_lighter front back whole is (omega arith) (omega arith) in
-    let built = steps_built c.args.parts.now A front back (subst (λ (z : List (Step Atom)). StepsAreBuiltOver c.args.parts.now A (steps_by z)) (sym is) c.requires.built) in
-    let fits = steps_fit c.args.parts.now front back K (subst (λ (z : List (Step Atom)). StepsFit (kinds c.args.parts.now) K (steps_by z)) (sym is) c.requires.fits) in
-    (omega (arith, c.decreases, light.0), (c.requires.ground, (c.requires.before, (built.0, fits.0))))
+    let item = c.step-item.result in
+    let i = c.steps.step-index in
+    let most = weight_steps (steps_by whole) in
+    let kind = kind_of_steps (kinds P) K (steps_by (take i whole)) in
+    let ready = subst (λ (z : Step Atom). StepReady P A kind z most) (sym c.step-item.is) (step_ready P A whole K most i item c.steps-test.true c.requires.built c.requires.fits (omega arith)) in
+    let light = ready.light in
+    (omega (arith, c.decreases, light), (c.requires.ground, (c.steps.invariant.letters, (ready.built, subst (λ k. StepsFit (kinds P) k (steps_by (item ∷ []))) (sym c.steps.invariant.meaning.kind_is) ready.fits))))
 
-pub in_steps-in_steps-requires-in_default : goal.in_steps-in_steps-requires-in_default
-in_steps-in_steps-requires-in_default t c =
+pub in_steps-steps-preserved : goal.in_steps-steps-preserved
+in_steps-steps-preserved t c =
+    let P = c.args.parts.now in
     let A = c.args.alphabet.now in
     let K = kind_of_network c.args.before in
-    let front = c.split_at.result.0.now in
-    let back = c.split_at.result.1.now in
     let whole = c.args.steps.now in
-    let is = halves_joined front back whole (length whole / 2) c.split_at.ensures.front c.split_at.ensures.back in
-    let light = steps_lighter front back whole is (omega arith) (omega arith) in
-    let built = steps_built c.args.parts.now A front back (subst (λ (z : List (Step Atom)). StepsAreBuiltOver c.args.parts.now A (steps_by z)) (sym is) c.requires.built) in
-    let fits = steps_fit c.args.parts.now front back K (subst (λ (z : List (Step Atom)). StepsFit (kinds c.args.parts.now) K (steps_by z)) (sym is) c.requires.fits) in
-    let kind = c.in_ok-first-in_default.ensures.meaning.kind_is in
-    (omega (arith, c.decreases, light.1), (c.requires.ground, (c.in_ok-first-in_default.ensures.letters, (built.1, subst (λ k. StepsFit (kinds c.args.parts.now) k (steps_by back)) (sym kind) fits.1))))
+    let item = c.step-item.result in
+    let i = c.steps.step-index in
+    let most = weight_steps (steps_by whole) in
+    let kind = kind_of_steps (kinds P) K (steps_by (take i whole)) in
+    let ready = subst (λ (z : Step Atom). StepReady P A kind z most) (sym c.step-item.is) (step_ready P A whole K most i item c.steps-test.true c.requires.built c.requires.fits (omega arith)) in
+    record {
+      letters = c.in_ok-network.ensures.letters;
+      meaning = steps_halves P A c.args.before c.steps.network c.in_ok-network.network (take i whole) (item ∷ []) (take (i + 1) whole) (one_more whole i item c.steps-test.true c.step-item.is) ready.fits c.steps.invariant.meaning c.in_ok-network.ensures.meaning;
+    }
 
-pub in_steps-returns-in_ok-first-in_default-clause-meaning : goal.in_steps-returns-in_ok-first-in_default-clause-meaning
-in_steps-returns-in_ok-first-in_default-clause-meaning t c =
-    let K = kind_of_network c.args.before in
-    let front = c.split_at.result.0.now in
-    let back = c.split_at.result.1.now in
+pub in_steps-returns-clause-meaning : goal.in_steps-returns-clause-meaning
+in_steps-returns-clause-meaning t c =
     let whole = c.args.steps.now in
-    let is = halves_joined front back whole (length whole / 2) c.split_at.ensures.front c.split_at.ensures.back in
-    let fits = steps_fit c.args.parts.now front back K (subst (λ (z : List (Step Atom)). StepsFit (kinds c.args.parts.now) K (steps_by z)) (sym is) c.requires.fits) in
-    IfOk-weaker _ _ _ (λ r. steps_halves c.args.parts.now c.args.alphabet.now c.args.before c.in_ok-first-in_default.first r front back whole is fits.1 c.in_ok-first-in_default.ensures.meaning) c.in_steps-in_default.ensures.meaning
+    subst (λ (z : List (Step Atom)). IsStepped c.args.parts.now c.args.alphabet.now c.args.before z c.steps.network) (take_whole whole c.steps.step-index c.steps-test.false) c.steps.invariant.meaning
 
 pub concat_operands-concat_operands-requires : goal.concat_operands-concat_operands-requires
 concat_operands-concat_operands-requires t c =

@@ -1,6 +1,11 @@
 use Rattle.std.proofs.Common.{◌+◌, [], ◌∷◌, map, take}
+use Rattle.fsa.specs.Language.{Accepts}
 use Rattle.regex_ast.specs.Terms.{term, terms_of, links_of, contexts_of, steps_by, mappings_of, groups_of}
+use Rattle.expr_meaning.specs.Meaning.{InIgnoring}
+use Rattle.network_affixes.proofs.Alike.{SameWords}
+use Rattle.network_algebra.specs.Networks.{IsNetwork, UsesOnly, all_letters}
 use Rattle.network_expr.specs.Parts.{stands}
+use Rattle.network_expr.proofs.Meant.{IsStepped}
 use Rattle.network_expr.proofs.Weights.{weight, weight_each, weight_links, weight_contexts, weight_steps, weight_mappings, weight_groups, link_weight, step_weight}
 use Rattle.network_rules.specs.Rules.{AreMaps, AreContexts, AreGroups}
 use Rattle.network_expr.proofs.build.+build.Given as goal
@@ -26,6 +31,13 @@ decreases-ignored l = weight_each (terms_of (map term l.operands.now)) + 2
 abbrev pub decreases-in_ignoring : goal.decreases-in_ignoring
 decreases-in_ignoring l = weight_each (terms_of (map term l.operands.now))
 
+-- the operands so far are put in
+abbrev pub invariant-in_ignoring-operands : goal.invariant-in_ignoring-operands
+invariant-in_ignoring-operands l = record {
+  letters : UsesOnly (all_letters l.alphabet) l.around;
+  words : SameWords (Accepts l.around) (InIgnoring (stands l.parts) l.alphabet (Accepts l.fn.before) (terms_of (map term (take l.operand-index l.operands))));
+}
+
 abbrev pub decreases-concat_operands : goal.decreases-concat_operands
 decreases-concat_operands l = weight_each (terms_of (map term l.operands.now))
 
@@ -46,6 +58,13 @@ decreases-narrowed_by l = link_weight l.link.now
 
 abbrev pub decreases-in_steps : goal.decreases-in_steps
 decreases-in_steps l = weight_steps (steps_by l.steps.now)
+
+-- the network of the steps so far
+abbrev pub invariant-in_steps-steps : goal.invariant-in_steps-steps
+invariant-in_steps-steps l = record {
+  letters : IsNetwork l.alphabet l.network;
+  meaning : IsStepped l.parts l.alphabet l.fn.before (take l.step-index l.steps) l.network;
+}
 
 abbrev pub decreases-in_step : goal.decreases-in_step
 decreases-in_step l = step_weight l.step.now

@@ -27,23 +27,16 @@ lexicon-requires c =
     let plain = length-map all lexicon_of in
     rw c.deref.ensures.value (omega arith)
 
-root_at : (c : goal.After-drop-names-inside-5) → slice_get (names_of (map lexicon_of c.args.lexicons.now)) c.in-Some.root ≡ Some (codes "Root")
-root_at c = subst (λ (ns : List (List ℕ)). slice_get ns c.in-Some.root ≡ Some (codes "Root")) c.in_ok-names.ensures c.in-Some.ensures
-
-lexicons_are : (c : goal.After-drop-names-inside-5)
-    → AreLexiconsFor c.args.parts.now c.args.alphabet.now (names_of (map lexicon_of c.args.lexicons.now)) c.lexicons_of.new.flags (map lexicon_of c.args.lexicons.now) (map (λ entries. entries.items) c.in_ok-entries.entries.items)
-lexicons_are c =
-    subst (λ (ns : List (List ℕ)). AreLexiconsFor c.args.parts.now c.args.alphabet.now ns c.lexicons_of.new.flags (map lexicon_of c.args.lexicons.now) (map (λ entries. entries.items) c.in_ok-entries.entries.items))
-    c.in_ok-names.ensures c.in_ok-entries.ensures.lexicons
-
 pub returns-clause-letters : goal.returns-clause-letters
 returns-clause-letters c =
     let alphabet = c.args.alphabet.now in
     let lexicons = map lexicon_of c.args.lexicons.now in
     let flags = c.lexicons_of.new.flags in
     let built : List (List LexEntry) = map (λ entries. entries.items) c.in_ok-entries.entries.items in
+    let root = subst (λ (ns : List (List ℕ)). slice_get ns c.in-Some.root ≡ Some (codes "Root")) c.in_ok-names.ensures c.in-Some.ensures in
+    let are = subst (λ (ns : List (List ℕ)). AreLexiconsFor c.args.parts.now c.args.alphabet.now ns flags lexicons built) c.in_ok-names.ensures c.in_ok-entries.ensures.lexicons in
     let letters = rw c.deref.ensures.value at c.in_ok-whole.ensures.letters in
-    let over = related_symbols c.args.parts.now alphabet lexicons c.requires.distinct flags built (lexicons_are c) c.in-Some.root (root_at c) c.in_ok-tapes.tapes (λ x uses. letters x (c.in_ok-tapes.ensures.letters x uses)) c.in_ok-pairs.pairs c.in_ok-pairs.ensures.pairs in
+    let over = related_symbols c.args.parts.now alphabet lexicons c.requires.distinct flags built are c.in-Some.root root c.in_ok-tapes.tapes (λ x uses. letters x (c.in_ok-tapes.ensures.letters x uses)) c.in_ok-pairs.pairs c.in_ok-pairs.ensures.pairs in
     IfOk-weaker _ _ _ (λ n. over_made alphabet (Pairs c.in_ok-pairs.pairs) n over) c.reduced.ensures.letters
 
 pub returns-clause-kind : goal.returns-clause-kind
@@ -54,9 +47,11 @@ returns-clause-meaning c =
     let lexicons = map lexicon_of c.args.lexicons.now in
     let flags = c.lexicons_of.new.flags in
     let built : List (List LexEntry) = map (λ entries. entries.items) c.in_ok-entries.entries.items in
+    let root = subst (λ (ns : List (List ℕ)). slice_get ns c.in-Some.root ≡ Some (codes "Root")) c.in_ok-names.ensures c.in-Some.ensures in
+    let are = subst (λ (ns : List (List ℕ)). AreLexiconsFor c.args.parts.now c.args.alphabet.now ns flags lexicons built) c.in_ok-names.ensures c.in_ok-entries.ensures.lexicons in
     let paths = rw c.deref.ensures.value at c.in_ok-whole.ensures.language in
     let same = c.in_ok-tapes.ensures.language in
     let resolved = rw c.as_slice.ensures at c.in_ok-pairs.ensures.relation in
     IfOk-weaker _ _ _
-    (λ n. related_network c.args.parts.now c.args.alphabet.now lexicons c.requires.distinct flags built (lexicons_are c) c.in-Some.root (root_at c) c.in_ok-tapes.tapes (λ tape. (λ h. (paths tape).0 ((same tape).0 h), λ h. (same tape).1 ((paths tape).1 h))) c.in_ok-pairs.pairs resolved n)
+    (λ n. related_network c.args.parts.now c.args.alphabet.now lexicons c.requires.distinct flags built are c.in-Some.root root c.in_ok-tapes.tapes (λ tape. (λ h. (paths tape).0 ((same tape).0 h), λ h. (same tape).1 ((paths tape).1 h))) c.in_ok-pairs.pairs resolved n)
     c.reduced.ensures.meaning

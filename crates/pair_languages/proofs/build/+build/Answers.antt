@@ -1,10 +1,10 @@
-use Rattle.std.proofs.Common.{◌∷◌, [], ◌/◌, List, IfOk, All, length, sym, ap, subst, ◌∙◌, arith}
+use Rattle.std.proofs.Common.{◌∷◌, [], ◌/◌, List, IfOk, All, length, sym, ap, subst, ◌∙◌, arith, ◌+◌, ◌<◌, map, take}
 use Rattle.std.proofs.lemmas.Result.{IfOk-weaker}
 use Rattle.fsm_base.specs.declared.letters.Sym.{Sym}
 use Rattle.word_relations.specs.Words.{IsDistinct}
 use Rattle.network_sets.proofs.Inside.{over_left, over_right}
 use Rattle.network_sets.proofs.Restrictions.{edge_only, inner_only}
-use Rattle.regex_ast.specs.Terms.{Term, concat, ignore, term, links_of}
+use Rattle.regex_ast.specs.Terms.{Term, concat, term, links_of, terms_of}
 use Rattle.regex_ast.specs.declared.expr.Atom.{Atom}
 use Rattle.regex_ast.specs.declared.expr.Expr.{Expr}
 use Rattle.regex_ast.specs.declared.expr.Link.{Link}
@@ -19,78 +19,71 @@ use Rattle.grammar_pairs.specs.Plain.{ArePairForms, IsPairForm, LinksArePairForm
 use Rattle.pair_languages.specs.Meaning.{HasWordsOf, stands}
 use Rattle.pair_languages.specs.Rows.{IsChoice}
 use Rattle.pair_languages.proofs.LeafWords.{numbers_distinct}
-use Rattle.pair_languages.proofs.Rows.{HasWords, before_same, chain_choice, chain_two, choice_two, concat_one, concat_two, each_forms, empty_only, halves_joined, ignore_one, ignore_row, ignore_two, less_only, linked_and, linked_less, linked_or, links_forms, no_item, none_words, one_item, two_only}
-use Rattle.pair_languages.proofs.Weights.{each_halves, links_halves, link_lighter, link_weight, weight, weight_links}
+use Rattle.pair_languages.proofs.Rows.{HasWords, before_same, chain_choice, chain_two, choice_two, concat_one, concat_two, each_forms, empty_only, halves_joined, ignore_one, ignore_row, ignore_two, less_only, linked_and, linked_less, linked_or, links_forms, no_item, none_words, one_item, two_only, one_more, operand_form}
+use Rattle.pair_languages.proofs.Weights.{each_halves, links_halves, link_lighter, link_weight, weight, weight_links, weight_each, operand_lighter}
 use Rattle.pair_languages.proofs.Words.{maybe_words, not_one_words, prefixed_words, suffixed_words}
+use Rattle.std.proofs.lemmas.List.{take_all}
 use Rattle.pair_languages.proofs.build.+build.Goals as goal
 
-pub ignored-ignored-requires : goal.ignored-ignored-requires
-ignored-ignored-requires t c =
-    let front = c.split_at.result.0.now in
-    let back = c.split_at.result.1.now in
-    let whole = c.args.operands.now in
-    let is = halves_joined front back whole (length whole / 2) c.split_at.ensures.front c.split_at.ensures.back in
-    let light = each_halves front back whole is (omega arith) (omega arith) in
-    let forms = each_forms front back (subst (λ (z : List (Expr (PairPart Atom))). ArePairForms (terms_in z)) (sym is) c.requires.form) in
-    (omega (arith, c.decreases, light.0), (c.requires.scope, forms.0))
+pub ignored-words_of-requires : goal.ignored-words_of-requires
+ignored-words_of-requires t c =
+    let is = c.in-Some.ensures.cases.0 in
+    let form = subst (λ (z : List (Expr (PairPart Atom))). ArePairForms (terms_in z)) is c.requires.form in
+    (omega (arith, c.decreases, ap (λ (z : List (Expr (PairPart Atom))). weight_each (terms_of (map term z))) is), (c.requires.scope, form.0))
 
 pub ignored-in_ignoring-requires : goal.ignored-in_ignoring-requires
 ignored-in_ignoring-requires t c =
-    let front = c.split_at.result.0.now in
-    let back = c.split_at.result.1.now in
-    let whole = c.args.operands.now in
-    let is = halves_joined front back whole (length whole / 2) c.split_at.ensures.front c.split_at.ensures.back in
-    let light = each_halves front back whole is (omega arith) (omega arith) in
-    let forms = each_forms front back (subst (λ (z : List (Expr (PairPart Atom))). ArePairForms (terms_in z)) (sym is) c.requires.form) in
-    (omega (arith, c.decreases, light.1), (c.requires.scope, (c.in_ok-first-in_default.ensures.letters, forms.1)))
+    let is = c.in-Some.ensures.cases.0 in
+    let form = subst (λ (z : List (Expr (PairPart Atom))). ArePairForms (terms_in z)) is c.requires.form in
+    (omega (arith, c.decreases, ap (λ (z : List (Expr (PairPart Atom))). weight_each (terms_of (map term z))) is), (c.requires.scope, (c.in_ok-words-in-Some.ensures.letters, form.1)))
 
-pub ignored-returns-in-len1-clause-words : goal.ignored-returns-in-len1-clause-words
-ignored-returns-in-len1-clause-words t c =
+pub ignored-returns-in_ok-words-in-Some-clause-words : goal.ignored-returns-in_ok-words-in-Some-clause-words
+ignored-returns-in_ok-words-in-Some-clause-words t c =
+    let words = c.in_ok-words-in-Some.words in
+    IfOk-weaker _ _ _ (λ m. ignore_row (stands c.args.scope.now) c.args.scope.now.numbers.items c.in-Some.first.now c.in-Some.others.now c.args.operands.now words m c.in-Some.ensures.cases.0 c.in_ok-words-in-Some.ensures.words) c.in_ignoring.ensures.words
+
+pub ignored-returns-in-None-clause-letters : goal.ignored-returns-in-None-clause-letters
+ignored-returns-in-None-clause-letters t c = IfOk-weaker _ _ _ (λ m. empty_only (all_letters c.args.scope.now.numbers.items) m) c.word.ensures.letters
+
+pub in_ignoring-words_of-requires : goal.in_ignoring-words_of-requires
+in_ignoring-words_of-requires t c =
+    let whole = c.args.operands.now in
     let item = c.operand-item.result in
-    subst (λ (z : List (Expr (PairPart Atom))). IfOk c.words_of.result (HasWordsOf c.args.scope.now (ignore (terms_in z)))) (sym (one_item c.args.operands.now item (omega arith) (omega arith) c.operand-item.is)) c.words_of.ensures.words
+    let i = c.operands.operand-index in
+    let is = sym c.operand-item.is in
+    let form = subst (λ (z : Expr (PairPart Atom)). IsPairForm (term_of z)) is (operand_form whole i item c.operands-test.true c.requires.form) in
+    let light = subst (λ (z : Expr (PairPart Atom)). weight (term z) < weight_each (terms_of (map term whole))) is (operand_lighter whole (weight_each (terms_of (map term whole))) i item c.operands-test.true (omega arith)) in
+    (omega (arith, c.decreases, light), (c.requires.scope, form))
 
-pub ignored-returns-in_ok-first-in_default-clause-words : goal.ignored-returns-in_ok-first-in_default-clause-words
-ignored-returns-in_ok-first-in_default-clause-words t c =
-    let front = c.split_at.result.0.now in
-    let back = c.split_at.result.1.now in
-    let whole = c.args.operands.now in
-    let is = halves_joined front back whole (length whole / 2) c.split_at.ensures.front c.split_at.ensures.back in
-    IfOk-weaker _ _ _ (λ m. ignore_row (stands c.args.scope.now) c.args.scope.now.numbers.items front back whole c.in_ok-first-in_default.first m is (omega arith) c.in_ok-first-in_default.ensures.words) c.in_ignoring.ensures.words
+pub in_ignoring-ignore-requires : goal.in_ignoring-ignore-requires
+in_ignoring-ignore-requires t c =
+    let scope = c.args.scope.now in
+    let same = sym c.deref.ensures.value in
+    record {
+      distinct = subst (λ (z : List Sym). IsDistinct z) same (numbers_distinct scope c.requires.scope);
+      first = subst (λ (z : List Sym). UsesOnly (all_letters z) c.operands.around) same c.operands.invariant.letters;
+      second = subst (λ (z : List Sym). UsesOnly (all_letters z) c.in_ok-words.words) same c.in_ok-words.ensures.letters;
+    }
 
-pub in_ignoring-in_ignoring-requires : goal.in_ignoring-in_ignoring-requires
-in_ignoring-in_ignoring-requires t c =
-    let front = c.split_at.result.0.now in
-    let back = c.split_at.result.1.now in
-    let whole = c.args.operands.now in
-    let is = halves_joined front back whole (length whole / 2) c.split_at.ensures.front c.split_at.ensures.back in
-    let light = each_halves front back whole is (omega arith) (omega arith) in
-    let forms = each_forms front back (subst (λ (z : List (Expr (PairPart Atom))). ArePairForms (terms_in z)) (sym is) c.requires.form) in
-    (omega (arith, c.decreases, light.0), (c.requires.scope, (c.requires.before, forms.0)))
-
-pub in_ignoring-in_ignoring-requires-in_default : goal.in_ignoring-in_ignoring-requires-in_default
-in_ignoring-in_ignoring-requires-in_default t c =
-    let front = c.split_at.result.0.now in
-    let back = c.split_at.result.1.now in
-    let whole = c.args.operands.now in
-    let is = halves_joined front back whole (length whole / 2) c.split_at.ensures.front c.split_at.ensures.back in
-    let light = each_halves front back whole is (omega arith) (omega arith) in
-    let forms = each_forms front back (subst (λ (z : List (Expr (PairPart Atom))). ArePairForms (terms_in z)) (sym is) c.requires.form) in
-    (omega (arith, c.decreases, light.1), (c.requires.scope, (c.in_ok-first-in_default.ensures.letters, forms.1)))
-
-pub in_ignoring-returns-in_ok-words-in-len1-clause-words : goal.in_ignoring-returns-in_ok-words-in-len1-clause-words
-in_ignoring-returns-in_ok-words-in-len1-clause-words t c =
-    let item = c.operand-item.result in
+pub in_ignoring-operands-preserved : goal.in_ignoring-operands-preserved
+in_ignoring-operands-preserved t c =
+    let leaf = stands c.args.scope.now in
     let A = c.args.scope.now.numbers.items in
-    subst (λ (z : List (Expr (PairPart Atom))). IfOk c.ignore.result (λ m. HasWords m (InIgnoring (stands c.args.scope.now) A (Accepts c.args.before) (terms_in z)))) (sym (one_item c.args.operands.now item (omega arith) (omega arith) c.operand-item.is))
-    (IfOk-weaker _ _ _ (λ m. ignore_one (stands c.args.scope.now) A item c.args.before c.in_ok-words-in-len1.words m c.in_ok-words-in-len1.ensures.words) c.ignore.ensures.words)
-
-pub in_ignoring-returns-in_ok-first-in_default-clause-words : goal.in_ignoring-returns-in_ok-first-in_default-clause-words
-in_ignoring-returns-in_ok-first-in_default-clause-words t c =
-    let front = c.split_at.result.0.now in
-    let back = c.split_at.result.1.now in
     let whole = c.args.operands.now in
-    let is = halves_joined front back whole (length whole / 2) c.split_at.ensures.front c.split_at.ensures.back in
-    IfOk-weaker _ _ _ (λ m. ignore_two (stands c.args.scope.now) c.args.scope.now.numbers.items front back whole (Accepts c.args.before) c.in_ok-first-in_default.first m is c.in_ok-first-in_default.ensures.words) c.in_ignoring-in_default.ensures.words
+    let item = c.operand-item.result in
+    let i = c.operands.operand-index in
+    let words = c.in_ok-words.words in
+    let made = c.in_ok-around.around in
+    record {
+      letters = subst (λ (z : List Sym). UsesOnly (all_letters z) made) c.deref.ensures.value c.in_ok-around.ensures.letters;
+      words = ignore_two leaf A (take i whole) (item ∷ []) (take (i + 1) whole) (Accepts c.args.before) c.operands.around made (one_more whole i item c.operands-test.true c.operand-item.is) c.operands.invariant.words
+          (ignore_one leaf A item c.operands.around words made c.in_ok-words.ensures.words c.in_ok-around.ensures.words);
+    }
+
+pub in_ignoring-returns-clause-words : goal.in_ignoring-returns-clause-words
+in_ignoring-returns-clause-words t c =
+    let whole = c.args.operands.now in
+    subst (λ (z : List (Expr (PairPart Atom))). HasWords c.operands.around (InIgnoring (stands c.args.scope.now) c.args.scope.now.numbers.items (Accepts c.args.before) (terms_in z))) (take_all c.operands.operand-index whole c.operands-test.false) c.operands.invariant.words
 
 pub concat_operands-concat_operands-requires : goal.concat_operands-concat_operands-requires
 concat_operands-concat_operands-requires t c =
@@ -177,9 +170,6 @@ union_operands-returns-in_ok-new-in-len1-clause-words t c =
     let none = c.in_ok-new-in-len1.field-0 in
     subst (λ (z : List (Link (PairPart Atom))). IfOk c.linked-in-len1.result (λ m. HasWords m (InChain leaf A (λ v. ⊥) (links_in z)))) (sym (one_item c.args.links.now item (omega arith) (omega arith) c.link-item.is))
     (IfOk-weaker _ _ _ (λ m. before_same leaf A (item ∷ []) (Accepts none) (λ v. ⊥) m (none_words none c.in_ok-new-in-len1.ensures)) c.linked-in-len1.ensures.words)
-
-pub ignored-returns-in-empty-clause-letters : goal.ignored-returns-in-empty-clause-letters
-ignored-returns-in-empty-clause-letters t c = IfOk-weaker _ _ _ (λ m. empty_only (all_letters c.args.scope.now.numbers.items) m) c.word.ensures.letters
 
 pub concat_operands-returns-in-empty-clause-letters : goal.concat_operands-returns-in-empty-clause-letters
 concat_operands-returns-in-empty-clause-letters t c = IfOk-weaker _ _ _ (λ m. empty_only (all_letters c.args.scope.now.numbers.items) m) c.word.ensures.letters
@@ -315,16 +305,6 @@ linked-returns-in_ok-words-in-Less-clause-words t c =
     let A = c.args.scope.now.numbers.items in
     subst (λ (z : Link (PairPart Atom)). IfOk c.minus.result (λ m. HasWords m (InChain leaf A (Accepts c.args.before.now) (links_in (z ∷ []))))) (sym c.in-Less.is)
     (IfOk-weaker _ _ _ (λ m. linked_less leaf A c.in-Less.operand c.args.before.now c.in_ok-words-in-Less.words m c.in_ok-words-in-Less.ensures.words) c.minus.ensures.words)
-
-pub in_ignoring-ignore-requires : goal.in_ignoring-ignore-requires
-in_ignoring-ignore-requires t c =
-    let scope = c.args.scope.now in
-    let same = sym c.deref.ensures.value in
-    record {
-      distinct = subst (λ (z : List Sym). IsDistinct z) same (numbers_distinct scope c.requires.scope);
-      first = subst (λ (z : List Sym). UsesOnly (all_letters z) c.args.before) same c.requires.before;
-      second = subst (λ (z : List Sym). UsesOnly (all_letters z) c.in_ok-words-in-len1.words) same c.in_ok-words-in-len1.ensures.letters;
-    }
 
 pub words_of-words_of-requires : goal.words_of-words_of-requires
 words_of-words_of-requires t c =

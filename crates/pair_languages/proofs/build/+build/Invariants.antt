@@ -1,5 +1,11 @@
-use Rattle.std.proofs.Common.{◌+◌, map}
+use Rattle.std.proofs.Common.{◌+◌, map, take}
+use Rattle.fsa.specs.Language.{Accepts}
 use Rattle.regex_ast.specs.Terms.{term, terms_of, links_of}
+use Rattle.expr_meaning.specs.Meaning.{InIgnoring}
+use Rattle.network_algebra.specs.Networks.{UsesOnly, all_letters}
+use Rattle.grammar_pairs.specs.Plain.{terms_in}
+use Rattle.pair_languages.specs.Meaning.{stands}
+use Rattle.pair_languages.proofs.Rows.{HasWords}
 use Rattle.pair_languages.proofs.Weights.{weight, weight_each, weight_links, link_weight}
 use Rattle.pair_languages.proofs.build.+build.Given as goal
 
@@ -11,6 +17,13 @@ decreases-ignored l = weight_each (terms_of (map term l.operands.now)) + 2
 
 abbrev pub decreases-in_ignoring : goal.decreases-in_ignoring
 decreases-in_ignoring l = weight_each (terms_of (map term l.operands.now)) + 1
+
+-- the operands so far are put in
+abbrev pub invariant-in_ignoring-operands : goal.invariant-in_ignoring-operands
+invariant-in_ignoring-operands l = record {
+  letters : UsesOnly (all_letters l.scope.numbers.items) l.around;
+  words : HasWords l.around (InIgnoring (stands l.scope) l.scope.numbers.items (Accepts l.fn.before) (terms_in (take l.operand-index l.operands)));
+}
 
 abbrev pub decreases-concat_operands : goal.decreases-concat_operands
 decreases-concat_operands l = weight_each (terms_of (map term l.operands.now))

@@ -7,11 +7,11 @@ use Rattle.replace_insertions.specs.Marked.{IsAskedAt}
 use Rattle.replace_insertions.proofs.FilledWords.{asked_optional, asked_obligatory}
 use Rattle.replace_insertions.proofs.filling.asked_at.Goals as goal
 
-pub in_context-requires-clause-left : goal.in_context-requires-clause-left
-in_context-requires-clause-left c = c.in_ok-left.ensures.over ∙ c.letters-marks.ensures.letters
+pub kept_between-requires-clause-left : goal.kept_between-requires-clause-left
+kept_between-requires-clause-left c = c.in_ok-left.ensures.over ∙ c.letters-marks.ensures.letters
 
-pub in_context-requires-clause-right : goal.in_context-requires-clause-right
-in_context-requires-clause-right c = c.in_ok-right.ensures.over ∙ c.letters-marks.ensures.letters
+pub kept_between-requires-clause-right : goal.kept_between-requires-clause-right
+kept_between-requires-clause-right c = c.in_ok-right.ensures.over ∙ c.letters-marks.ensures.letters
 
 pub without_gaps-requires-clause-left : goal.without_gaps-requires-clause-left
 without_gaps-requires-clause-left c = c.in_ok-left.ensures.over ∙ c.letters-marks.ensures.letters ∙ sym c.in_ok-kept.ensures.over

@@ -1,4 +1,4 @@
-use Rattle.std.proofs.Common.{Option, None, Some, sym, ap, ◌∙◌, refl, arith}
+use Rattle.std.proofs.Common.{None, Some, sym, ap, ◌∙◌, refl, arith}
 use Rattle.std.specs.Option.{option_map}
 use Rattle.regex_ast.specs.Terms.{no_term, no_link}
 use Rattle.twolc_expressions.specs.Reading.{pair_term, pair_terms, pair_links, link_before, links_made}

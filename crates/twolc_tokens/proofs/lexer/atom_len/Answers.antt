@@ -1,4 +1,4 @@
-use Rattle.std.proofs.Common.{◌==◌, false, sym, ap, subst, ◌≡◌, ◌∙◌}
+use Rattle.std.proofs.Common.{◌==◌, false, sym, subst, ◌≡◌, ◌∙◌}
 use Rattle.regex_tokens.specs.Bytes.{begins}
 use Rattle.twolc_tokens.proofs.Atoms.{run_alone, question_alone, two_sides}
 use Rattle.twolc_tokens.proofs.lexer.atom_len.Goals as goal

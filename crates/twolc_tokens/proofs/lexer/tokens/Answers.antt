@@ -1,4 +1,4 @@
-use Rattle.std.proofs.Common.{◌≡◌, ◌+◌, [], ◌∷◌, ◌++◌, length, take, drop, sym, ap, ◌∙◌, arith, rules}
+use Rattle.std.proofs.Common.{◌≡◌, ◌+◌, [], ◌∷◌, ◌++◌, length, drop, sym, ap, ◌∙◌, arith, rules}
 use Rattle.regex_tokens.specs.Cuts.{newlines}
 use Rattle.regex_tokens.proofs.Lists.{some_of, none_of}
 use Rattle.twolc_tokens.specs.declared.token.Placed.{Placed}

@@ -1,6 +1,0 @@
-use Rattle.std.proofs.Common.{◌∙◌}
-use Rattle.fsm_base.proofs.TableLemmas.{list_any-strings}
-use Rattle.name_resolution.proofs.names.Names.contains.Goals as goal
-
-pub returns : goal.returns
-returns c = rw (← c.self.view_is) (c.contains.ensures ∙ list_any-strings c.args.name.now c.self.inside.texts.keys)
