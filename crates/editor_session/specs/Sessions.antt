@@ -30,7 +30,7 @@ pub data HearsAll (left : Option (List ℕ)) (taken : List ℕ) (heard : List (L
   to_end : IsAtEnd left → raw_lines true taken ≡ heard → HearsAll left taken heard
   to_command : IsHeard false taken heard → EndsByCommand heard → HearsAll left taken heard
 
--- the bytes are what an editor's output gets for these lines, by the readers and the rows that there are so far
+-- the bytes are what an editor's output gets for these lines, by all readers and rows
 abbrev pub Edits : Version → Bool → List (List ℕ) → List ℕ → List Version → Type 0
 Edits loaded ended lines bytes versions = IsEdited all_readers rows loaded ended lines bytes versions
 

@@ -18,12 +18,16 @@ pub struct Idle {
     pub lower: Vec<Vec<bool>>,
 }
 
-/// A feature of one side that is not idle at a state.
-#[derive(Clone, Copy, Debug)]
+/// So many features have a bit. Those past them are counted as live everywhere.
+const MASKED: usize = 64;
+
+/// The features of each side that are live at a state, those that are not idle, as bits.
+#[derive(Clone, Copy, Debug, Default)]
 struct Live {
-    state: usize,
-    feature: usize,
-    is_upper: bool,
+    upper: u64,
+    lower: u64,
+    /// Whether the state is listed, as one from which features are still to be followed back.
+    is_listed: bool,
 }
 
 /// The features that are idle at each state of a network. They are sought from the flags that test them back over the edges,
@@ -43,54 +47,144 @@ pub fn idle_features(alloc: Global, net: &Fsa<Tape>, actions: &Actions) -> Resul
 
 /// The features that no path from a state tests before it sets them.
 fn sought(alloc: Global, net: &Fsa<Tape>, actions: &Actions) -> Result<Idle, AllocError> {
-    let states = net.states();
-    let mut idle = Idle {
-        upper: rows_of(alloc, states, actions.features)?,
-        lower: rows_of(alloc, states, actions.features)?,
-    };
-    let back = backwards(alloc, net.edges())?;
-    let mut live = Vec::new(alloc);
-    for edge in net.edges() {
-        let (upper, lower) = actions_at(&actions.list, edge.letter);
-        wake_tested(&mut idle, &mut live, edge.from, upper, true)?;
-        wake_tested(&mut idle, &mut live, edge.from, lower, false)?;
+    let live = live_features(alloc, net, &actions.list)?;
+    let mut upper = Vec::with_capacity(alloc, live.len())?;
+    let mut lower = Vec::with_capacity(alloc, live.len())?;
+    for state in &live {
+        upper.push(idle_row(alloc, state.upper, actions.features)?)?;
+        lower.push(idle_row(alloc, state.lower, actions.features)?)?;
     }
-    let most = states.saturating_mul(actions.features).saturating_mul(2);
-    for _step in 0..most {
-        let Some(now) = live.pop() else {
-            return Ok(idle);
-        };
-        for edge in back.out(now.state) {
-            let (upper, lower) = actions_at(&actions.list, edge.letter);
-            let action = if now.is_upper { upper } else { lower };
-            if !is_set(action, now.feature) {
-                wake(
-                    &mut idle,
-                    &mut live,
-                    Live {
-                        state: edge.to,
-                        feature: now.feature,
-                        is_upper: now.is_upper,
-                    },
-                )?;
-            }
-        }
-    }
-    Ok(idle)
+    Ok(Idle { upper, lower })
 }
 
-/// Rows in which each feature is idle.
-fn rows_of(alloc: Global, states: usize, features: usize) -> Result<Vec<Vec<bool>>, AllocError> {
-    let mut rows = Vec::new(alloc);
-    for _state in 0..states {
-        rows.push(vec![in alloc; true; features]?)?;
+/// Which of so many features are idle, where these are live.
+fn idle_row(alloc: Global, live: u64, features: usize) -> Result<Vec<bool>, AllocError> {
+    let size = features.min(MASKED);
+    let mut row = Vec::with_capacity(alloc, size)?;
+    for feature in 0..size {
+        row.push(live & bit_of(feature) == 0)?;
     }
-    Ok(rows)
+    Ok(row)
+}
+
+/// The features that are live at each state: those that are tested there, followed back over the edges to where they are set.
+fn live_features(
+    alloc: Global,
+    net: &Fsa<Tape>,
+    actions: &[Action],
+) -> Result<Vec<Live>, AllocError> {
+    let states = net.states();
+    let mut live = vec![in alloc; Live::default(); states]?;
+    let mut grown = Vec::new(alloc);
+    for edge in net.edges() {
+        let (upper, lower) = actions_at(actions, edge.letter);
+        wake(
+            &mut live,
+            &mut grown,
+            edge.from,
+            tested_by(upper),
+            tested_by(lower),
+        )?;
+    }
+    if grown.is_empty() {
+        return Ok(live);
+    }
+    let back = backwards(alloc, net.edges())?;
+    // Each round but the last adds a bit to one of the states.
+    let most = states.saturating_mul(2 * MASKED);
+    for _round in 0..most {
+        if grown.is_empty() {
+            break;
+        }
+        grown = followed_back(alloc, &back, actions, &mut live, &grown)?;
+    }
+    Ok(live)
+}
+
+/// Follows the live features of these states back over one edge, and gives the states that got new ones.
+fn followed_back(
+    alloc: Global,
+    back: &EdgesByState<Tape>,
+    actions: &[Action],
+    live: &mut [Live],
+    states: &[usize],
+) -> Result<Vec<usize>, AllocError> {
+    let mut grown = Vec::new(alloc);
+    for state in states {
+        let now = taken(live, *state);
+        for edge in back.out(*state) {
+            let (upper, lower) = actions_at(actions, edge.letter);
+            wake(
+                live,
+                &mut grown,
+                edge.to,
+                now.upper & !set_by(upper),
+                now.lower & !set_by(lower),
+            )?;
+        }
+    }
+    Ok(grown)
+}
+
+/// What is live at a state, which is listed no more.
+fn taken(live: &mut [Live], state: usize) -> Live {
+    match live.get_mut(state) {
+        Some(now) => {
+            now.is_listed = false;
+            *now
+        }
+        None => Live::default(),
+    }
+}
+
+/// Adds features to those that are live at a state, and lists it where one of them is new.
+fn wake(
+    live: &mut [Live],
+    grown: &mut Vec<usize>,
+    state: usize,
+    upper: u64,
+    lower: u64,
+) -> Result<(), AllocError> {
+    let Some(now) = live.get_mut(state) else {
+        return Ok(());
+    };
+    if upper & !now.upper == 0 && lower & !now.lower == 0 {
+        return Ok(());
+    }
+    now.upper |= upper;
+    now.lower |= lower;
+    if now.is_listed {
+        return Ok(());
+    }
+    now.is_listed = true;
+    grown.push(state)?;
+    Ok(())
+}
+
+/// The bit of the feature that a flag tests.
+fn tested_by(action: Option<Action>) -> u64 {
+    match action {
+        Some(action) if does_test(action.kind) => bit_of(action.feature),
+        _ => 0,
+    }
+}
+
+/// The bit of the feature that a flag sets whatever it was.
+fn set_by(action: Option<Action>) -> u64 {
+    match action {
+        Some(action) if does_set(action.kind) => bit_of(action.feature),
+        _ => 0,
+    }
+}
+
+/// The bit of a feature, if it has one.
+fn bit_of(feature: usize) -> u64 {
+    if feature < MASKED { 1 << feature } else { 0 }
 }
 
 /// The edges, each turned round.
 fn backwards(alloc: Global, edges: &[Edge<Tape>]) -> Result<EdgesByState<Tape>, AllocError> {
-    let mut turned = Vec::new(alloc);
+    let mut turned = Vec::with_capacity(alloc, edges.len())?;
     for edge in edges {
         turned.push(Edge {
             from: edge.to,
@@ -99,46 +193,6 @@ fn backwards(alloc: Global, edges: &[Edge<Tape>]) -> Result<EdgesByState<Tape>, 
         })?;
     }
     EdgesByState::of(alloc, &turned)
-}
-
-/// The feature that a flag tests is not idle before it.
-fn wake_tested(
-    idle: &mut Idle,
-    live: &mut Vec<Live>,
-    state: usize,
-    action: Option<Action>,
-    is_upper: bool,
-) -> Result<(), AllocError> {
-    match action {
-        Some(action) if does_test(action.kind) => wake(
-            idle,
-            live,
-            Live {
-                state,
-                feature: action.feature,
-                is_upper,
-            },
-        ),
-        _ => Ok(()),
-    }
-}
-
-/// Takes a feature from the idle ones, and lists it where it was one of them.
-fn wake(idle: &mut Idle, live: &mut Vec<Live>, new: Live) -> Result<(), AllocError> {
-    let rows = if new.is_upper {
-        &mut idle.upper
-    } else {
-        &mut idle.lower
-    };
-    if new.state >= rows.len() {
-        return Ok(());
-    }
-    let row = &mut rows[new.state];
-    if new.feature < row.len() && row[new.feature] {
-        row[new.feature] = false;
-        live.push(new)?;
-    }
-    Ok(())
 }
 
 /// Whether the rows agree along each edge.

@@ -7,3 +7,4 @@ pub mod Epsilon
 pub mod Signatures
 pub mod Alike
 pub mod Rows
+pub mod Mixing

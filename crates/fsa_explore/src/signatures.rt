@@ -1,5 +1,6 @@
-ghost use Rattle.std.specs.Prelude.{◌≡◌, ◌++◌, List, IfOk, OnOk, map};
+ghost use Rattle.std.specs.Prelude.{◌≡◌, ◌++◌, ◌↔◌, List, IfOk, OnOk, Contains, map};
 ghost use Rattle.std.specs.List.{flat_map};
+ghost use Rattle.fsa_explore.specs.declared.signatures.Mark.{Mark};
 ghost use Rattle.fsa_explore.specs.Signatures.{IsSignature, edge_mark, end_number, known_class, mark_of, numbers};
 
 use fsa::Edge;
@@ -59,9 +60,9 @@ pub fn signature_of(
     ensures { IfOk result (λ signature. IsSignature is_final (map (edge_mark known.now states) edges.now) signature.items) }
 {
     let mut marks = marks_of(alloc, edges, known, states)?;
-    marks.sort_unstable();
-    marks.dedup();
-    let mut signature = Vec::new(alloc);
+    order_marks(&mut marks);
+    let size = marks.len().saturating_mul(3).saturating_add(1);
+    let mut signature = Vec::with_capacity(alloc, size)?;
     signature.push(end_number(is_final))?;
     add_marks(&marks, &mut signature)?;
     Ok(signature)
@@ -72,6 +73,22 @@ fn end_number(is_final: bool) -> usize
     ensures { result ≡ end_number is_final }
 {
     usize::from(is_final)
+}
+
+/// Sorts marks and keeps each once. Those of a network that was made in order need no sorting.
+fn order_marks(marks: &mut Vec<Mark>)
+    ensures { (m : Mark) → Contains marks.new.items m ↔ Contains marks.old.items m }
+{
+    if are_ascending(marks) {
+        return;
+    }
+    marks.sort_unstable();
+    marks.dedup();
+}
+
+/// Whether each mark is greater than the one before it.
+fn are_ascending(marks: &[Mark]) -> bool {
+    marks.iter().is_sorted_by(|a, b| a < b)
 }
 
 /// The marks of edges.

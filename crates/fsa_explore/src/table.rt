@@ -1,15 +1,51 @@
 ghost use Rattle.std.specs.Prelude.{◌≡◌, ◌<◌, ◌++◌, ◌⊎◌, ◌∷◌, [], Some, IfOk, OnOk, OnErr, length, slice_get};
+ghost use Rattle.std.specs.Cmp.Rules.{hashing};
+ghost use Rattle.std.specs.Hash as fed;
+ghost use Rattle.std.proofs.Common.{rules};
+ghost use Rattle.fsa_explore.specs.Mixing.{mixed};
 
 use indexmap::IndexSet;
 use std::alloc::{AllocError, Global};
+use std::hash::{Hash, Hasher};
 use std::marker::Model;
+
+/// Odd, with its bits in no order, so that each number of a list moves the whole hash.
+const MULTIPLIER: usize = 0x9e37_79b9_7f4a_7c15;
+
+/// A list of a table.
+#[derive(Debug, Drop, PartialEq, Eq)]
+struct Key {
+    list: Vec<usize>,
+}
+
+/// Hashed as one number, since a search looks up a list for each state and letter.
+impl Hash for Key {
+    ghost hash_input = { λ key. fed.usize (mixed key.list.items) };
+
+    ghost respects_eq = { Prim.search (hashing, rules) };
+
+    fn hash<H: Hasher>(&self, state: &mut H) {
+        mixed(&self.list).hash(state);
+    }
+}
+
+/// The number by which a list is hashed. Few others have the same.
+fn mixed(list: &[usize]) -> usize
+    ensures { result ≡ mixed list.now }
+{
+    let mut seed = 1;
+    'numbers: for number in list {
+        seed = MULTIPLIER.wrapping_mul(seed).wrapping_add(*number);
+    }
+    seed
+}
 
 /// Lists of states, numbered from 0 in the order in which they came, and found again by a hash. Contracts see
 /// the list of the lists.
 #[derive(Debug, Drop)]
 pub struct ListTable {
     /// The lists, each once. The place of a list is its number.
-    lists: IndexSet<Vec<usize>>,
+    lists: IndexSet<Key>,
 }
 
 impl Model for ListTable {
@@ -17,7 +53,7 @@ impl Model for ListTable {
 
     ghost Value = { List (List ℕ) };
 
-    ghost view = { λ table. map (λ list. list.items) table.lists.keys };
+    ghost view = { λ table. map (λ key. key.list.items) table.lists.keys };
 }
 
 impl ListTable {
@@ -42,7 +78,7 @@ impl ListTable {
         requires { number < length self.now }
         ensures { slice_get self.now number ≡ Some result.now }
     {
-        self.lists[number].as_slice()
+        self.lists[number].list.as_slice()
     }
 
     /// The number of a list, which is added where it isn't there.
@@ -51,9 +87,6 @@ impl ListTable {
         ensures kept { OnOk result ((self.new ≡ self.old) ⊎ (self.new ≡ self.old ++ list.now ∷ [])) }
         ensures err { OnErr result (self.new ≡ self.old) }
     {
-        if let Some(number) = self.lists.get_index_of(list) {
-            return Ok(number);
-        }
         self.insert(Vec::from_slice(alloc, list)?)
     }
 
@@ -63,7 +96,7 @@ impl ListTable {
         ensures kept { OnOk result ((self.new ≡ self.old) ⊎ (self.new ≡ self.old ++ list.items ∷ [])) }
         ensures err { OnErr result (self.new ≡ self.old) }
     {
-        let (number, _) = self.lists.insert_full(list)?;
+        let (number, _) = self.lists.insert_full(Key { list })?;
         Ok(number)
     }
 }

@@ -1,5 +1,5 @@
-ghost use Rattle.std.specs.Prelude.{◌≡◌, ℕ, Some, IfOk, IfSome, IsTrue, length, slice_get};
-ghost use Rattle.fsa_reduce.specs.Orders.{IsOrder};
+ghost use Rattle.std.specs.Prelude.{◌≡◌, ◌↔◌, Some, IfOk, IfSome, IsTrue, length, slice_get};
+ghost use Rattle.fsa_reduce.specs.Orders.{IsOrder, LeadOn, StandThere};
 
 use fsa::Edge;
 use fsa_explore::EdgesByState;
@@ -15,8 +15,15 @@ enum Visit {
 }
 
 /// Whether each edge leads to a later state, so that there is no loop.
-pub fn lead_on<L>(edges: &[Edge<L>]) -> bool {
-    edges.iter().all(|edge| edge.from < edge.to)
+pub fn lead_on<L>(edges: &[Edge<L>]) -> bool
+    ensures { IsTrue result ↔ LeadOn edges.now }
+{
+    for edge in edges {
+        if edge.from >= edge.to {
+            return false;
+        }
+    }
+    true
 }
 
 /// A place for each of so many states, so that edges lead to later places but for those that close a loop, or come from states that
@@ -100,17 +107,14 @@ fn places_of(alloc: Global, count: usize, states: &[usize]) -> Result<Vec<usize>
 
 /// Whether each state stands at its place, and the start at the first one.
 fn are_places(places: &[usize], states: &[usize]) -> bool
-    ensures { IsTrue result → IsOrder (length states.now) places.now }
+    ensures { IsTrue result ↔ ((length places.now ≡ length states.now) × (slice_get places.now 0 ≡ Some 0) × StandThere places.now states.now) }
 {
-    if places.len() != states.len() || !is_first(places) {
-        return false;
-    }
-    stand_there(places, states)
+    places.len() == states.len() && is_first(places) && stand_there(places, states)
 }
 
 /// Whether the start has the first place.
 fn is_first(places: &[usize]) -> bool
-    ensures { IsTrue result → slice_get places.now 0 ≡ Some 0 }
+    ensures { IsTrue result ↔ (slice_get places.now 0 ≡ Some 0) }
 {
     match places.first() {
         Some(place) => *place == 0,
@@ -120,7 +124,7 @@ fn is_first(places: &[usize]) -> bool
 
 /// Whether each state stands at its place.
 fn stand_there(places: &[usize], states: &[usize]) -> bool
-    ensures { IsTrue result → (state place : ℕ) → slice_get places.now state ≡ Some place → slice_get states.now place ≡ Some state }
+    ensures { IsTrue result ↔ StandThere places.now states.now }
 {
     for (state, place) in places.iter().enumerate() {
         if !stands_at(states, *place, state) {
@@ -132,7 +136,7 @@ fn stand_there(places: &[usize], states: &[usize]) -> bool
 
 /// Whether a state stands at a place.
 fn stands_at(states: &[usize], place: usize, state: usize) -> bool
-    ensures { IsTrue result → slice_get states.now place ≡ Some state }
+    ensures { IsTrue result ↔ (slice_get states.now place ≡ Some state) }
 {
     match states.get(place) {
         Some(found) => *found == state,

@@ -144,7 +144,7 @@ impl Alphabet {
         'symbols: for sym in word {
             text.push_str(self.text_of(*sym))?;
         }
-        Ok(Text::from(text))
+        Text::from_string(text)
     }
 
     /// The text of a symbol of the alphabet.

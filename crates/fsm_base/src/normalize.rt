@@ -52,7 +52,7 @@ pub fn nfc(alloc: Global, text: &str) -> Result<Text, AllocError>
     if text.is_ascii() {
         return Text::of(alloc, text);
     }
-    Ok(Text::from(to_nfc(alloc, text)?))
+    Text::from_string(to_nfc(alloc, text)?)
 }
 
 /// The text of a source, in Normalization Form C.

@@ -11,21 +11,22 @@ use std::alloc::{AllocError, Global};
 use std::cmp::Ordering;
 use std::hash::{Hash, Hasher};
 use std::marker::Model;
+use std::sync::ArcStr;
 
-/// A text, ordered by its bytes. Contracts see it as the list of its bytes in UTF-8.
+/// A text, ordered by its bytes. A clone of it shares its bytes, so that it takes no memory. Contracts see it as the list of its bytes in UTF-8.
 #[derive(Debug, Drop)]
 pub struct Text {
     /// The text.
-    inner: String,
+    inner: ArcStr,
 }
 
 impl Model for Text {
     ghost use Rattle.std.specs.Prelude.{List, ℕ};
-    ghost use Rattle.std.specs.String.{string_bytes};
+    ghost use Rattle.std.specs.Arc.{arc_str_bytes};
 
     ghost Value = { List ℕ };
 
-    ghost view = { λ t. string_bytes t.inner };
+    ghost view = { λ t. arc_str_bytes t.inner };
 }
 
 impl Text {
@@ -34,7 +35,7 @@ impl Text {
         ensures { IfOk result (λ text. text ≡ s.now) }
     {
         Ok(Text {
-            inner: String::from_str(alloc, s)?,
+            inner: ArcStr::from_str(alloc, s)?,
         })
     }
 
@@ -45,20 +46,13 @@ impl Text {
         self.inner.as_str()
     }
 
-    /// The same text as a string, with no copy.
-    pub fn into_string(self) -> String
-        ensures { string_bytes result ≡ self }
+    /// A text that takes a string over, with no copy.
+    pub fn from_string(text: String) -> Result<Text, AllocError>
+        ensures { IfOk result (λ it. it ≡ string_bytes text) }
     {
-        self.inner
-    }
-}
-
-/// Takes a string over, with no copy.
-impl From<String> for Text {
-    ghost from_gives = { λ s text. text ≡ string_bytes s };
-
-    fn from(inner: String) -> Text {
-        Text { inner }
+        Ok(Text {
+            inner: ArcStr::from_string(text)?,
+        })
     }
 }
 

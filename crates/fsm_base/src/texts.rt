@@ -1,4 +1,4 @@
-ghost use Rattle.std.specs.Prelude.{◌≡◌, ◌==◌, ◌≤◌, [], false, Some, length, take, slice_get, MatchOption, IfOk, OnOk, OnErr};
+ghost use Rattle.std.specs.Prelude.{◌≡◌, ◌==◌, ◌≤◌, ◌↔◌, [], false, Some, length, take, slice_get, MatchOption, IfOk, IsTrue, OnOk, OnErr};
 ghost use Rattle.std.specs.List.{list_any};
 ghost use Rattle.std.specs.Option.{option_map};
 ghost use Rattle.std.specs.Str.{bytes_eq};
@@ -126,10 +126,20 @@ impl TextTable {
     {
         let place = self.hints.place_for(text)?;
         let found = self.texts.get_index(place)?;
-        if found.as_str() == text {
+        if are_same(found.as_str(), text) {
             Some(place)
         } else {
             None
         }
+    }
+}
+
+/// Whether two texts are the same. Most have one byte, which is compared by itself.
+fn are_same(one: &str, other: &str) -> bool
+    ensures { IsTrue result ↔ (one.now ≡ other.now) }
+{
+    match (one.as_bytes(), other.as_bytes()) {
+        ([first], [second]) => first == second,
+        _ => one == other,
     }
 }

@@ -15,7 +15,7 @@ fn counted(alloc: Global, text: &str, count: usize) -> Result<Text, AllocError>
     ensures { IfOk result (λ analysis. analysis ≡ text.now ++ codes "(" ++ decimal count ++ codes ")") }
 {
     let analysis = format!(in alloc; "{text}({count})")?;
-    Ok(Text::from(analysis))
+    Text::from_string(analysis)
 }
 
 /// The first of texts, with their number where there are several.

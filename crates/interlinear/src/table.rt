@@ -177,6 +177,6 @@ impl GlossTable {
                 }
             }
         }
-        Ok(Text::from(gloss))
+        Text::from_string(gloss)
     }
 }

@@ -21,7 +21,7 @@ fn end_piece(alloc: Global, piece: &mut String, pieces: &mut Vec<Text>) -> Resul
     ensures pieces { OnOk result (pieces.new.items ≡ pieces.old.items ++ string_bytes piece.old ∷ []) }
 {
     let whole = std::mem::replace(piece, String::new(alloc));
-    pieces.push(Text::from(whole))?;
+    pieces.push(Text::from_string(whole)?)?;
     Ok(())
 }
 

@@ -59,6 +59,9 @@ fn side_mark(side: Option<Sym>) -> u64
 pub struct StepTable {
     /// The state of each step.
     states: IndexMap<Step, usize>,
+    /// For each state a place in `states` at which a step from there may be, most often the last one. It is looked at before
+    /// a step is hashed, since sorted words follow the step that was added last.
+    latest: Vec<usize>,
 }
 
 impl Model for StepTable {
@@ -77,6 +80,7 @@ impl StepTable {
     {
         StepTable {
             states: IndexMap::new(alloc),
+            latest: Vec::new(alloc),
         }
     }
 
@@ -84,7 +88,10 @@ impl StepTable {
     pub fn get(&self, step: Step) -> Option<usize>
         ensures { MatchOption result ((to : ℕ) → ¬ Contains self.now (step, to)) (λ to. Contains self.now (step, to)) }
     {
-        self.states.get(&step).copied()
+        match self.hinted(step) {
+            Some(to) => Some(to),
+            None => self.states.get(&step).copied(),
+        }
     }
 
     /// Notes the state that a step leads to, for which the table has none.
@@ -92,7 +99,28 @@ impl StepTable {
         requires { (k : ℕ) → ¬ Contains self.old (step, k) }
         ensures { OnOk result (self.new ≡ self.old ++ (step, to) ∷ []) }
     {
+        let place = self.states.len();
         self.states.insert(step, to)?;
+        note(&mut self.latest, step.from, place);
         Ok(())
+    }
+
+    /// The state that a step leads to, if it is the one that the hint of the state that it leaves leads to.
+    fn hinted(&self, step: Step) -> Option<usize>
+        ensures { MatchOption result (Unit {0}) (λ to. Contains self.now (step, to)) }
+    {
+        let place = *self.latest.get(step.from)?;
+        let (noted, to) = self.states.get_index(place)?;
+        if *noted == step { Some(*to) } else { None }
+    }
+}
+
+/// Notes where the last step from a state is. Without memory for hints there are none.
+fn note(latest: &mut Vec<usize>, from: usize, place: usize) {
+    if latest.len() <= from && latest.resize(from.saturating_add(1), 0).is_err() {
+        return;
+    }
+    if let Some(noted) = latest.get_mut(from) {
+        *noted = place;
     }
 }

@@ -7,7 +7,7 @@ ghost use Rattle.lexc_grammar.specs.declared.statements.Ending.TheVariants as en
 
 use crate::words::next_of;
 use fsm_base::Text;
-use lexc_forms::{DeclaredSymbols, Letter, read_form};
+use lexc_forms::{DeclaredSymbols, Letter, SharedTexts, read_form};
 use lexc_grammar::Ending;
 use lexc_tokens::Token;
 use regex_ast::{Expr, Form, Raw, ReadError, Why};
@@ -26,6 +26,7 @@ pub struct EntryFault {
 /// What an entry says whose form is this, or has this fault, with these tokens behind it: one word, and then `;`.
 fn behind_form(
     alloc: Global,
+    texts: &mut SharedTexts,
     line: u32,
     form: Result<Form<Raw>, EntryFault>,
     more: &[Token],
@@ -43,13 +44,14 @@ fn behind_form(
             line,
             why: Why::Statement,
         }),
-        Ending::Ended => behind_ended(alloc, line, form, more),
+        Ending::Ended => behind_ended(alloc, texts, line, form, more),
     }
 }
 
 /// The same where the entry ends with its `;`.
 fn behind_ended(
     alloc: Global,
+    texts: &mut SharedTexts,
     line: u32,
     form: Result<Form<Raw>, EntryFault>,
     more: &[Token],
@@ -71,7 +73,7 @@ fn behind_ended(
             });
         }
     };
-    match next_of(alloc, next) {
+    match next_of(alloc, texts, next) {
         Ok(next) => Ok((form, next)),
         Err(error) => Err(ReadError::Memory(error)),
     }
@@ -94,6 +96,7 @@ fn only_word(tokens: &[Token]) -> Option<&[Letter]>
 /// What an entry says whose expression reads so, with these tokens behind it.
 fn behind_expression(
     alloc: Global,
+    texts: &mut SharedTexts,
     line: u32,
     read: Result<Expr<Raw>, ReadError>,
     more: &[Token],
@@ -103,10 +106,17 @@ fn behind_expression(
     ensures ended { OnOk result (ending ≡ endings.Ended) }
 {
     match read {
-        Ok(expr) => behind_form(alloc, line, Ok(Form::Pairs(expr)), more, ending),
+        Ok(expr) => behind_form(alloc, texts, line, Ok(Form::Pairs(expr)), more, ending),
         Err(ReadError::Memory(error)) => Err(ReadError::Memory(error)),
         Err(ReadError::Fault { line: at, why }) => {
-            behind_fault(alloc, line, EntryFault { line: at, why }, more, ending)
+            behind_fault(
+                alloc,
+                texts,
+                line,
+                EntryFault { line: at, why },
+                more,
+                ending,
+            )
         }
     }
 }
@@ -115,6 +125,7 @@ fn behind_expression(
 /// the form.
 fn behind_fault(
     alloc: Global,
+    texts: &mut SharedTexts,
     line: u32,
     fault: EntryFault,
     more: &[Token],
@@ -138,7 +149,7 @@ fn behind_fault(
                 why: Why::LimitNesting,
             }),
         },
-        _ => behind_form(alloc, line, Err(fault), more, ending),
+        _ => behind_form(alloc, texts, line, Err(fault), more, ending),
     }
 }
 
@@ -156,6 +167,7 @@ fn no_sides(alloc: Global) -> Form<Raw>
 fn behind_word(
     alloc: Global,
     declared: &DeclaredSymbols,
+    texts: &mut SharedTexts,
     line: u32,
     letters: &[Letter],
     more: &[Token],
@@ -164,20 +176,21 @@ fn behind_word(
     ensures said { IsSaidByWord declared.now line letters.now more.now ending result }
     ensures ended { OnOk result (ending ≡ endings.Ended) }
 {
-    match read_form(alloc, declared, letters) {
-        Ok(Some(form)) => behind_form(alloc, line, Ok(form), more, ending),
+    match read_form(alloc, declared, texts, letters) {
+        Ok(Some(form)) => behind_form(alloc, texts, line, Ok(form), more, ending),
         Ok(None) => {
             let fault = EntryFault {
                 line,
                 why: Why::Statement,
             };
-            behind_form(alloc, line, Err(fault), more, ending)
+            behind_form(alloc, texts, line, Err(fault), more, ending)
         }
         Err(error) => Err(ReadError::Memory(error)),
     }
 }
 
-/// What the tokens of an entry say that begins in this line: its form, and the lexicon that a path goes on in.
+/// What the tokens of an entry say that begins in this line: its form, and the lexicon that a path goes on in. Texts that come often are
+/// shared by way of `texts`.
 ///
 /// # Errors
 ///
@@ -187,6 +200,7 @@ fn behind_word(
 pub fn read_entry(
     alloc: Global,
     declared: &DeclaredSymbols,
+    texts: &mut SharedTexts,
     line: u32,
     tokens: &[Token],
     ending: Ending,
@@ -196,19 +210,19 @@ pub fn read_entry(
     ensures ended { OnOk result (ending ≡ endings.Ended) }
 {
     let Some((first, more)) = tokens.split_first() else {
-        return behind_form(alloc, line, Ok(no_sides(alloc)), tokens, ending);
+        return behind_form(alloc, texts, line, Ok(no_sides(alloc)), tokens, ending);
     };
     match first {
         Token::Word(word) => {
             if more.is_empty() {
-                return behind_form(alloc, line, Ok(no_sides(alloc)), tokens, ending);
+                return behind_form(alloc, texts, line, Ok(no_sides(alloc)), tokens, ending);
             }
-            behind_word(alloc, declared, line, word.letters(), more, ending)
+            behind_word(alloc, declared, texts, line, word.letters(), more, ending)
         }
         Token::Semicolon => unreachable!(),
         Token::Expression(text) => {
             let read = read_expr(alloc, text.as_str(), line);
-            behind_expression(alloc, line, read, more, ending)
+            behind_expression(alloc, texts, line, read, more, ending)
         }
     }
 }

@@ -5,7 +5,7 @@ ghost use Rattle.lexc_grammar.specs.declared.statements.Keyword.TheVariants as k
 ghost use Rattle.lexc_entries.specs.Words.{IsKeyword};
 
 use fsm_base::Text;
-use lexc_forms::{Letter, text_of};
+use lexc_forms::{Letter, SharedTexts};
 use lexc_grammar::Keyword;
 use std::alloc::{AllocError, Global};
 
@@ -93,11 +93,15 @@ pub fn keyword(letters: &[Letter]) -> Option<Keyword>
 }
 
 /// The lexicon that a word names; `None` where it is `#`.
-pub fn next_of(alloc: Global, letters: &[Letter]) -> Result<Option<Text>, AllocError>
+pub fn next_of(
+    alloc: Global,
+    texts: &mut SharedTexts,
+    letters: &[Letter],
+) -> Result<Option<Text>, AllocError>
     ensures { IfOk result (λ next. next ≡ next_of letters.now) }
 {
     if is_hash(letters) {
         return Ok(None);
     }
-    Ok(Some(text_of(alloc, letters)?))
+    Ok(Some(texts.of_word(alloc, letters)?))
 }

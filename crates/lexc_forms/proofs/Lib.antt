@@ -5,3 +5,4 @@ pub mod Symbols
 pub mod Begins
 pub mod Pieces
 pub mod Sides
+pub mod Equal

@@ -5,6 +5,7 @@ ghost use Rattle.lexc_forms.specs.Forms.{CutsInto, HasNoPiece, IsLongestPiece, a
 
 use crate::flags::{encode, flag_front};
 use crate::letters::{Letter, characters};
+use crate::sharing::SharedTexts;
 use crate::table::DeclaredSymbols;
 use regex_ast::{Piece, Raw};
 use std::alloc::{AllocError, Global};
@@ -55,23 +56,29 @@ fn is_nothing(letter: Letter) -> bool
 }
 
 /// Puts what a letter gives alone behind pieces.
-fn push_alone(alloc: Global, letter: Letter, pieces: &mut Vec<Piece<Raw>>) -> Result<(), AllocError>
+fn push_alone(
+    alloc: Global,
+    texts: &mut SharedTexts,
+    letter: Letter,
+    pieces: &mut Vec<Piece<Raw>>,
+) -> Result<(), AllocError>
     ensures { OnOk result (pieces.new.items ≡ pieces.old.items ++ alone letter) }
 {
     if is_nothing(letter) {
         return Ok(());
     }
-    let symbol = encode(alloc, &[letter.character()])?;
+    let symbol = texts.of_character(alloc, letter.character())?;
     pieces.push(Piece::Symbol(Raw::Quoted(symbol)))?;
     Ok(())
 }
 
 /// The pieces of letters, from left to right: at each place the longest declared symbol or flag diacritic that begins there,
 /// whether its characters are escaped or not. Where none begins, a `0` that isn't escaped gives nothing, and any other letter
-/// is a symbol.
+/// is a symbol. What comes often is shared by way of `texts`.
 pub fn cut(
     alloc: Global,
     declared: &DeclaredSymbols,
+    texts: &mut SharedTexts,
     letters: &[Letter],
 ) -> Result<Vec<Piece<Raw>>, AllocError>
     ensures { IfOk result (λ pieces. CutsInto declared.now letters.now pieces.items) }
@@ -88,7 +95,7 @@ pub fn cut(
                 text = text.split_at(len).1;
             }
             None => {
-                push_alone(alloc, *first, &mut pieces)?;
+                push_alone(alloc, texts, *first, &mut pieces)?;
                 rest = others;
                 text = text.split_at(1).1;
             }

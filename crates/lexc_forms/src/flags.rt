@@ -18,7 +18,7 @@ pub fn encode(alloc: Global, characters: &[char]) -> Result<Text, AllocError>
     'characters: for character in characters {
         text.push(*character)?;
     }
-    Ok(Text::from(text))
+    Text::from_string(text)
 }
 
 /// The place of the first `@`.

@@ -1,10 +1,12 @@
-ghost use Rattle.std.specs.Prelude.{◌≡◌, ◌<◌, IfOk, IfSome, MatchOption, length};
+ghost use Rattle.std.specs.Prelude.{◌≡◌, ◌<◌, false, IfOk, IfSome, MatchOption, length};
 ghost use Rattle.std.specs.List.{list_any, position};
 ghost use Rattle.lexc_forms.specs.Letters.{is_colon};
 ghost use Rattle.lexc_forms.specs.Forms.{HasNoSides, HasSides, IsForm};
 
+use crate::copies::copy_of;
 use crate::cutting::cut;
 use crate::letters::Letter;
+use crate::sharing::SharedTexts;
 use crate::table::DeclaredSymbols;
 use regex_ast::{Form, Raw};
 use std::alloc::{AllocError, Global};
@@ -51,19 +53,38 @@ fn split_sides(letters: &[Letter]) -> Option<Sides<'_>>
     Some(Sides { upper, lower })
 }
 
+/// What a word without `:` adds to the two sides of a path, which is cut once.
+fn same_sides(
+    alloc: Global,
+    declared: &DeclaredSymbols,
+    texts: &mut SharedTexts,
+    word: &[Letter],
+) -> Result<Form<Raw>, AllocError>
+    requires { list_any is_colon word.now ≡ false }
+    ensures { IfOk result (IsForm declared.now word.now) }
+{
+    let upper = cut(alloc, declared, texts, word)?;
+    let lower = copy_of(alloc, &upper)?;
+    Ok(Form::Sides { upper, lower })
+}
+
 /// What a word adds to the two sides of a path. A `:` that isn't escaped stands between the sides, either of which may be
 /// empty; where there is none, both sides are the word. `None` where there is a second one.
 pub fn read_form(
     alloc: Global,
     declared: &DeclaredSymbols,
+    texts: &mut SharedTexts,
     word: &[Letter],
 ) -> Result<Option<Form<Raw>>, AllocError>
     ensures { IfOk result (λ form. MatchOption form (HasNoSides word.now) (IsForm declared.now word.now)) }
 {
+    if !has_colon(word) {
+        return Ok(Some(same_sides(alloc, declared, texts, word)?));
+    }
     let Some(sides) = split_sides(word) else {
         return Ok(None);
     };
-    let upper = cut(alloc, declared, sides.upper)?;
-    let lower = cut(alloc, declared, sides.lower)?;
+    let upper = cut(alloc, declared, texts, sides.upper)?;
+    let lower = cut(alloc, declared, texts, sides.lower)?;
     Ok(Some(Form::Sides { upper, lower }))
 }

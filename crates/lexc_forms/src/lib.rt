@@ -3,19 +3,23 @@
 //!
 //! - [`Letter`]: a character of a word, escaped or not; [`text_of`]: the text of letters.
 //! - [`DeclaredSymbols`]: the declared multicharacter symbols.
+//! - [`SharedTexts`]: texts that come often, which are made once.
 //! - [`cut`]: the pieces of letters; [`read_form`]: the two sides of a word.
 //!
 //! `specs/Forms.antt` has the definitions.
 #![tactic(auto)]
 
+mod copies;
 mod cutting;
 mod flags;
 mod forms;
 mod letters;
+mod sharing;
 mod table;
 
 pub use cutting::cut;
 pub use flags::{encode, marked_len};
 pub use forms::read_form;
 pub use letters::{Letter, characters, text_of};
+pub use sharing::SharedTexts;
 pub use table::DeclaredSymbols;

@@ -3,13 +3,16 @@ use Rattle.std.proofs.Common.{◌≡◌, ◌+◌, ◌-◌, ◌^◌, ◌<◌, ◌
 use Rattle.std.proofs.lemmas.List.{drop-drop}
 use Rattle.std.specs.Result.{IsErrAnd}
 use Rattle.std.specs.Str.{IsUtf8}
+use Rattle.regex_ast.specs.declared.fault.ReadError.{ReadError}
+use Rattle.regex_ast.specs.declared.fault.ReadError.TheVariants.{Fault, Memory}
 use Rattle.regex_reader.specs.Files.{FaultAt}
 use Rattle.regex_tokens.specs.Cuts.{newlines}
+use Rattle.lexc_grammar.specs.Entries.{fault_at}
 use Rattle.lexc_grammar.specs.Files.{Says}
 use Rattle.lexc_grammar.specs.Lexicons.{Known, LexiconAt, nothing_known}
 use Rattle.lexc_grammar.specs.declared.statements.Stage.{Stage}
 use Rattle.lexc_grammar.specs.declared.statements.Stage.TheVariants.{Beginning}
-use Rattle.lexc_reader.specs.Answers.{IsStep}
+use Rattle.lexc_reader.specs.Answers.{IsRead, IsStatementRead, IsStep}
 use Rattle.lexc_reader.specs.declared.statements.Step.{Step}
 use Rattle.lexc_reader.proofs.Newlines.{newlines_chars}
 
@@ -43,3 +46,12 @@ module _ (items rest : List ℕ) (len lines : ℕ) (rest_is : rest ≡ drop len 
       let here : Says lines step.stage new (drop step.len rest) answer =
       subst (λ (n : ℕ). Says n step.stage new (drop step.len rest) answer) (sym whole) (subst (λ (z : List ℕ). Says (newlines items + 1) step.stage new z answer) (sym behind_is) says)
       in before answer (subst (λ (z : List ℕ). Says (newlines items + 1) stage known z answer) rest_is (subst (λ (n : ℕ). Says n stage known rest answer) whole (is.goes_on answer here)))
+
+-- the fault of a statement is that of the text
+pub fault_read : (text items rest : List ℕ) (len lines : ℕ) (stage : Stage) (known new : Known) (error : ReadError) → items ≡ chars text → rest ≡ drop len items → lines ≡ newlines items + 1
+    → GoesOn items stage known (drop len items) → IsStatementRead lines stage known rest new (Err error) → IsRead text (Err error)
+fault_read text items rest len lines stage known new (Fault line reason) items_are rest_is whole before says =
+    let here : Says (newlines items + 1) stage known (drop len items) (fault_at line reason) =
+    subst (λ (z : List ℕ). Says (newlines items + 1) stage known z (fault_at line reason)) rest_is (subst (λ (n : ℕ). Says n stage known rest (fault_at line reason)) whole says)
+    in subst (λ (z : List ℕ). Says (newlines z + 1) Beginning nothing_known z (fault_at line reason)) items_are (before (fault_at line reason) here)
+fault_read text items rest len lines stage known new (Memory refused) items_are rest_is whole before says = says

@@ -41,7 +41,7 @@ pub fn read_lexc(alloc: Global, text: &str) -> Result<Vec<Lexicon<Raw>>, ReadErr
     ensures { IsRead text.now result }
 {
     let characters = characters(alloc, text)?;
-    let mut state = State::new(alloc);
+    let mut state = State::new(alloc)?;
     let mut stage = Stage::Beginning;
     let mut len = 0;
     let mut line = 1;

@@ -8,7 +8,7 @@ ghost use Rattle.regex_ast.specs.declared.expr.Raw.TheVariants as raws;
 ghost use Rattle.lexc_reader.specs.Answers.{IsAdded, known_of};
 
 use fsm_base::{Text, TextTable};
-use lexc_forms::DeclaredSymbols;
+use lexc_forms::{DeclaredSymbols, SharedTexts};
 use regex_ast::{Entry, Form, Lexicon, Piece, Raw, Why};
 use std::alloc::{AllocError, Global};
 
@@ -33,6 +33,8 @@ pub struct State {
     pub count: usize,
     /// The features that flags are about.
     pub features: TextTable,
+    /// Texts that come often.
+    pub texts: SharedTexts,
 }
 
 /// A side that is one symbol.
@@ -69,21 +71,22 @@ fn add_features_of(features: &mut TextTable, form: &Form<Raw>) -> Result<(), All
 
 impl State {
     /// Nothing.
-    pub fn new(alloc: Global) -> State
-        ensures { known_of result ≡ nothing_known }
+    pub fn new(alloc: Global) -> Result<State, AllocError>
+        ensures { IfOk result (λ state. known_of state ≡ nothing_known) }
     {
-        State {
+        Ok(State {
             declared: DeclaredSymbols::new(alloc),
             finished: Vec::new(alloc),
             current: Lexicon {
-                name: Text::from(String::new(alloc)),
+                name: Text::of(alloc, "")?,
                 line: 0,
                 entries: Vec::new(alloc),
             },
             names: TextTable::new(alloc),
             count: 0,
             features: TextTable::new(alloc),
-        }
+            texts: SharedTexts::new(alloc),
+        })
     }
 
     /// A declared symbol.

@@ -216,6 +216,7 @@ fn read_lexicon_entry(
     let (form, next) = read_entry(
         alloc,
         &state.declared,
+        &mut state.texts,
         found.line,
         &entry.tokens,
         entry.ending,

@@ -1,3 +1,3 @@
-mod Lexicons
+pub mod Lexicons
 mod Numbering
 mod Symbols

@@ -62,6 +62,15 @@ fn add_form<'a, A>(
     }
 }
 
+/// The leaves that stand in a form, in the order of their places.
+pub fn form_places<A>(alloc: Global, form: &Form<A>) -> Result<Vec<Place<&A>>, AllocError>
+    ensures { IfOk result (λ found. places_behind found.items ≡ places_in_form (form_of form.now)) }
+{
+    let mut found = Vec::new(alloc);
+    add_form(alloc, form, &mut found)?;
+    Ok(found)
+}
+
 /// Adds the leaves of entries.
 fn add_entries<'a, A>(
     alloc: Global,

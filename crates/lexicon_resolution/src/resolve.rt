@@ -98,19 +98,19 @@ fn resolve_entry(
     })
 }
 
-/// Entries with their leaves resolved.
+/// Entries with their leaves resolved. Each is given back as soon as it is resolved, so that a large lexicon isn't there twice.
 fn resolve_entries(
     alloc: Global,
     names: &Names,
     table: &SymbolTable,
-    entries: &[Entry<Raw>],
+    entries: Vec<Entry<Raw>>,
 ) -> Result<Vec<Entry<Atom>>, AllocError>
-    ensures entries { IfOk result (λ found. map entry_of found.items ≡ map (entry_in names.now table.now) (map entry_of entries.now)) }
-    ensures lines { IfOk result (λ found. map (λ e. e.line) found.items ≡ map (λ e. e.line) entries.now) }
+    ensures entries { IfOk result (λ found. map entry_of found.items ≡ map (entry_in names.now table.now) (map entry_of entries.items)) }
+    ensures lines { IfOk result (λ found. map (λ e. e.line) found.items ≡ map (λ e. e.line) entries.items) }
 {
-    let mut found = Vec::new(alloc);
+    let mut found = Vec::with_capacity(alloc, entries.len())?;
     'entries: for entry in entries {
-        found.push(resolve_entry(alloc, names, table, entry)?)?;
+        found.push(resolve_entry(alloc, names, table, &entry)?)?;
     }
     Ok(found)
 }
@@ -120,31 +120,35 @@ fn resolve_lexicon(
     alloc: Global,
     names: &Names,
     table: &SymbolTable,
-    lexicon: &Lexicon<Raw>,
+    lexicon: Lexicon<Raw>,
 ) -> Result<Lexicon<Atom>, AllocError>
-    ensures lexicon { IfOk result (λ found. lexicon_of found ≡ lexicon_in names.now table.now (lexicon_of lexicon.now)) }
-    ensures lines { IfOk result (λ found. lines_of found ≡ lines_of lexicon.now) }
+    ensures lexicon { IfOk result (λ found. lexicon_of found ≡ lexicon_in names.now table.now (lexicon_of lexicon)) }
+    ensures lines { IfOk result (λ found. lines_of found ≡ lines_of lexicon) }
 {
-    let name = lexicon.name.clone()?;
-    let entries = resolve_entries(alloc, names, table, &lexicon.entries)?;
+    let Lexicon {
+        name,
+        line,
+        entries,
+    } = lexicon;
+    let entries = resolve_entries(alloc, names, table, entries)?;
     Ok(Lexicon {
         name,
-        line: lexicon.line,
+        line,
         entries,
     })
 }
 
 /// Lexicons with their leaves resolved, where these names are defined and this table has the symbols: a leaf of an
 /// expression is a symbol, by its number, or a name, by its place, and a letter on a side is a symbol. Lines and the names
-/// of lexicons stay.
+/// of lexicons stay. The lexicons are used up.
 pub fn resolve_lexicons(
     alloc: Global,
     names: &Names,
     table: &SymbolTable,
-    lexicons: &[Lexicon<Raw>],
+    lexicons: Vec<Lexicon<Raw>>,
 ) -> Result<Vec<Lexicon<Atom>>, AllocError>
-    ensures lexicons { IfOk result (λ found. map lexicon_of found.items ≡ map (lexicon_in names.now table.now) (map lexicon_of lexicons.now)) }
-    ensures lines { IfOk result (λ found. map lines_of found.items ≡ map lines_of lexicons.now) }
+    ensures lexicons { IfOk result (λ found. map lexicon_of found.items ≡ map (lexicon_in names.now table.now) (map lexicon_of lexicons.items)) }
+    ensures lines { IfOk result (λ found. map lines_of found.items ≡ map lines_of lexicons.items) }
 {
     let mut found = Vec::new(alloc);
     'lexicons: for lexicon in lexicons {

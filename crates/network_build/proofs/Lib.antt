@@ -1,6 +1,7 @@
 pub mod Bodies
 pub mod Built
 mod Free
+mod Gathering
 pub mod Grammars
 mod Held
 mod Lists

@@ -1,7 +1,6 @@
 -- A body is built over its alphabet and over its own symbols, and which symbols its network has.
-use Rattle.std.proofs.Common.{◌≡◌, ◌↔◌, ◌⊎◌, ℕ, false, List, [], All, Contains, IsTrue, Result, Ok, Err, IfOk, refl, sym, subst, ap, ◌∙◌, inl, inr}
+use Rattle.std.proofs.Common.{◌≡◌, ◌↔◌, ◌⊎◌, ℕ, false, List, [], All, Contains, IsTrue, Result, Ok, Err, IfOk, refl, sym, subst, inl, inr}
 use Rattle.std.proofs.lemmas.List.Elements.{All-nil, All-head, All-contains, All-contains_itself, All-weaker}
-use Rattle.std.specs.Borrow.{Bor}
 use Rattle.fsm_base.specs.Alphabet.{symbols_of}
 use Rattle.fsm_base.specs.declared.letters.Bound.{Bound}
 use Rattle.fsm_base.specs.declared.letters.Bound.TheVariants.{Inner, Edge}
@@ -23,7 +22,6 @@ use Rattle.expr_kinds.specs.Built.{IsBuiltBy}
 use Rattle.expr_kinds.specs.declared.form.Kind.TheVariants.{Relation}
 use Rattle.expr_meaning.specs.Operators.{inner}
 use Rattle.expr_leaves.specs.Alphabet.{uses_alphabet}
-use Rattle.expr_leaves.specs.Leaves.{seen}
 use Rattle.expr_spelling.proofs.Alphabets.{alphabet_free}
 use Rattle.lexicon_spelling.proofs.Alphabets.{lexicons_free}
 use Rattle.grammar_pairs.specs.Laws.{HasLeaves}
@@ -89,10 +87,6 @@ network_has symbols (Pairs m) over s (pair, used, side) =
 -- the symbols are those that stand in the body and in its parts
 abbrev pub AreOwn : List Symbol → Body Atom → List Part → Type 0
 AreOwn own body parts = (s : Symbol) → Contains own s ↔ (Contains (body_leaves body) (Sym s) ⊎ PartsUse parts s)
-
-pub own_by_leaves : (own : List Symbol) (body : Body Atom) (parts : List Part) (given found : List (Bor Atom)) → given ≡ found → seen found ≡ body_leaves body
-    → ((s : Symbol) → Contains own s ↔ (Contains (seen given) (Sym s) ⊎ PartsUse parts s)) → AreOwn own body parts
-own_by_leaves own body parts given found is leaves among s = subst (λ (xs : List Atom). Contains own s ↔ (Contains xs (Sym s) ⊎ PartsUse parts s)) (ap seen is ∙ leaves) (among s)
 
 module _ (parts : List Part) (alphabet own : List Symbol) (body : Body Atom) (mine : AreOwn own body parts) where
   -- the parts are over the own symbols

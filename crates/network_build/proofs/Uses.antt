@@ -1,8 +1,6 @@
--- The symbols among leaves, gathered leaf by leaf.
-use Rattle.std.proofs.Common.{◌≡◌, ◌↔◌, ◌⊎◌, ◌+◌, ◌<◌, ◌++◌, ℕ, List, [], ◌∷◌, Some, Option, Contains, length, take, get_or, sym, ap, subst, ◌∙◌, inl, inr}
-use Rattle.std.proofs.lemmas.List.{take_more, map-append}
+-- The symbols in networks and of single leaves, gathered one by one.
+use Rattle.std.proofs.Common.{◌≡◌, ◌↔◌, ◌⊎◌, ◌+◌, ◌++◌, ℕ, List, [], ◌∷◌, Some, Option, Contains, take, sym, ap, subst, ◌∙◌, inl, inr}
 use Rattle.std.proofs.lemmas.List.Elements.{Contains-append_left, Contains-push, Contains-push_cases}
-use Rattle.std.specs.Borrow.{Bor}
 use Rattle.fsm_base.specs.declared.letters.Sym.{Sym as Symbol}
 use Rattle.fsm_base.specs.declared.letters.Bound.{Bound}
 use Rattle.fsm_base.specs.declared.letters.Bound.TheVariants.{Inner}
@@ -16,25 +14,10 @@ use Rattle.network_expr.specs.declared.parts.Part.{Part}
 use Rattle.network_build.specs.Networks.{IsOn, UsesSymbol}
 use Rattle.regex_ast.specs.declared.expr.Atom.{Atom}
 use Rattle.regex_ast.specs.declared.expr.Atom.TheVariants.{Sym}
-use Rattle.expr_leaves.specs.Leaves.{seen}
-
--- what a list has with one more
-pub pushed : (ks : List Symbol) (k s : Symbol) → Contains (ks ++ k ∷ []) s ↔ (Contains ks s ⊎ (k ≡ s))
-pushed ks k s = (
-  λ h. Contains-push_cases ks k s h,
-  λ h. elim h as (λ _. Contains (ks ++ k ∷ []) s) [
-    | inl at ↦ Contains-append_left ks (k ∷ []) s at
-    | inr is ↦ subst (Contains (ks ++ k ∷ [])) is (Contains-push ks k)
-  ],
-)
 
 -- the symbols are the old ones and that of the leaf
 abbrev pub IsWith : List Symbol → List Symbol → Atom → Type 0
 IsWith old new leaf = (s : Symbol) → Contains new s ↔ (Contains old s ⊎ (leaf ≡ Sym s))
-
--- the symbols are those among these leaves
-abbrev pub AreAmong : List Symbol → List (Bor Atom) → Type 0
-AreAmong symbols leaves = (s : Symbol) → Contains symbols s ↔ Contains (seen leaves) (Sym s)
 
 same_symbol : (a b : Symbol) → (Sym a ≡ Sym b) → a ≡ b
 same_symbol a b e = cc
@@ -45,27 +28,6 @@ with_symbol old new leaf symbol is h s = (
   λ at. elim ((h s).0 at) as (λ _. Contains old s ⊎ (leaf ≡ Sym s)) [ inl o ↦ inl o | inr e ↦ inr (is ∙ ap (λ (x : Symbol). Sym x) e) ],
   λ at. (h s).1 (elim at as (λ _. Contains old s ⊎ (symbol ≡ s)) [ inl o ↦ inl o | inr e ↦ inr (same_symbol symbol s (sym is ∙ e)) ]),
 )
-
-seen_more : (leaves : List (Bor Atom)) (i : ℕ) (d : Bor Atom) → i < length leaves → seen (take (i + 1) leaves) ≡ seen (take i leaves) ++ (get_or leaves i d).now ∷ []
-seen_more leaves i d below =
-    ap (λ (xs : List (Bor Atom)). seen xs) (take_more leaves i d below)
-    ∙ map-append (λ (x : Bor Atom). x.now) (take i leaves) (get_or leaves i d ∷ [])
-
-among_more : (before : List Atom) (old new : List Symbol) (leaf : Atom) → IsWith old new leaf
-    → ((s : Symbol) → Contains old s ↔ Contains before (Sym s)) → (s : Symbol) → Contains new s ↔ Contains (before ++ leaf ∷ []) (Sym s)
-among_more before old new leaf added so_far s = (
-  λ at. elim ((added s).0 at) as (λ _. Contains (before ++ leaf ∷ []) (Sym s)) [
-    | inl o ↦ Contains-append_left before (leaf ∷ []) (Sym s) ((so_far s).0 o)
-    | inr e ↦ subst (Contains (before ++ leaf ∷ [])) e (Contains-push before leaf)
-  ],
-  λ at. (added s).1 (elim (Contains-push_cases before leaf (Sym s) at) as (λ _. Contains old s ⊎ (leaf ≡ Sym s)) [ inl o ↦ inl ((so_far s).1 o) | inr e ↦ inr e ]),
-)
-
-pub more_among : (old new : List Symbol) (leaves : List (Bor Atom)) (i : ℕ) (d : Bor Atom) → i < length leaves
-    → IsWith old new (get_or leaves i d).now → AreAmong old (take i leaves) → AreAmong new (take (i + 1) leaves)
-more_among old new leaves i d below added so_far s =
-    subst (λ (xs : List Atom). Contains new s ↔ Contains xs (Sym s)) (sym (seen_more leaves i d below))
-    (among_more (seen (take i leaves)) old new (get_or leaves i d).now added so_far s)
 
 -- what is given by one of many items, each giving symbols
 module _ {X : Type 0} (Gives : X → Symbol → Type 0) where

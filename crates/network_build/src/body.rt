@@ -7,8 +7,7 @@ ghost use Rattle.project_sources.specs.Built.{BodyIsBuiltBy};
 ghost use Rattle.network_build.specs.Made.{IsMade, IsReady};
 ghost use Rattle.network_build.specs.Networks.{BodyHasEmptyCentre, IsNetworkOf, body_uses_alphabet};
 
-use crate::listing::body_leaves;
-use crate::symbols::symbols_among;
+use crate::symbols::body_symbols;
 use fsm_base::Sym;
 use network_algebra::Network;
 use network_expr::{Part, network_of};
@@ -75,7 +74,7 @@ fn over_own_symbols(
     requires free { body_uses_alphabet (body_of body.now) ≡ false }
     ensures { IfOk result (IsNetworkOf parts.now alphabet.now (body_of body.now)) }
 {
-    let own = symbols_among(alloc, &body_leaves(alloc, body)?, parts)?;
+    let own = body_symbols(alloc, body, parts)?;
     network_of_ready(alloc, &own, parts, body)
 }
 

@@ -9,9 +9,11 @@
 
 mod body;
 mod compiled;
+mod leaf_symbols;
 mod listing;
 mod network;
 mod straight;
+mod symbol_list;
 mod symbols;
 
 pub use compiled::{BuildError, Compiled};

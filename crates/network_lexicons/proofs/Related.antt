@@ -126,3 +126,10 @@ relation_made m n is = is.kind_is
 
 pub over_made : (alphabet : List Sym) (a n : Network) → IsNetwork alphabet a → ((symbols : List Sym) → IsNetwork symbols a → IsNetwork symbols n) → IsNetwork alphabet n
 over_made alphabet a n over same = same alphabet over
+
+-- an automaton of the same lists of pairs
+pub same_relation : (m n : Automaton Pair) (R : List Sym → List Sym → Type 0) → ((w : List Pair) → Accepts n w ↔ Accepts m w) → AreSame (IsRelated m) R → AreSame (IsRelated n) R
+same_relation m n R language same upper lower = (
+  λ (pairs, accepted, is_upper, is_lower). (same upper lower).0 (pairs, (language pairs).0 accepted, is_upper, is_lower),
+  λ r. let (pairs, accepted, is_upper, is_lower) = (same upper lower).1 r in (pairs, (language pairs).1 accepted, is_upper, is_lower),
+)

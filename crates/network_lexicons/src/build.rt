@@ -11,7 +11,7 @@ ghost use Rattle.network_lexicons.specs.Plain.{lexicon_of, names_of, symbol_in};
 use crate::entries::lexicons_of;
 use crate::flags::Flags;
 use crate::names::Names;
-use crate::small::small;
+use crate::small::{small, straightened};
 use flag_diacritics::resolve;
 use fsm_base::Sym;
 use lexc_compile::lexicon;
@@ -22,7 +22,7 @@ use std::alloc::{AllocError, Global};
 
 /// The network of lexicons: the two sides of each path from the lexicon `Root` on which the flags of each side pass by
 /// themselves, without these flags. It is made of one automaton of all entries, each of which is built once. That is made
-/// small before its flags are resolved, and reduced once behind that.
+/// small before its flags are resolved, and straightened and reduced once behind that.
 pub fn network_of_lexicons(
     alloc: Global,
     alphabet: &[Sym],
@@ -44,7 +44,9 @@ pub fn network_of_lexicons(
     let mut flags = Flags::new(alloc);
     let entries = lexicons_of(alloc, alphabet, parts, &names, lexicons, &mut flags)?;
     let whole = lexicon(alloc, &entries, root)?;
+    drop(entries);
     let tapes = small(alloc, &whole)?;
-    let pairs = resolve(alloc, &tapes, flags.as_slice())?;
+    let resolved = resolve(alloc, &tapes, flags.as_slice())?;
+    let pairs = straightened(alloc, resolved)?;
     reduced(alloc, &Network::Pairs(pairs))
 }

@@ -2,7 +2,8 @@
 use Rattle.std.proofs.Common.{◌≡◌, ℕ, ◌+◌, ◌<◌, ◌≤◌, Bool, true, false, cond, List, [], ◌∷◌, ◌++◌, take, length, refl, sym, ap, ◌∙◌, inl, inr, arith, append_assoc, append-nil, length-append}
 use Rattle.std.proofs.lemmas.Bool.{cases_lt}
 use Rattle.std.proofs.lemmas.List.{take_all, take-append-le, length-take}
-use Rattle.std.specs.List.{list_any}
+use Rattle.std.proofs.lemmas.Grind.{flat_map-append}
+use Rattle.std.specs.List.{flat_map, list_any}
 use Rattle.std.specs.Str.{bytes_eq}
 use Rattle.fsm_base.specs.Symbols.{with_text}
 use Rattle.project_meaning.specs.Projects.{with_texts}
@@ -74,3 +75,8 @@ module _ (text : List ℕ) (table : List (List ℕ)) where
       few : (b : Bool) → length (cond b table (table ++ text ∷ [])) ≤ most_symbols + 1
       few true = omega arith
       few false = omega (arith, length-append table (text ∷ []))
+
+-- what is listed of what is listed
+pub flat_map-within : {A B C : Type 0} (f : B → List C) (g : A → List B) (xs : List A) → flat_map f (flat_map g xs) ≡ flat_map (λ x. flat_map f (g x)) xs
+flat_map-within f g [] = refl
+flat_map-within f g (x ∷ xs) = flat_map-append f (g x) (flat_map g xs) ∙ ap (λ z. flat_map f (g x) ++ z) (flat_map-within f g xs)

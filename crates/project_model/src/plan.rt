@@ -194,17 +194,17 @@ fn resolve_body(
     alloc: Global,
     names: &Names,
     table: &SymbolTable,
-    body: &Body<Raw>,
+    body: Body<Raw>,
 ) -> Result<Body<Atom>, AllocError>
-    ensures { IfOk result (λ found. body_of found ≡ mapped_body (numbered names.now table.now) (resolved names.now (body_of body.now))) }
+    ensures { IfOk result (λ found. body_of found ≡ mapped_body (numbered names.now table.now) (resolved names.now (body_of body))) }
 {
     // the laws that a resolved leaf by its number is the leaf as it is written, by its number
     are_resolved_by_number();
     is_resolved_by_number();
     match body {
-        Body::Xfst(expr) => Ok(Body::Xfst(resolve(alloc, names, table, expr)?)),
+        Body::Xfst(expr) => Ok(Body::Xfst(resolve(alloc, names, table, &expr)?)),
         Body::Lexc(lexicons) => Ok(Body::Lexc(resolve_lexicons(alloc, names, table, lexicons)?)),
-        Body::Twolc(grammar) => Ok(Body::Twolc(resolve_grammar(alloc, names, table, grammar)?)),
+        Body::Twolc(grammar) => Ok(Body::Twolc(resolve_grammar(alloc, names, table, &grammar)?)),
     }
 }
 
@@ -213,15 +213,21 @@ fn define(
     alloc: Global,
     names: &Names,
     table: &SymbolTable,
-    one: &WrittenDefine,
+    one: WrittenDefine,
 ) -> Result<Definition, AllocError>
-    ensures { IfOk result (λ definition. entry_of definition ≡ entry_in names.now table.now (written_of one.now)) }
+    ensures { IfOk result (λ definition. entry_of definition ≡ entry_in names.now table.now (written_of one)) }
 {
+    let WrittenDefine {
+        name,
+        line,
+        file,
+        body,
+    } = one;
     Ok(Definition {
-        name: one.name.clone()?,
-        line: one.line,
-        file: one.file.clone()?,
-        body: resolve_body(alloc, names, table, &one.body)?,
+        name,
+        line,
+        file,
+        body: resolve_body(alloc, names, table, body)?,
     })
 }
 
@@ -230,9 +236,9 @@ fn define_each(
     alloc: Global,
     names: &Names,
     table: &SymbolTable,
-    written: &[WrittenDefine],
+    written: Vec<WrittenDefine>,
 ) -> Result<Vec<Definition>, AllocError>
-    ensures { IfOk result (λ definitions. map entry_of definitions.items ≡ map (entry_in names.now table.now) (map written_of written.now)) }
+    ensures { IfOk result (λ definitions. map entry_of definitions.items ≡ map (entry_in names.now table.now) (map written_of written.items)) }
 {
     let mut definitions = Vec::new(alloc);
     'written: for one in written {
@@ -295,18 +301,18 @@ fn plan_over(
     alloc: Global,
     names: &Names,
     alphabet: &SymbolTable,
-    written: &[WrittenDefine],
+    written: Vec<WrittenDefine>,
     glosses: GlossTable,
     table: &mut SymbolTable,
 ) -> Result<Plan, PlanError>
-    requires names { names.now ≡ names_of (map written_of written.now) }
+    requires names { names.now ≡ names_of (map written_of written.items) }
     requires apart { IsDistinct names.now }
-    requires symbols { All (Contains alphabet.now) (symbols_of_all names.now (map written_of written.now)) }
+    requires symbols { All (Contains alphabet.now) (symbols_of_all names.now (map written_of written.items)) }
     requires distinct { IsDistinct alphabet.now }
     requires room { length table.old + length alphabet.now ≤ 16777216 }
-    requires formed { All (λ w. IsFormed w.body) (map written_of written.now) }
-    requires built { All (λ w. BodyIsBuilt (resolved (names_of (map written_of written.now)) w.body)) (map written_of written.now) }
-    ensures plan { (manifest : List Placed) → (project_in (said_of manifest (map written_of written.now))).alphabet ≡ alphabet.now → IsPlanBy definition_rows (said_of manifest (map written_of written.now)) table.old table.new result }
+    requires formed { All (λ w. IsFormed w.body) (map written_of written.items) }
+    requires built { All (λ w. BodyIsBuilt (resolved (names_of (map written_of written.items)) w.body)) (map written_of written.items) }
+    ensures plan { (manifest : List Placed) → (project_in (said_of manifest (map written_of written.items))).alphabet ≡ alphabet.now → IsPlanBy definition_rows (said_of manifest (map written_of written.items)) table.old table.new result }
     ensures glosses { IfOk result (λ plan. plan.glosses ≡ glosses) }
     ensures front { take (length table.old) table.new ≡ table.old }
 {
@@ -339,23 +345,23 @@ fn plan_over(
 pub fn plan_of(
     alloc: Global,
     lines: &[ManifestLine],
-    written: &[WrittenDefine],
+    written: Vec<WrittenDefine>,
     glosses: GlossTable,
     table: &mut SymbolTable,
 ) -> Result<Plan, PlanError>
     requires symbols { All IsSymbol (symbols_of (map placed_of lines.now)) }
     requires room { length table.old ≤ most_before }
-    requires formed { All (λ w. IsFormed w.body) (map written_of written.now) }
-    requires built { All (λ w. BodyIsBuilt (resolved (names_of (map written_of written.now)) w.body)) (map written_of written.now) }
-    ensures plan { IsPlanBy said_rows (said_of (map placed_of lines.now) (map written_of written.now)) table.old table.new result }
+    requires formed { All (λ w. IsFormed w.body) (map written_of written.items) }
+    requires built { All (λ w. BodyIsBuilt (resolved (names_of (map written_of written.items)) w.body)) (map written_of written.items) }
+    ensures plan { IsPlanBy said_rows (said_of (map placed_of lines.now) (map written_of written.items)) table.old table.new result }
     ensures glosses { IfOk result (λ plan. plan.glosses ≡ glosses) }
     ensures front { take (length table.old) table.new ≡ table.old }
 {
-    let names = match names_of(alloc, written) {
+    let names = match names_of(alloc, &written) {
         Ok(names) => names,
         Err(error) => return Err(error),
     };
-    let alphabet = alphabet_of(alloc, &names, written, lines)?;
+    let alphabet = alphabet_of(alloc, &names, &written, lines)?;
     if alphabet.len() > MOST_SYMBOLS {
         return Err(refused(alloc, "project", 0, Why::LimitSymbols));
     }

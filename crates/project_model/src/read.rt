@@ -51,7 +51,7 @@ fn plan_by(
         Err(error) => return Err(error),
     };
     let Contents { written, glosses } = contents;
-    plan_of(alloc, lines, &written, glosses, table)
+    plan_of(alloc, lines, written, glosses, table)
 }
 
 /// The plan of a project, whose symbols are put into the table; after an error the table may have further symbols.

@@ -4,21 +4,22 @@ ghost use Rattle.regex_ast.specs.Terms.{term};
 ghost use Rattle.expr_leaves.specs.Leaves.{listed, seen};
 ghost use Rattle.expr_leaves.specs.Mapped.{mapped};
 ghost use Rattle.lexicon_resolution.specs.Places.{behind, places_behind, symbol_at};
-ghost use Rattle.project_meaning.specs.Leaves.{leaf_of, resolved, symbol, symbol_in, symbol_of, symbols_in};
+ghost use Rattle.lexicon_resolution.specs.Plain.{form_of, lexicon_of};
+ghost use Rattle.project_meaning.specs.Leaves.{forms_in, leaf_of, resolved, symbol, symbol_in, symbol_of, symbols_in};
 ghost use Rattle.project_sources.specs.Limits.{most_symbols};
 ghost use Rattle.project_model.specs.Answers.{written_of};
-ghost use Rattle.project_model.specs.Gathered.{gathered, symbol_beside, symbols_of_all};
+ghost use Rattle.project_model.specs.Gathered.{gathered, symbol_beside, symbols_at, symbols_of_all};
 ghost use Rattle.project_definitions.specs.Plain.{body_of};
 
 use crate::written::WrittenDefine;
 use expr_leaves::leaves;
 use fsm_base::SymbolTable;
 use grammar_resolution::{grammar_leaves, symbols_are_of_leaves};
-use lexicon_resolution::{Place, places, symbols_are_of_places};
+use lexicon_resolution::{Place, form_places, symbols_are_of_places};
 use name_resolution::{Names, symbol_text};
 use project_definitions::Body;
 use project_sources::MOST_SYMBOLS;
-use regex_ast::{Expr, Raw};
+use regex_ast::{Entry, Expr, Form, Lexicon, Raw};
 use std::alloc::{AllocError, Global};
 
 /// Puts the symbol of a leaf into a table, where it's new and the table has room for it.
@@ -94,6 +95,51 @@ fn add_places(
     Ok(())
 }
 
+/// Puts the symbols of a form into a table, each where it's new and the table has room for it.
+fn add_form(
+    alloc: Global,
+    form: &Form<Raw>,
+    names: &Names,
+    table: &mut SymbolTable,
+) -> Result<(), AllocError>
+    requires { length table.old ≤ most_symbols + 1 }
+    ensures { OnOk result (table.new ≡ gathered table.old (symbols_at names.now (form_of form.now))) }
+{
+    add_places(&form_places(alloc, form)?, names, table)
+}
+
+/// Puts the symbols of entries into a table, each where it's new and the table has room for it.
+fn add_entries(
+    alloc: Global,
+    entries: &[Entry<Raw>],
+    names: &Names,
+    table: &mut SymbolTable,
+) -> Result<(), AllocError>
+    requires { length table.old ≤ most_symbols + 1 }
+    ensures { OnOk result (table.new ≡ gathered table.old (flat_map (symbols_at names.now) (map (λ e. form_of e.form) entries.now))) }
+{
+    'entries: for entry in entries {
+        add_form(alloc, &entry.form, names, table)?;
+    }
+    Ok(())
+}
+
+/// Puts the symbols of lexicons into a table, each where it's new and the table has room for it.
+fn add_lexicons(
+    alloc: Global,
+    lexicons: &[Lexicon<Raw>],
+    names: &Names,
+    table: &mut SymbolTable,
+) -> Result<(), AllocError>
+    requires { length table.old ≤ most_symbols + 1 }
+    ensures { OnOk result (table.new ≡ gathered table.old (flat_map (symbols_at names.now) (forms_in (map lexicon_of lexicons.now)))) }
+{
+    'lexicons: for lexicon in lexicons {
+        add_entries(alloc, &lexicon.entries, names, table)?;
+    }
+    Ok(())
+}
+
 /// Puts the texts of leaves that are no names into a table, each where it isn't empty, it's new and the table has room for it.
 fn add_letters(leaves: &[&Raw], table: &mut SymbolTable) -> Result<(), AllocError>
     requires { length table.old ≤ most_symbols + 1 }
@@ -120,10 +166,7 @@ fn add_body(
     symbols_are_of_leaves();
     match body {
         Body::Xfst(expr) => add_expression(alloc, expr, names, table),
-        Body::Lexc(lexicons) => {
-            add_places(&places(alloc, lexicons)?, names, table)?;
-            Ok(())
-        }
+        Body::Lexc(lexicons) => add_lexicons(alloc, lexicons, names, table),
         Body::Twolc(grammar) => {
             add_letters(&grammar_leaves(alloc, grammar)?, table)?;
             Ok(())

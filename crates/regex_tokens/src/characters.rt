@@ -43,5 +43,5 @@ fn letter(alloc: Global, character: char) -> Result<Text, AllocError>
 {
     let mut letter = String::new(alloc);
     letter.push(character)?;
-    Ok(Text::from(letter))
+    Text::from_string(letter)
 }

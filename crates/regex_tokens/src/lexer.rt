@@ -154,7 +154,7 @@ fn run(alloc: Global, text: &str) -> Result<Option<(Token, usize)>, AllocError>
         return Ok(None);
     }
     let run = Run {
-        text: Text::from(undone(alloc, front)?),
+        text: Text::from_string(undone(alloc, front)?)?,
         escaped: has_escape(front.as_bytes()),
     };
     Ok(Some((Token::Run(run), front.len())))

@@ -29,7 +29,7 @@ pub fn said_of_form(alloc: Global, text: &str) -> Result<String, AllocError> {
 pub fn said_of_order(alloc: Global, text: &str) -> Result<String, AllocError> {
     let (a, b) = text.split_once(' ').unwrap_or((text, ""));
     let a = Text::of(alloc, a)?;
-    let b = Text::from(String::from_str(alloc, b)?);
+    let b = Text::from_string(String::from_str(alloc, b)?)?;
     format!(in alloc;
         "{:?}, {}",
         a.cmp(&b),

@@ -104,7 +104,8 @@ pub fn symbol_in(alloc: Global, run: &str) -> Result<Raw, AllocError>
     ensures { IfOk result (λ raw. raw ≡ symbol_in run.now) }
 {
     if is_escaped(run.as_bytes()) {
-        return Ok(Raw::Quoted(Text::from(undone(alloc, run)?)));
+        let text = Text::from_string(undone(alloc, run)?)?;
+        return Ok(Raw::Quoted(text));
     }
     Ok(Raw::Run(Text::of(alloc, run)?))
 }

@@ -8,3 +8,6 @@ loop-pass-preserved g c = (
     λ p. (c.in_ok-next.ensures.language w).1 ((c.loop-pass.invariant.1 w).1 p),
   ),
 )
+
+pub returns-then-is_last-clause-letters : goal.returns-then-is_last-clause-letters
+returns-then-is_last-clause-letters g c = λ x u. c.loop-pass.invariant.0 x (c.in_ok-next.ensures.letters x u)

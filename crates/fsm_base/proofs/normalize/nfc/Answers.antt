@@ -9,4 +9,4 @@ returns-then-is_ascii-clause-text c =
 
 pub returns-clause-short : goal.returns-clause-short
 returns-clause-short c =
-    omega (arith, ap length (c.from.ensures ∙ c.in_ok-to_nfc.ensures), length-nfc_of c.args.text.now c.utf8.text)
+    IfOk-weaker c.from_string.result _ _ (λ text same. omega (arith, ap length (same ∙ c.in_ok-to_nfc.ensures), length-nfc_of c.args.text.now c.utf8.text)) c.from_string.ensures

@@ -1,5 +1,5 @@
 use Rattle.std.proofs.lemmas.Slice.Eq.{slice_eq-Decides}
-use Rattle.lexc_entries.proofs.Spelled.{same_letter}
+use Rattle.lexc_forms.proofs.Equal.{same_letter}
 use Rattle.lexc_entries.proofs.words.is_symbols.Goals as goal
 
 pub returns : goal.returns

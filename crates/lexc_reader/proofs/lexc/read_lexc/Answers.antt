@@ -1,7 +1,7 @@
 use Rattle.std.proofs.Common.{◌+◌, List, ℕ, drop, ap, ◌∙◌}
 use Rattle.regex_tokens.specs.Cuts.{newlines}
-use Rattle.lexc_reader.specs.Answers.{known_of}
-use Rattle.lexc_reader.proofs.Reading.{goes_on_more, line_more, room, within_more}
+use Rattle.lexc_reader.specs.Answers.{IsRead, known_of}
+use Rattle.lexc_reader.proofs.Reading.{fault_read, goes_on_more, line_more, passed_on, room, within_more}
 use Rattle.lexc_reader.proofs.lexc.read_lexc.Goals as goal
 
 pub read_statement-requires : goal.read_statement-requires
@@ -25,3 +25,13 @@ statements-preserved c =
       line_is = line_more items rest c.statements.len lines rest_is whole c.statements.stage known new c.in-Some.step is;
       goes_on = goes_on_more items rest c.statements.len lines rest_is whole c.statements.stage known new c.in-Some.step is c.statements.invariant.goes_on;
     }
+
+pub returns-in_err-step : goal.returns-in_err-step
+returns-in_err-step c =
+    let items = c.in_ok-characters.characters.items in
+    let rest = c.split_at.result.1.now in
+    let rest_is = c.split_at.ensures.back ∙ ap (drop c.statements.len) c.deref.ensures.value in
+    let whole = ap (λ (z : List ℕ). c.statements.line + newlines z) rest_is ∙ c.statements.invariant.line_is in
+    let error = c.in_err-step.field-0.0 in
+    passed_on (IsRead c.args.text.now) c.from_residual-in_err-step.result error c.from_residual-in_err-step.ensures.1
+    (fault_read c.args.text.now items rest c.statements.len (c.statements.line + newlines rest) c.statements.stage (known_of c.statements.state) (known_of c.read_statement.new.state) error c.in_ok-characters.ensures rest_is whole c.statements.invariant.goes_on c.in_err-step.ensures)

@@ -6,11 +6,11 @@ use Rattle.network_build.proofs.symbols.add_network.Goals as goal
 pub returns-in-Words : goal.returns-in-Words
 returns-in-Words c =
     on_ok_weaker c.add_words.result
-    (given_as c.args.symbols.now.items c.add_words.new.symbols.items (Given Reads c.edges.result.now) (UsesSymbol c.args.network.now) (words_use c.args.network.now c.in-Words.words c.edges.result.now c.in-Words.is c.edges.ensures.edges))
+    (given_as c.args.symbols.now c.add_words.new.symbols (Given Reads c.edges.result.now) (UsesSymbol c.args.network.now) (words_use c.args.network.now c.in-Words.words c.edges.result.now c.in-Words.is c.edges.ensures.edges))
     c.add_words.ensures
 
 pub returns-in-Pairs : goal.returns-in-Pairs
 returns-in-Pairs c =
     on_ok_weaker c.add_pairs.result
-    (given_as c.args.symbols.now.items c.add_pairs.new.symbols.items (Given Relates c.edges-in-Pairs.result.now) (UsesSymbol c.args.network.now) (pairs_use c.args.network.now c.in-Pairs.pairs c.edges-in-Pairs.result.now c.in-Pairs.is c.edges-in-Pairs.ensures.edges))
+    (given_as c.args.symbols.now c.add_pairs.new.symbols (Given Relates c.edges-in-Pairs.result.now) (UsesSymbol c.args.network.now) (pairs_use c.args.network.now c.in-Pairs.pairs c.edges-in-Pairs.result.now c.in-Pairs.is c.edges-in-Pairs.ensures.edges))
     c.add_pairs.ensures

@@ -4,4 +4,4 @@ use Rattle.network_build.proofs.symbols.add_pairs.Given as goal
 
 -- the symbols so far
 abbrev pub invariant-edges : goal.invariant-edges
-invariant-edges l = AreGiven Relates l.fn.symbols.items l.symbols.items (take l.edge-index l.edges)
+invariant-edges l = AreGiven Relates l.fn.symbols l.symbols (take l.edge-index l.edges)

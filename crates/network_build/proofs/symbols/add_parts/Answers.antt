@@ -5,7 +5,7 @@ use Rattle.network_build.proofs.Uses.{AreGiven, PartUses, given_more, given_none
 use Rattle.network_build.proofs.symbols.add_parts.Goals as goal
 
 pub parts-init : goal.parts-init
-parts-init c = given_none PartUses c.args.symbols.now.items
+parts-init c = given_none PartUses c.args.symbols.now
 
 pub parts-preserved : goal.parts-preserved
 parts-preserved c =
@@ -13,7 +13,7 @@ parts-preserved c =
     let i = c.parts.part-index in
     let part = c.part-item.result in
     let front = subst (λ (p : Part). take (i + 1) parts ≡ take i parts ++ p ∷ []) (sym c.part-item.is) (take_more parts i part (omega arith)) in
-    given_more PartUses c.args.symbols.now.items c.parts.symbols.items c.add_network.new.symbols.items parts i part front c.in_ok-add_network.ensures c.parts.invariant
+    given_more PartUses c.args.symbols.now c.parts.symbols c.add_network.new.symbols parts i part front c.in_ok-add_network.ensures c.parts.invariant
 
 pub returns : goal.returns
-returns c = subst (AreGiven PartUses c.args.symbols.now.items c.parts.symbols.items) (take_all c.parts.part-index c.args.parts.now (omega arith)) c.parts.invariant
+returns c = subst (AreGiven PartUses c.args.symbols.now c.parts.symbols) (take_all c.parts.part-index c.args.parts.now (omega arith)) c.parts.invariant

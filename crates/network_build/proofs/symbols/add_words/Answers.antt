@@ -4,11 +4,11 @@ use Rattle.network_build.proofs.Uses.{AreGiven, Reads, given_more, given_none}
 use Rattle.network_build.proofs.symbols.add_words.Goals as goal
 
 pub edges-init : goal.edges-init
-edges-init c = given_none Reads c.args.symbols.now.items
+edges-init c = given_none Reads c.args.symbols.now
 
 pub edges-preserved : goal.edges-preserved
 edges-preserved c =
-    given_more Reads c.args.symbols.now.items c.edges.symbols.items c.add_letter.new.symbols.items c.args.edges.now c.edges.edge-index _ (take_more c.args.edges.now c.edges.edge-index _ (omega arith)) c.in_ok-add_letter.ensures c.edges.invariant
+    given_more Reads c.args.symbols.now c.edges.symbols c.add_letter.new.symbols c.args.edges.now c.edges.edge-index _ (take_more c.args.edges.now c.edges.edge-index _ (omega arith)) c.in_ok-add_letter.ensures c.edges.invariant
 
 pub returns : goal.returns
-returns c = subst (AreGiven Reads c.args.symbols.now.items c.edges.symbols.items) (take_all c.edges.edge-index c.args.edges.now (omega arith)) c.edges.invariant
+returns c = subst (AreGiven Reads c.args.symbols.now c.edges.symbols) (take_all c.edges.edge-index c.args.edges.now (omega arith)) c.edges.invariant

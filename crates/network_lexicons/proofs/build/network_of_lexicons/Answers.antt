@@ -8,7 +8,8 @@ use Rattle.network_algebra.specs.declared.network.Network.TheVariants.{Pairs}
 use Rattle.network_lexicons.specs.Plain.{lexicon_of, names_of}
 use Rattle.network_lexicons.specs.Entries.{AreLexiconsFor}
 use Rattle.network_lexicons.proofs.Placed.{names_counted}
-use Rattle.network_lexicons.proofs.Related.{over_made, related_network, related_symbols, relation_made}
+use Rattle.flag_diacritics.specs.Tapes.{TapesRelate}
+use Rattle.network_lexicons.proofs.Related.{over_made, related_network, related_symbols, relation_made, same_relation}
 use Rattle.network_lexicons.proofs.build.network_of_lexicons.Goals as goal
 
 pub unreachable-requires : goal.unreachable-requires
@@ -36,7 +37,7 @@ returns-clause-letters c =
     let root = subst (λ (ns : List (List ℕ)). slice_get ns c.in-Some.root ≡ Some (codes "Root")) c.in_ok-names.ensures c.in-Some.ensures in
     let are = subst (λ (ns : List (List ℕ)). AreLexiconsFor c.args.parts.now c.args.alphabet.now ns flags lexicons built) c.in_ok-names.ensures c.in_ok-entries.ensures.lexicons in
     let letters = rw c.deref.ensures.value at c.in_ok-whole.ensures.letters in
-    let over = related_symbols c.args.parts.now alphabet lexicons c.requires.distinct flags built are c.in-Some.root root c.in_ok-tapes.tapes (λ x uses. letters x (c.in_ok-tapes.ensures.letters x uses)) c.in_ok-pairs.pairs c.in_ok-pairs.ensures.pairs in
+    let over = related_symbols c.args.parts.now alphabet lexicons c.requires.distinct flags built are c.in-Some.root root c.in_ok-tapes.tapes (λ x uses. letters x (c.in_ok-tapes.ensures.letters x uses)) c.in_ok-pairs.pairs (λ pair uses. c.in_ok-resolved.ensures.pairs pair (c.in_ok-pairs.ensures.letters pair uses)) in
     IfOk-weaker _ _ _ (λ n. over_made alphabet (Pairs c.in_ok-pairs.pairs) n over) c.reduced.ensures.letters
 
 pub returns-clause-kind : goal.returns-clause-kind
@@ -51,7 +52,8 @@ returns-clause-meaning c =
     let are = subst (λ (ns : List (List ℕ)). AreLexiconsFor c.args.parts.now c.args.alphabet.now ns flags lexicons built) c.in_ok-names.ensures c.in_ok-entries.ensures.lexicons in
     let paths = rw c.deref.ensures.value at c.in_ok-whole.ensures.language in
     let same = c.in_ok-tapes.ensures.language in
-    let resolved = rw c.as_slice.ensures at c.in_ok-pairs.ensures.relation in
+    let pairs = c.in_ok-pairs.pairs in
+    let resolved = same_relation c.in_ok-resolved.resolved pairs (TapesRelate c.in_ok-tapes.tapes flags) c.in_ok-pairs.ensures.language (rw c.as_slice.ensures at c.in_ok-resolved.ensures.relation) in
     IfOk-weaker _ _ _
-    (λ n. related_network c.args.parts.now c.args.alphabet.now lexicons c.requires.distinct flags built are c.in-Some.root root c.in_ok-tapes.tapes (λ tape. (λ h. (paths tape).0 ((same tape).0 h), λ h. (same tape).1 ((paths tape).1 h))) c.in_ok-pairs.pairs resolved n)
+    (λ n. related_network c.args.parts.now c.args.alphabet.now lexicons c.requires.distinct flags built are c.in-Some.root root c.in_ok-tapes.tapes (λ tape. (λ h. (paths tape).0 ((same tape).0 h), λ h. (same tape).1 ((paths tape).1 h))) pairs resolved n)
     c.reduced.ensures.meaning

@@ -1,27 +1,21 @@
-use Rattle.std.proofs.Common.{All, map, sym, subst}
-use Rattle.project_meaning.specs.Leaves.{resolved}
-use Rattle.project_meaning.specs.Projects.{Written, names_of}
-use Rattle.project_sources.specs.Built.{BodyIsBuilt}
+use Rattle.std.proofs.Common.{map}
+use Rattle.project_meaning.specs.Projects.{names_of}
 use Rattle.built_bodies.proofs.Bodies.{files_built}
-use Rattle.project_definitions.specs.Bodies.{IsFormed}
 use Rattle.project_model.specs.Answers.{written_of}
 use Rattle.project_model.proofs.Formed.{formed_files}
 use Rattle.project_model.proofs.Reading.{planned_files}
 use Rattle.project_model.proofs.read.plan_by.Goals as goal
 
 pub plan_of-requires-clause-formed : goal.plan_of-requires-clause-formed
-plan_of-requires-clause-formed c =
-    subst (λ ws. All (λ (w : Written). IsFormed w.body) (map written_of ws)) (sym c.deref.ensures.value)
-    (formed_files c.args.sources.now c.args.manifest.now (map written_of c.in-Ok.contents.written.items) (rw c.lines-lines.ensures.lines at c.in-Ok.ensures.written))
+plan_of-requires-clause-formed c = formed_files c.args.sources.now c.args.manifest.now (map written_of c.in-Ok.contents.written.items) (rw c.lines-lines.ensures.lines at c.in-Ok.ensures.written)
 
 pub plan_of-requires-clause-built : goal.plan_of-requires-clause-built
 plan_of-requires-clause-built c =
     let written = map written_of c.in-Ok.contents.written.items in
-    subst (λ ws. All (λ (w : Written). BodyIsBuilt (resolved (names_of (map written_of ws)) w.body)) (map written_of ws)) (sym c.deref.ensures.value)
-    (files_built (names_of written) c.args.sources.now c.args.manifest.now written (rw c.lines-lines.ensures.lines at c.in-Ok.ensures.written))
+    files_built (names_of written) c.args.sources.now c.args.manifest.now written (rw c.lines-lines.ensures.lines at c.in-Ok.ensures.written)
 
 pub returns-clause-plan : goal.returns-clause-plan
 returns-clause-plan c content held is =
     let lines = c.lines-lines.ensures.lines in
     planned_files c.args.sources.now content held c.args.manifest.now is (map written_of c.in-Ok.contents.written.items) (rw lines at c.in-Ok.ensures.written) (rw lines at c.in-Ok.ensures.faultless)
-    c.in-Ok.contents.glosses (rw lines at c.in-Ok.ensures.glosses) c.args.table.now c.plan_of.new.table c.plan_of.result (rw (lines, c.deref.ensures.value) at c.plan_of.ensures.plan) c.plan_of.ensures.glosses
+    c.in-Ok.contents.glosses (rw lines at c.in-Ok.ensures.glosses) c.args.table.now c.plan_of.new.table c.plan_of.result (rw lines at c.plan_of.ensures.plan) c.plan_of.ensures.glosses

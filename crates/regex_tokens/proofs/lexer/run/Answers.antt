@@ -20,5 +20,5 @@ returns c =
     let size : IsPiecesLen is_run_byte c.args.text.now c.pieces_len.result = subst (λ bs. IsPiecesLen is_run_byte bs c.pieces_len.result) c.as_bytes.ensures.value c.pieces_len.ensures in
     let some : 0 < length c.split_at.result.0.now = some_of (length c.split_at.result.0.now) (sym c.is_empty.ensures ∙ c.if-is_empty.false) in
     let marked : c.has_escape.result ≡ list_any (λ b. b == 37) c.split_at.result.0.now = c.has_escape.ensures ∙ ap (list_any (λ b. b == 37)) c.as_bytes-2.ensures.value in
-    run_some c.args.text.now c.split_at.result.0.now c.pieces_len.result (length c.split_at.result.0.now) (record { text = c.from.result; escaped = c.has_escape.result })
-    size c.split_at.ensures.front some (c.from.ensures ∙ c.in_ok-undone.ensures) marked c.split_at.ensures.front_len
+    run_some c.args.text.now c.split_at.result.0.now c.pieces_len.result (length c.split_at.result.0.now) (record { text = c.in_ok-from_string.field-0; escaped = c.has_escape.result })
+    size c.split_at.ensures.front some (c.in_ok-from_string.ensures ∙ c.in_ok-undone.ensures) marked c.split_at.ensures.front_len
