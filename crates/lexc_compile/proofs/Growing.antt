@@ -11,9 +11,8 @@ use Rattle.fsa.specs.declared.automaton.Edge.{Edge}
 use Rattle.fsa_rational.specs.Shapes.{epsilon, Extends}
 use Rattle.fsa_rational.proofs.Walks.{unmarked_states, one_more_states}
 use Rattle.flag_diacritics.specs.declared.tape.Tape.{Tape}
-use Rattle.lexc_compile.specs.declared.entry.LexEntry.{LexEntry}
 use Rattle.lexc_compile.specs.declared.steps.Step.{Step}
-use Rattle.lexc_compile.specs.Paths.{SomeEntryUses}
+use Rattle.lexc_compile.specs.Paths.{PlacedEntry, SomeEntryUses}
 use Rattle.lexc_compile.specs.Blocks.{home_of, target_of, IsThere}
 use Rattle.lexc_compile.specs.Built.{Inside, front, GoesOn, edge_of, IsFront, IsBuilt}
 
@@ -28,24 +27,24 @@ pub extended_from : (inside : ℕ → Inside) (n : ℕ) (more : ℕ → Inside) 
 extended_from inside n more p l = cond-false (ltb p n) (inside p) (more p) (le-ltb p n l)
 
 -- the edge may be added
-abbrev pub IsRight : List (List LexEntry) → (ℕ → Inside) → Automaton Tape → Edge Tape → Type 0
-IsRight lexicons inside m e =
-    (e.from < length m.finals) × (e.to < length m.finals) × GoesOn lexicons (inside e.from) e.letter (inside e.to) × ((x : Tape) → e.letter ≡ Some x → SomeEntryUses lexicons x)
+abbrev pub IsRight : List PlacedEntry → (ℕ → Inside) → Automaton Tape → Edge Tape → Type 0
+IsRight entries inside m e =
+    (e.from < length m.finals) × (e.to < length m.finals) × GoesOn entries (inside e.from) e.letter (inside e.to) × ((x : Tape) → e.letter ≡ Some x → SomeEntryUses (Contains entries) x)
 
-module _ (lexicons : List (List LexEntry)) (root : ℕ) (inside : ℕ → Inside) (m : Automaton Tape) (steps : List (Step × ℕ)) (is : IsBuilt lexicons root inside m steps) where
-  pub target_within : (next : Option ℕ) → IsThere (length lexicons) next → target_of (length lexicons) next < length m.finals
+module _ (entries : List PlacedEntry) (count root : ℕ) (inside : ℕ → Inside) (m : Automaton Tape) (steps : List (Step × ℕ)) (is : IsBuilt entries count root inside m steps) where
+  pub target_within : (next : Option ℕ) → IsThere count next → target_of count next < length m.finals
   target_within None there = let h = is.homes in omega arith
   target_within (Some place) there = let h = is.homes in omega arith
 
   module _ (n : ℕ) (around : ℕ → Inside) (new : Automaton Tape) (more : List (Step × ℕ)) (same : (p : ℕ) → p < length m.finals → around p ≡ inside p)
       (finals : new.finals ≡ m.finals ++ replicate n false)
       (kept : (e : Edge Tape) → Contains m.edges e → Contains new.edges e)
-      (only : (e : Edge Tape) → Contains new.edges e → Contains m.edges e ⊎ IsRight lexicons around new e)
+      (only : (e : Edge Tape) → Contains new.edges e → Contains m.edges e ⊎ IsRight entries around new e)
       (rows : (row : Step × ℕ) → Contains more row → Contains steps row ⊎ (Contains new.edges (edge_of row) × IsFront around row)) where
     long : length new.finals ≡ length m.finals + n
     long = ap length finals ∙ length-append m.finals (replicate n false) ∙ ap (λ k. length m.finals + k) (length-replicate n false)
 
-    final_more : (p : ℕ) → IsFinal new p ↔ (p ≡ length lexicons + 1)
+    final_more : (p : ℕ) → IsFinal new p ↔ (p ≡ count + 1)
     final_more p = (
       λ h. elim (slice_get-append_cases m.finals (replicate n false) p true (ap (λ fs. slice_get fs p) (sym finals) ∙ h)) [
         | inl old ↦ (is.final p).0 old
@@ -56,11 +55,11 @@ module _ (lexicons : List (List LexEntry)) (root : ℕ) (inside : ℕ → Inside
           ap (λ fs. slice_get fs p) finals ∙ slice_get-append_left m.finals (replicate n false) p (slice_get_within m.finals p true old) ∙ old,
     )
 
-    follows_old : (e : Edge Tape) → Contains m.edges e → GoesOn lexicons (around e.from) e.letter (around e.to)
+    follows_old : (e : Edge Tape) → Contains m.edges e → GoesOn entries (around e.from) e.letter (around e.to)
     follows_old e h =
         let ends = is.formed.within e h in
-        subst (λ d. GoesOn lexicons d e.letter (around e.to)) (sym (same e.from ends.0))
-        (subst (λ d. GoesOn lexicons (inside e.from) e.letter d) (sym (same e.to ends.1)) (is.follows e h))
+        subst (λ d. GoesOn entries d e.letter (around e.to)) (sym (same e.from ends.0))
+        (subst (λ d. GoesOn entries (inside e.from) e.letter d) (sym (same e.to ends.1)) (is.follows e h))
 
     front_old : (row : Step × ℕ) → Contains steps row → IsFront around row
     front_old row h =
@@ -68,7 +67,7 @@ module _ (lexicons : List (List LexEntry)) (root : ℕ) (inside : ℕ → Inside
         let r = is.fronts row h in
         (r.0, r.1, same (row.0).from ends.0 ∙ r.2, same row.1 ends.1 ∙ r.3)
 
-    pub grown : IsBuilt lexicons root around new more
+    pub grown : IsBuilt entries count root around new more
     grown = record {
       formed = record {
         start = let s = is.formed.start in let l = long in omega arith;
@@ -78,7 +77,7 @@ module _ (lexicons : List (List LexEntry)) (root : ℕ) (inside : ℕ → Inside
       final = final_more;
       first = kept (epsilon 0 (home_of root)) is.first;
       start = same 0 is.formed.start ∙ is.start;
-      targets = λ next there. same (target_of (length lexicons) next) (target_within next there) ∙ is.targets next there;
+      targets = λ next there. same (target_of count next) (target_within next there) ∙ is.targets next there;
       follows = λ e h. elim (only e h) [ inl old ↦ follows_old e old | inr r ↦ r.2 ];
       letters = λ e h. elim (only e h) [ inl old ↦ is.letters e old | inr r ↦ r.3 ];
       taken = λ row h. elim (rows row h) [ inl old ↦ kept (edge_of row) (is.taken row old) | inr r ↦ r.0 ];
@@ -119,11 +118,10 @@ module _ (count root : ℕ) where
       last (suc j) at f = cc
 
 -- before any entry
-pub built_none : (lexicons : List (List LexEntry)) (root : ℕ) → root < length lexicons → (m new : Automaton Tape)
-    → m ≡ record { edges = []; finals = (replicate (length lexicons) false ++ false ∷ []) ++ true ∷ [] } → Extends m new (λ e. e ≡ epsilon 0 (home_of root))
-    → IsBuilt lexicons root (homes_read (length lexicons) root) new []
-built_none lexicons root root_there m new is extends =
-    let count = length lexicons in
+pub built_none : (entries : List PlacedEntry) (count root : ℕ) → root < count → (m new : Automaton Tape)
+    → m ≡ record { edges = []; finals = (replicate count false ++ false ∷ []) ++ true ∷ [] } → Extends m new (λ e. e ≡ epsilon 0 (home_of root))
+    → IsBuilt entries count root (homes_read count root) new []
+built_none entries count root root_there m new is extends =
     let finals : new.finals ≡ (replicate count false ++ false ∷ []) ++ true ∷ [] = extends.finals ∙ ap (λ (a : Automaton Tape). a.finals) is in
     let none : m.edges ≡ [] = ap (λ (a : Automaton Tape). a.edges) is in
     let long : length new.finals ≡ length (replicate count false ++ false ∷ []) + 1 = ap length finals ∙ length_push (replicate count false ++ false ∷ []) true in
@@ -141,9 +139,29 @@ built_none lexicons root root_there m new is extends =
       start = refl;
       targets = targets_read count root;
       follows = λ e h.
-          subst (λ (f : Edge Tape). GoesOn lexicons (homes_read count root f.from) f.letter (homes_read count root f.to)) (one e h)
-          (subst (λ d. GoesOn lexicons (front (Some root) []) None d) (sym (targets_read count root (Some root) root_there)) (inl (refl, λ x read. ap (λ v. v ++ []) read)));
+          subst (λ (f : Edge Tape). GoesOn entries (homes_read count root f.from) f.letter (homes_read count root f.to)) (one e h)
+          (subst (λ d. GoesOn entries (front (Some root) []) None d) (sym (targets_read count root (Some root) root_there)) (inl (refl, λ x read. ap (λ v. v ++ []) read)));
       letters = λ e h x reads. let clash : None ≡ Some x = ap (λ (f : Edge Tape). f.letter) (one e h) ∙ reads in absurd (cc);
       taken = λ row h. absurd (Contains-nil_cases row h);
       fronts = λ row h. absurd (Contains-nil_cases row h);
     }
+
+-- it stays as it is to be where there are more entries
+module _ (entries more : List PlacedEntry) (all : (entry : PlacedEntry) → Contains entries entry → Contains more entry) where
+  goes_with_more : (before after : Inside) (letter : Option Tape) → GoesOn entries before letter after → GoesOn more before letter after
+  goes_with_more before after letter (inl stays) = inl stays
+  goes_with_more before after letter (inr (entry, origin, held, is, adds)) = inr (entry, origin, all entry held, is, adds)
+
+  pub built_with_more : (count root : ℕ) (inside : ℕ → Inside) (m : Automaton Tape) (steps : List (Step × ℕ)) → IsBuilt entries count root inside m steps → IsBuilt more count root inside m steps
+  built_with_more count root inside m steps is = record {
+    formed = is.formed;
+    homes = is.homes;
+    final = is.final;
+    first = is.first;
+    start = is.start;
+    targets = is.targets;
+    follows = λ e h. goes_with_more (inside e.from) (inside e.to) e.letter (is.follows e h);
+    letters = λ e h x reads. let (entry, held, uses) = is.letters e h x reads in (entry, all entry held, uses);
+    taken = is.taken;
+    fronts = is.fronts;
+  }

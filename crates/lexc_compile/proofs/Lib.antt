@@ -1,8 +1,9 @@
 pub mod Adding
 pub mod Growing
 pub mod Looking
-pub mod Chains
+pub mod OneWord
 pub mod Walking
 pub mod Networks
-pub mod Entries
 pub mod Language
+pub mod Given
+pub mod Entries

@@ -6,11 +6,9 @@ use Rattle.fsa.specs.Language.{Accepts, AcceptsFrom}
 use Rattle.fsa.specs.declared.automaton.Edge.{Edge}
 use Rattle.fsa_rational.specs.Shapes.{epsilon}
 use Rattle.flag_diacritics.specs.declared.tape.Tape.{Tape}
-use Rattle.lexc_compile.specs.declared.entry.LexEntry.{LexEntry}
 use Rattle.lexc_compile.specs.declared.steps.Step.{Step}
-use Rattle.lexc_compile.specs.Paths.{IsEntryOf, SomeEntryUses}
+use Rattle.lexc_compile.specs.Paths.{Adds, PlacedEntry, SomeEntryUses}
 use Rattle.lexc_compile.specs.Blocks.{home_of, target_of, IsThere}
-use Rattle.lexc_compile.specs.Words.{letters_of}
 
 -- what is read up to a state, from where a path goes on: one word, or what leads to a state of a network
 pub data Inside : Type 0 where
@@ -26,44 +24,39 @@ abbrev pub IsRead : Inside → List Tape → Type 0
 IsRead (front origin word) x = x ≡ word
 IsRead (within origin net state) x = (rest : List Tape) → AcceptsFrom net state rest → Accepts net (x ++ rest)
 
--- an entry that may be on a path
-abbrev pub IsUsed : List (List LexEntry) → ℕ → LexEntry → Type 0
-IsUsed lexicons place entry = IsEntryOf lexicons place entry × IsThere (length lexicons) entry.next
-
 -- an edge with this letter, or epsilon, goes on within a lexicon
 abbrev pub StaysWithin : Inside → Option Tape → Inside → Type 0
 StaysWithin before letter after =
     (origin_of before ≡ origin_of after) × ((x : List Tape) → IsRead before x → IsRead after (x ++ option_to_list letter))
 
--- it ends an entry of a lexicon, and leads to where that goes on
-abbrev pub EndsEntry : List (List LexEntry) → Inside → Option Tape → Inside → Type 0
-EndsEntry lexicons before letter after =
-    (place : ℕ) × (entry : LexEntry) × (origin_of before ≡ Some place) × IsUsed lexicons place entry × (after ≡ front entry.next [])
-    × ((x : List Tape) → IsRead before x → Accepts entry.net (x ++ option_to_list letter))
+-- it ends an entry, and leads to where that goes on
+abbrev pub EndsEntry : List PlacedEntry → Inside → Option Tape → Inside → Type 0
+EndsEntry entries before letter after =
+    (entry : PlacedEntry) × (origin_of before ≡ Some entry.place) × Contains entries entry × (after ≡ front entry.next [])
+    × ((x : List Tape) → IsRead before x → Adds entry.content (x ++ option_to_list letter))
 
-abbrev pub GoesOn : List (List LexEntry) → Inside → Option Tape → Inside → Type 0
-GoesOn lexicons before letter after = StaysWithin before letter after ⊎ EndsEntry lexicons before letter after
+abbrev pub GoesOn : List PlacedEntry → Inside → Option Tape → Inside → Type 0
+GoesOn entries before letter after = StaysWithin before letter after ⊎ EndsEntry entries before letter after
 
 -- the edge of a step to a state
 abbrev pub edge_of : Step × ℕ → Edge Tape
-edge_of row = record { from = (row.0).from; letter = (row.0).letter; to = row.1 }
+edge_of row = record { from = (row.0).from; letter = Some (row.0).letter; to = row.1 }
 
 -- a step of a word leads to a state at which that much more of the word is read
 abbrev pub IsFront : (ℕ → Inside) → Step × ℕ → Type 0
 IsFront inside row =
-    (origin : Option ℕ) × (word : List Tape) × (inside (row.0).from ≡ front origin word)
-    × (inside row.1 ≡ front origin (word ++ option_to_list (row.0).letter))
+    (origin : Option ℕ) × (word : List Tape) × (inside (row.0).from ≡ front origin word) × (inside row.1 ≡ front origin (word ++ (row.0).letter ∷ []))
 
--- each state is one at which such tapes are read
-pub record IsBuilt (lexicons : List (List LexEntry)) (root : ℕ) (inside : ℕ → Inside) (m : Automaton Tape) (steps : List (Step × ℕ)) : Type 0 where
+-- each state is one at which such tapes are read, of these entries of so many lexicons
+pub record IsBuilt (entries : List PlacedEntry) (count root : ℕ) (inside : ℕ → Inside) (m : Automaton Tape) (steps : List (Step × ℕ)) : Type 0 where
   pub formed : IsWellFormed m
-  pub homes : length lexicons + 2 ≤ length m.finals
-  pub final : (p : ℕ) → IsFinal m p ↔ (p ≡ length lexicons + 1)
+  pub homes : count + 2 ≤ length m.finals
+  pub final : (p : ℕ) → IsFinal m p ↔ (p ≡ count + 1)
   pub first : Contains m.edges (epsilon 0 (home_of root))
   pub start : inside 0 ≡ front (Some root) []
-  pub targets : (next : Option ℕ) → IsThere (length lexicons) next → inside (target_of (length lexicons) next) ≡ front next []
-  pub follows : (e : Edge Tape) → Contains m.edges e → GoesOn lexicons (inside e.from) e.letter (inside e.to)
-  pub letters : (e : Edge Tape) → Contains m.edges e → (x : Tape) → e.letter ≡ Some x → SomeEntryUses lexicons x
+  pub targets : (next : Option ℕ) → IsThere count next → inside (target_of count next) ≡ front next []
+  pub follows : (e : Edge Tape) → Contains m.edges e → GoesOn entries (inside e.from) e.letter (inside e.to)
+  pub letters : (e : Edge Tape) → Contains m.edges e → (x : Tape) → e.letter ≡ Some x → SomeEntryUses (Contains entries) x
   pub taken : (row : Step × ℕ) → Contains steps row → Contains m.edges (edge_of row)
   pub fronts : (row : Step × ℕ) → Contains steps row → IsFront inside row
 
@@ -73,9 +66,9 @@ Leads edges p word q =
     (more : Automaton Tape) → ((e : Edge Tape) → Contains edges e → Contains more.edges e)
     → (rest : List Tape) → AcceptsFrom more q rest → AcceptsFrom more p (word ++ rest)
 
--- the edges lead from the entry's lexicon by each of its tapes to where a path goes on
-abbrev pub HasEntry : ℕ → List (Edge Tape) → ℕ → LexEntry → Type 0
-HasEntry count edges place entry = (word : List Tape) → Accepts entry.net word → Leads edges (home_of place) word (target_of count entry.next)
+-- the edges lead from the entry's lexicon by each tape that it adds to where a path goes on
+abbrev pub HasEntry : ℕ → List (Edge Tape) → PlacedEntry → Type 0
+HasEntry count edges entry = (word : List Tape) → Adds entry.content word → Leads edges (home_of entry.place) word (target_of count entry.next)
 
 -- each step's edge is there, and leads to a state that is
 abbrev pub IsTable : List (Step × ℕ) → Automaton Tape → Type 0
@@ -94,31 +87,31 @@ AddsStep step m steps new more to =
 abbrev pub TakesStep : Step → Automaton Tape → List (Step × ℕ) → Automaton Tape → List (Step × ℕ) → ℕ → Type 0
 TakesStep step m steps new more to = FindsStep step m steps new more to ⊎ AddsStep step m steps new more to
 
--- the letters of the edges are those of entries
-abbrev pub AreUsed : List (List LexEntry) → List (Edge Tape) → Type 0
-AreUsed lexicons edges = (e : Edge Tape) → Contains edges e → (x : Tape) → e.letter ≡ Some x → SomeEntryUses lexicons x
+-- the letters of the tape are those of entries
+abbrev pub AreUsed : List PlacedEntry → List Tape → Type 0
+AreUsed entries tape = (x : Tape) → Contains tape x → SomeEntryUses (Contains entries) x
 
 -- the automaton is as it is to be, and this is what is read at a state
-abbrev pub IsBuiltWith : List (List LexEntry) → ℕ → Automaton Tape → List (Step × ℕ) → ℕ → Inside → Type 0
-IsBuiltWith lexicons root m steps p read = (inside : ℕ → Inside) × IsBuilt lexicons root inside m steps × (inside p ≡ read)
+abbrev pub IsBuiltWith : List PlacedEntry → ℕ → ℕ → Automaton Tape → List (Step × ℕ) → ℕ → Inside → Type 0
+IsBuiltWith entries count root m steps p read = (inside : ℕ → Inside) × IsBuilt entries count root inside m steps × (inside p ≡ read)
 
--- the letters of the edges lead from one state to another, and the automaton stays as it is to be
-pub record Walks (from : ℕ) (edges : List (Edge Tape)) (m : Automaton Tape) (steps : List (Step × ℕ))
+-- the letters of the tape lead from one state to another, and the automaton stays as it is to be
+pub record Walks (from : ℕ) (tape : List Tape) (m : Automaton Tape) (steps : List (Step × ℕ))
     (new : Automaton Tape) (more : List (Step × ℕ)) (to : ℕ) : Type 0 where
   pub kept : (e : Edge Tape) → Contains m.edges e → Contains new.edges e
   pub longer : length m.finals ≤ length new.finals
   pub there : to < length new.finals
   pub table : IsTable more new
-  pub leads : Leads new.edges from (letters_of edges) to
-  pub built : (lexicons : List (List LexEntry)) (root : ℕ) (inside : ℕ → Inside) (origin : Option ℕ) (word : List Tape)
-      → AreUsed lexicons edges → IsBuilt lexicons root inside m steps → inside from ≡ front origin word
-      → IsBuiltWith lexicons root new more to (front origin (word ++ letters_of edges))
+  pub leads : Leads new.edges from tape to
+  pub built : (entries : List PlacedEntry) (count root : ℕ) (inside : ℕ → Inside) (origin : Option ℕ) (word : List Tape)
+      → AreUsed entries tape → IsBuilt entries count root inside m steps → inside from ≡ front origin word
+      → IsBuiltWith entries count root new more to (front origin (word ++ tape))
 
 -- an entry was added, and the automaton stays as it is to be
-pub record AddsEntry (count place : ℕ) (entry : LexEntry) (m : Automaton Tape) (steps : List (Step × ℕ))
+pub record AddsEntry (count : ℕ) (entry : PlacedEntry) (m : Automaton Tape) (steps : List (Step × ℕ))
     (new : Automaton Tape) (more : List (Step × ℕ)) : Type 0 where
   pub kept : (e : Edge Tape) → Contains m.edges e → Contains new.edges e
-  pub has : HasEntry count new.edges place entry
-  pub built : (lexicons : List (List LexEntry)) (root : ℕ) (inside : ℕ → Inside)
-      → length lexicons ≡ count → IsUsed lexicons place entry → IsBuilt lexicons root inside m steps
-      → (around : ℕ → Inside) × IsBuilt lexicons root around new more
+  pub has : HasEntry count new.edges entry
+  pub built : (entries : List PlacedEntry) (root : ℕ) (inside : ℕ → Inside)
+      → Contains entries entry → IsBuilt entries count root inside m steps
+      → (around : ℕ → Inside) × IsBuilt entries count root around new more

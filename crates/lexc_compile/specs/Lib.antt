@@ -3,3 +3,4 @@ pub mod Paths
 pub mod Blocks
 pub mod Words
 pub mod Built
+pub mod Growing

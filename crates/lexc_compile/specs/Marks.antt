@@ -9,8 +9,7 @@ side_mark None = 0
 side_mark (Some sym) = sym.0 + 1
 
 -- that of a flag is its own
-abbrev pub mark_of : Option Tape → ℕ
-mark_of None = 0
-mark_of (Some (tapes.Pair pair)) = side_mark pair.up * 2147483648 + side_mark pair.low
-mark_of (Some (tapes.UpFlag flag)) = flag
-mark_of (Some (tapes.LowFlag flag)) = flag
+abbrev pub mark_of : Tape → ℕ
+mark_of (tapes.Pair pair) = side_mark pair.up * 2147483648 + side_mark pair.low
+mark_of (tapes.UpFlag flag) = flag
+mark_of (tapes.LowFlag flag) = flag

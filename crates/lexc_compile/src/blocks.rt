@@ -1,7 +1,6 @@
 ghost use Rattle.std.specs.Prelude.{◌≡◌, ◌+◌, ◌<◌, ◌≤◌, ◌↔◌, ◌++◌, false, IsTrue, OnOk, length, replicate};
 ghost use Rattle.lexc_compile.specs.Blocks.{AddsBlock, IsThere, target_of};
 
-use crate::entry::LexEntry;
 use flag_diacritics::Tape;
 use fsa::Fsa;
 use fsa_rational::{add_epsilon, add_shifted, leave_finals};
@@ -12,18 +11,20 @@ pub fn add_block(
     m: &mut Fsa<Tape>,
     count: usize,
     place: usize,
-    entry: &LexEntry,
+    net: &Fsa<Tape>,
+    next: Option<u32>,
 ) -> Result<(), AllocError>
+    requires room { count < 18446744073709551615 }
     requires homes { count + 2 ≤ length m.old.finals }
     requires place { place < count }
-    requires next { IsThere count entry.now.next }
-    ensures { OnOk result (AddsBlock count place entry.now m.old m.new) }
+    requires next { IsThere count next }
+    ensures { OnOk result (AddsBlock count place net.now next m.old m.new) }
 {
     let begin = m.states();
-    add_states(m, entry.net.states())?;
+    add_states(m, net.states())?;
     add_epsilon(m, place + 1, begin)?;
-    add_shifted(m, entry.net.edges(), begin)?;
-    leave_finals(m, entry.net.finals(), begin, target_of(count, entry.next))
+    add_shifted(m, net.edges(), begin)?;
+    leave_finals(m, net.finals(), begin, target_of(count, next))
 }
 
 /// Whether a path may go on there: at its end, or in a lexicon that there is.

@@ -11,13 +11,13 @@ use std::alloc::{AllocError, Global};
 use std::hash::{Hash, Hasher};
 use std::marker::Model;
 
-/// A step of a word: where its letter is read, or an edge with no letter taken.
+/// A step of a word: where its letter is read.
 #[derive(Clone, Copy, Debug, PartialEq, Eq)]
 pub struct Step {
     /// The state that it leaves.
     pub from: usize,
-    /// What it reads, or nothing.
-    pub letter: Option<Tape>,
+    /// What it reads.
+    pub letter: Tape,
 }
 
 /// Hashed as two numbers, since lexicons take a step for most of their letters.
@@ -33,14 +33,13 @@ impl Hash for Step {
 }
 
 /// The number by which a letter is hashed. Few others have the same.
-fn mark_of(letter: Option<Tape>) -> u64
+fn mark_of(letter: Tape) -> u64
     ensures { result ≡ mark_of letter }
 {
     match letter {
-        None => 0,
-        Some(Tape::Pair(pair)) => side_mark(pair.up) * 2147483648 + side_mark(pair.low),
-        Some(Tape::UpFlag(flag)) => u64::from(flag),
-        Some(Tape::LowFlag(flag)) => u64::from(flag),
+        Tape::Pair(pair) => side_mark(pair.up) * 2147483648 + side_mark(pair.low),
+        Tape::UpFlag(flag) => u64::from(flag),
+        Tape::LowFlag(flag) => u64::from(flag),
     }
 }
 

@@ -23,9 +23,7 @@ use Rattle.network_expr.specs.Built.{IsBuiltOver}
 use Rattle.network_expr.specs.Parts.{is_leaf_of, kinds}
 use Rattle.network_expr.specs.declared.parts.Part.{Part}
 use Rattle.network_lexicons.specs.Built.{PieceIsBuilt, FormIsBuilt, EntriesAreBuilt}
-use Rattle.lexicon_resolution.specs.Places.{places_in, places_in_form, places_in_piece}
-use Rattle.lexicon_resolution.specs.declared.place.Place.TheVariants.{InExpression}
-use Rattle.network_build.specs.Made.{IsReady, leaf_at}
+use Rattle.network_build.specs.Made.{IsReady}
 use Rattle.network_build.specs.Networks.{body_leaves, body_uses_alphabet, form_leaves}
 use Rattle.network_build.proofs.Built.{built_alone, built_by, leaves_pass}
 use Rattle.network_build.proofs.Grammars.{grammar_by, grammar_passes}
@@ -194,29 +192,3 @@ module _ (spells letter_passes passes held : Atom → Bool) where
           ) each)
           built
   body_by (twolc grammar) h (one, two) = grammar_by letter_passes held grammar two h
-
--- the leaves that stand in lexicons are those at their places
-flat_mapped : {X Y Z : Type 0} (f : Y → Z) (g : X → List Y) (h : X → List Z) → ((x : X) → map f (g x) ≡ h x) → (xs : List X) → map f (flat_map g xs) ≡ flat_map h xs
-flat_mapped f g h same [] = refl
-flat_mapped f g h same (x ∷ xs) =
-    let here = same x in
-    let rest = flat_mapped f g h same xs in
-    map-append f (g x) (flat_map g xs) ∙ (λ i. here i ++ rest i)
-
-piece_places : (piece : Piece Atom) → map leaf_at (places_in_piece piece) ≡ letters_of piece
-piece_places (letter leaf) = refl
-piece_places (flag f) = refl
-
-alone : (leaves : List Atom) → map leaf_at (map (λ leaf. InExpression leaf) leaves) ≡ leaves
-alone [] = refl
-alone (leaf ∷ leaves) = ap (λ (z : List Atom). leaf ∷ z) (alone leaves)
-
-form_places : (form : Form Atom) → map leaf_at (places_in_form form) ≡ form_leaves form
-form_places (sides upper lower) =
-    let u = flat_mapped leaf_at places_in_piece letters_of piece_places upper in
-    let l = flat_mapped leaf_at places_in_piece letters_of piece_places lower in
-    map-append leaf_at (flat_map places_in_piece upper) (flat_map places_in_piece lower) ∙ (λ i. u i ++ l i)
-form_places (pairs e) = alone (leaves_in e)
-
-pub leaves_at_places : (lexicons : List (Lexicon Atom)) → map leaf_at (places_in lexicons) ≡ flat_map form_leaves (forms_in lexicons)
-leaves_at_places lexicons = flat_mapped leaf_at places_in_form form_leaves form_places (forms_in lexicons)

@@ -179,13 +179,6 @@ grammar_made parts symbols g (Ok n) has over kind meaning = record {
   relation = λ named lettered held. meaning named lettered (grammar_over (symbols_of named) g held);
 }
 
--- an automaton of the same language, with no other letters
-pub same_relation : (m n : Automaton Pair) (R : List Symbol → List Symbol → Type 0) → ((w : List Pair) → Accepts n w ↔ Accepts m w) → AreSame (IsRelated m) R → AreSame (IsRelated n) R
-same_relation m n R language same upper lower = (
-  λ (pairs, accepted, is_upper, is_lower). (same upper lower).0 (pairs, (language pairs).0 accepted, is_upper, is_lower),
-  λ r. let (pairs, accepted, is_upper, is_lower) = (same upper lower).1 r in (pairs, (language pairs).1 accepted, is_upper, is_lower),
-)
-
 pub over_alphabet : (alphabet : List (Symbol × List ℕ)) (m n : Automaton Pair) → ((x : Pair) → UsesLetter n x → UsesLetter m x) → UsesSymbols (symbols_of alphabet) m → IsOverAlphabet alphabet n
 over_alphabet alphabet m n letters uses pair s used side =
     elim side as (λ _. Contains (symbols_of alphabet) s) [ inl up ↦ uses.upper s (pair, letters pair used, up) | inr low ↦ uses.lower s (pair, letters pair used, low) ]

@@ -1,4 +1,4 @@
--- What is built over one alphabet, be it the project's or the body's own symbols, and what comes of it; leaves by their places.
+-- What is built over one alphabet, be it the project's or the body's own symbols, and what comes of it.
 use Rattle.std.specs.Prelude.{◌≡◌, List, Contains}
 use Rattle.fsm_base.specs.declared.letters.Sym.{Sym as Symbol}
 use Rattle.regex_ast.specs.declared.expr.Atom.{Atom}
@@ -8,8 +8,6 @@ use Rattle.expr_kinds.specs.Kinds.{Fits}
 use Rattle.grammar_pairs.specs.Laws.{HasLeaves}
 use Rattle.grammar_pairs.specs.Plain.{IsFormed}
 use Rattle.project_meaning.specs.Trees.{Body, xfst, lexc, twolc}
-use Rattle.lexicon_resolution.specs.declared.place.Place.{Place}
-use Rattle.lexicon_resolution.specs.declared.place.Place.TheVariants.{OnSide, InExpression}
 use Rattle.network_algebra.specs.Networks.{IsNetwork, PairsOf, kind_of_network}
 use Rattle.network_algebra.specs.declared.network.Network.{Network}
 use Rattle.network_centres.specs.Centres.{HasEmptyCentre}
@@ -36,8 +34,3 @@ pub record IsMade (parts : List Part) (alphabet : List Symbol) (body : Body Atom
   pub over : IsNetwork alphabet n
   pub kind : kind_of_network n ≡ kind_of_body (kinds parts) body
   pub relation : IsRelationOf parts alphabet body (PairsOf n)
-
--- the leaf at a place of lexicons
-abbrev pub leaf_at : Place Atom → Atom
-leaf_at (OnSide leaf) = leaf
-leaf_at (InExpression leaf) = leaf

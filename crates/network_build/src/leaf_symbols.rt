@@ -9,9 +9,9 @@ ghost use Rattle.project_definitions.specs.Plain.{body_of};
 ghost use Rattle.network_build.specs.Gathered.{AddsLeaves};
 ghost use Rattle.network_build.specs.Networks.{body_leaves, form_leaves};
 
-use crate::listing::body_leaves;
 use crate::symbol_list::SymbolList;
 use expr_leaves::leaves;
+use grammar_resolution::grammar_leaves;
 use project_definitions::Body;
 use regex_ast::{Atom, Entry, Form, Lexicon, Piece};
 use std::alloc::{AllocError, Global};
@@ -25,8 +25,9 @@ pub fn add_body(
     ensures { OnOk result (AddsLeaves symbols.old symbols.new (body_leaves (body_of body.now))) }
 {
     match body {
+        Body::Xfst(expr) => add_leaves(&leaves(alloc, expr)?, symbols),
         Body::Lexc(lexicons) => add_lexicons(alloc, lexicons, symbols),
-        Body::Xfst(_) | Body::Twolc(_) => add_leaves(&body_leaves(alloc, body)?, symbols),
+        Body::Twolc(grammar) => add_leaves(&grammar_leaves(alloc, grammar)?, symbols),
     }
 }
 

@@ -4,7 +4,7 @@
 //!   its [`Part`]s.
 //! - [`BuildError`]: why there is none.
 //! - [`Compiled`]: such a network, ready for look-ups.
-//! - [`body_expressions`], [`body_leaves`]: the expressions and the leaves that stand in a definition.
+//! - [`body_expressions`]: the expressions that stand in a definition.
 #![tactic(auto)]
 
 mod body;
@@ -17,7 +17,7 @@ mod symbol_list;
 mod symbols;
 
 pub use compiled::{BuildError, Compiled};
-pub use listing::{body_expressions, body_leaves};
+pub use listing::body_expressions;
 pub use network::build;
 pub use network_algebra::Network;
 pub use network_expr::Part;

@@ -1,4 +1,4 @@
--- The automata of forms: of two sides their tape alone, and of an expression the tapes of its pairs.
+-- What forms add: two sides their tape alone, and an expression the tapes of its pairs.
 use Rattle.std.proofs.Common.{◌≡◌, ◌↔◌, ◌==◌, ℕ, true, false, IsTrue, List, [], ◌∷◌, ◌++◌, Option, Some, All, map, refl, sym, ap, subst, inl, inr, ◌∙◌}
 use Rattle.std.specs.List.{Contains, flat_map}
 use Rattle.std.specs.Option.{option_to_list}
@@ -33,7 +33,8 @@ use Rattle.network_expr.specs.declared.parts.Part.{Part}
 use Rattle.network_lexicons.specs.Plain.{piece_of, symbol_in}
 use Rattle.network_lexicons.specs.Built.{PieceIsBuilt}
 use Rattle.network_lexicons.specs.Sides.{upper_pieces, lower_pieces, upper_side, lower_side, side_of, HasSides}
-use Rattle.network_lexicons.specs.Entries.{UsesPairsOver, IsNetOf}
+use Rattle.lexc_compile.specs.Paths.{network, word}
+use Rattle.network_lexicons.specs.Entries.{UsesPairsOver, HasSidesOf}
 
 -- a symbol of a side that is built is one of the alphabet
 same_number : (a b : Sym) → (b.0 == a.0) ≡ true → a ≡ b
@@ -92,35 +93,33 @@ pairs_of_names (p ∷ ps) (t ∷ tape) e =
     ap (λ (s : Tape). s ∷ tape) (sym first) ∙ ap (λ (ts : List Tape). OfPair p ∷ ts) (pairs_of_names ps tape rest)
 
 -- the tape of two sides
-module _ (flags : List FlagOp) (upper lower : List (PieceOf Atom)) (tape : List Tape) (has : HasSides flags upper lower tape) (m : Automaton Tape) where
-  pub sides_symbols : (alphabet : List Sym) → All (PieceIsBuilt alphabet) (map piece_of upper) → All (PieceIsBuilt alphabet) (map piece_of lower) → ((t : Tape) → UsesLetter m t → Contains tape t) → UsesPairsOver alphabet m
-  sides_symbols alphabet up_built low_built letters pair uses =
+module _ (flags : List FlagOp) (upper lower : List (PieceOf Atom)) (tape : List Tape) (has : HasSides flags upper lower tape) where
+  pub sides_symbols : (alphabet : List Sym) → All (PieceIsBuilt alphabet) (map piece_of upper) → All (PieceIsBuilt alphabet) (map piece_of lower) → UsesPairsOver alphabet (word tape)
+  sides_symbols alphabet up_built low_built pair held =
       let same : Keeps flags flags = λ k f at. at in
-      let held = letters (OfPair pair) uses in
       record {
         up = λ x is. side_over alphabet upper x up_built (subst (λ s. Contains s (letter x)) (has.upper_is flags same) (on_side (upper_pieces flags) tape (OfPair pair) (letter x) held (has_symbol pair.up x is)));
         low = λ x is. side_over alphabet lower x low_built (subst (λ s. Contains s (letter x)) (has.lower_is flags same) (on_side (lower_pieces flags) tape (OfPair pair) (letter x) held (has_symbol pair.low x is)));
       }
 
-  pub sides_net : (parts : List Part) (alphabet : List Sym) → ((v : List Tape) → Accepts m v ↔ (v ≡ tape)) → IsNetOf parts alphabet flags (sides (map piece_of upper) (map piece_of lower)) m
-  sides_net parts alphabet language all keeps x y = (
-    λ adds. (tape, (language tape).1 refl, adds.0 ∙ sym (has.upper_is all keeps), adds.1 ∙ sym (has.lower_is all keeps)),
-    λ (v, path, up, low).
-        let is = (language v).0 path in
+  pub sides_tape : (parts : List Part) (alphabet : List Sym) → HasSidesOf parts alphabet flags (sides (map piece_of upper) (map piece_of lower)) (word tape)
+  sides_tape parts alphabet all keeps x y = (
+    λ adds. (tape, refl, adds.0 ∙ sym (has.upper_is all keeps), adds.1 ∙ sym (has.lower_is all keeps)),
+    λ (v, is, up, low).
         (up ∙ ap (upper_side all) is ∙ has.upper_is all keeps, low ∙ ap (lower_side all) is ∙ has.lower_is all keeps),
   )
 
 -- the tapes of pairs
 module _ (alphabet : List Sym) (r : Automaton Pair) (m : Automaton Tape) where
-  pub pairs_symbols : UsesSymbols alphabet r → ((t : Tape) → UsesLetter m t → (p : Pair) × UsesLetter r p × (Some (OfPair p) ≡ Some t)) → UsesPairsOver alphabet m
+  pub pairs_symbols : UsesSymbols alphabet r → ((t : Tape) → UsesLetter m t → (p : Pair) × UsesLetter r p × (Some (OfPair p) ≡ Some t)) → UsesPairsOver alphabet (network m)
   pairs_symbols over letters pair uses =
       let s = letters (OfPair pair) uses in
       let same : s.0 ≡ pair = let e : OfPair s.0 ≡ OfPair pair = same_Some (OfPair s.0) (OfPair pair) s.2 in cc in
       let used : UsesLetter r pair = subst (UsesLetter r) same s.1 in
       record { up = λ x is. over.upper x (pair, used, is); low = λ x is. over.lower x (pair, used, is) }
 
-  pub pairs_net : (parts : List Part) (flags : List FlagOp) (e : Term Atom) → AreSame (IsRelated r) (Relates (stands parts) alphabet e) → ((v : List Tape) → Accepts m v ↔ IsRenamed name (Accepts r) v) → IsNetOf parts alphabet flags (pairs e) m
-  pairs_net parts flags e related language all keeps x y = (
+  pub pairs_tapes : (parts : List Part) (flags : List FlagOp) (e : Term Atom) → AreSame (IsRelated r) (Relates (stands parts) alphabet e) → ((v : List Tape) → Accepts m v ↔ IsRenamed name (Accepts r) v) → HasSidesOf parts alphabet flags (pairs e) (network m)
+  pairs_tapes parts flags e related language all keeps x y = (
     λ (u, w, relates, up, low).
         let v = (related u w).1 relates in (
           map OfPair v.0,

@@ -1,6 +1,6 @@
 -- What a network of tapes relates, by the sides of its tapes.
 use Rattle.std.proofs.Common.{◌≡◌, ◌↔◌, ℕ, Bool, ◌&&◌, List, [], ◌∷◌, ◌++◌, Option, None, Some, codes, map, refl, sym, ap, ◌∙◌}
-use Rattle.std.specs.List.{flat_map, slice_get}
+use Rattle.std.specs.List.{Contains, flat_map, slice_get}
 use Rattle.std.specs.Option.{option_to_list}
 use Rattle.word_relations.specs.Relations.{AreSame}
 use Rattle.word_relations.specs.Words.{IsDistinct}
@@ -16,8 +16,7 @@ use Rattle.project_meaning.specs.Lexicons.{run_passes, passes, features_behind, 
 use Rattle.flag_diacritics.specs.Tapes.{flag_of, upper_flag, lower_flag, pairs_of, TapesRelate, UsesPair}
 use Rattle.flag_diacritics.specs.declared.tape.Tape.{Tape}
 use Rattle.flag_diacritics.specs.declared.tape.Tape.TheVariants.{Pair as OfPair, UpFlag, LowFlag}
-use Rattle.lexc_compile.specs.declared.entry.LexEntry.{LexEntry}
-use Rattle.lexc_compile.specs.Paths.{HasPath, SomeEntryUses}
+use Rattle.lexc_compile.specs.Paths.{HasPath, PlacedEntry, SomeEntryUses}
 use Rattle.expr_kinds.specs.declared.form.Kind.TheVariants.{Relation}
 use Rattle.network_algebra.specs.Networks.{IsFor, IsNetwork, UsesSymbols, PairsOf, WordsOf, kind_of_network}
 use Rattle.network_algebra.specs.declared.network.Network.{Network}
@@ -74,12 +73,12 @@ module _ (flags : List FlagOp) where
   lower_left (UpFlag n ∷ tape) = lower_left tape
   lower_left (LowFlag n ∷ tape) = flags_left (slice_get flags n) (flat_map (lower_pieces flags) tape) ∙ lower_left tape
 
-module _ (parts : List Part) (alphabet : List Sym) (lexicons : List (Lexicon Atom)) (distinct : IsDistinct (names_of lexicons)) (flags : List FlagOp) (built : List (List LexEntry)) (are : AreLexiconsFor parts alphabet (names_of lexicons) flags lexicons built)
+module _ (parts : List Part) (alphabet : List Sym) (lexicons : List (Lexicon Atom)) (distinct : IsDistinct (names_of lexicons)) (flags : List FlagOp) (given : List PlacedEntry) (are : AreLexiconsFor parts alphabet (names_of lexicons) flags lexicons given)
     (root : ℕ) (at : slice_get (names_of lexicons) root ≡ Some (codes "Root")) (net : Automaton Tape) where
-  pub related : ((tape : List Tape) → Accepts net tape ↔ HasPath built (Some root) tape) → AreSame (TapesRelate net flags) (LexiconsRelate symbol_in (stands parts) alphabet lexicons)
+  pub related : ((tape : List Tape) → Accepts net tape ↔ HasPath (Contains given) (Some root) tape) → AreSame (TapesRelate net flags) (LexiconsRelate symbol_in (stands parts) alphabet lexicons)
   related language u w = (
     λ (tape, accepts, (up, low), u_is, w_is).
-        let found = (walks parts alphabet lexicons distinct flags built are (codes "Root") root at (upper_side flags tape) (lower_side flags tape)).0 (tape, (language tape).0 accepts, refl, refl) in (
+        let found = (walks parts alphabet lexicons distinct flags given are (codes "Root") root at (upper_side flags tape) (lower_side flags tape)).0 (tape, (language tape).0 accepts, refl, refl) in (
           found.0,
           upper_side flags tape,
           lower_side flags tape,
@@ -90,7 +89,7 @@ module _ (parts : List Part) (alphabet : List Sym) (lexicons : List (Lexicon Ato
           sym w_is ∙ sym (lower_left flags tape),
         ),
     λ (path, x, y, is, up, low, u_is, w_is).
-        let found = (walks parts alphabet lexicons distinct flags built are (codes "Root") root at x y).1 (path, is) in
+        let found = (walks parts alphabet lexicons distinct flags given are (codes "Root") root at x y).1 (path, is) in
         let tape = found.0 in (
           tape,
           (language tape).1 found.1,
@@ -104,16 +103,16 @@ module _ (parts : List Part) (alphabet : List Sym) (lexicons : List (Lexicon Ato
   )
 
   -- the symbols on both sides of what is made of it
-  pub related_symbols : ((x : Tape) → UsesLetter net x → SomeEntryUses built x) → (m : Automaton Pair) → ((pair : Pair) → UsesLetter m pair → UsesPair net pair) → UsesSymbols alphabet m
+  pub related_symbols : ((x : Tape) → UsesLetter net x → SomeEntryUses (Contains given) x) → (m : Automaton Pair) → ((pair : Pair) → UsesLetter m pair → UsesPair net pair) → UsesSymbols alphabet m
   related_symbols letters m used =
-      let over = λ (pair : Pair) (uses : UsesLetter m pair). pairs_over parts alphabet lexicons distinct flags built are pair (letters (OfPair pair) (used pair uses)) in
+      let over = λ (pair : Pair) (uses : UsesLetter m pair). pairs_over parts alphabet lexicons distinct flags given are pair (letters (OfPair pair) (used pair uses)) in
       record {
         upper = λ x (pair, uses, is). (over pair uses).up x is;
         lower = λ x (pair, uses, is). (over pair uses).low x is;
       }
 
   -- what is made of the network, reduced
-  pub related_network : ((tape : List Tape) → Accepts net tape ↔ HasPath built (Some root) tape) → (m : Automaton Pair) → AreSame (IsRelated m) (TapesRelate net flags) → (n : Network)
+  pub related_network : ((tape : List Tape) → Accepts net tape ↔ HasPath (Contains given) (Some root) tape) → (m : Automaton Pair) → AreSame (IsRelated m) (TapesRelate net flags) → (n : Network)
       → IsFor (kind_of_network (Pairs m)) (WordsOf (Pairs m)) (PairsOf (Pairs m)) n → AreSame (PairsOf n) (LexiconsRelate symbol_in (stands parts) alphabet lexicons)
   related_network language m resolved n is u w =
       let made = is.pairs u w in

@@ -1,9 +1,9 @@
 -- Paths over names and paths over places are the same, and so are their sides.
-use Rattle.std.proofs.Common.{◌≡◌, ◌↔◌, ℕ, List, [], ◌∷◌, ◌++◌, Option, None, Some, refl, sym, ap, subst, inl, inr, arith, ◌∙◌}
+use Rattle.std.proofs.Common.{◌≡◌, ◌↔◌, ℕ, List, [], ◌∷◌, ◌++◌, Option, None, Some, refl, sym, ap, subst, inl, inr, ◌∙◌}
 use Rattle.std.specs.List.{Contains, slice_get}
 use Rattle.std.specs.Option.{option_map}
 use Rattle.std.proofs.lemmas.List.Concat.{flat_map-append}
-use Rattle.std.proofs.lemmas.Option.{slice_get-map, slice_get_cases, slice_get_within, same_Some}
+use Rattle.std.proofs.lemmas.Option.{slice_get-map, slice_get_cases, same_Some}
 use Rattle.word_relations.specs.Words.{IsDistinct}
 use Rattle.word_relations.proofs.Places.{Contains-from_slice_get, slice_get_from_Contains, same_at}
 use Rattle.fsm_base.specs.declared.letters.Sym.{Sym}
@@ -14,8 +14,7 @@ use Rattle.project_meaning.specs.Trees.{Piece, Form, sides, pairs, Entry, Lexico
 use Rattle.project_meaning.specs.Lexicons.{FormAdds, IsPath as IsNamedPath, IsEntryOf as IsNamedEntry}
 use Rattle.flag_diacritics.specs.declared.tape.Tape.{Tape}
 use Rattle.flag_diacritics.specs.declared.tape.Tape.TheVariants.{Pair as OfPair}
-use Rattle.lexc_compile.specs.declared.entry.LexEntry.{LexEntry}
-use Rattle.lexc_compile.specs.Paths.{IsEntryOf, IsPath, HasPath, SomeEntryUses}
+use Rattle.lexc_compile.specs.Paths.{IsPath, HasPath, PlacedEntry, SomeEntryUses}
 use Rattle.network_expr.specs.Parts.{stands}
 use Rattle.network_expr.specs.declared.parts.Part.{Part}
 use Rattle.network_lexicons.specs.Plain.{symbol_in, names_of}
@@ -54,31 +53,28 @@ module _ (parts : List Part) (alphabet : List Sym) (lexicons : List (Lexicon Ato
       let p = slice_get_from_Contains lexicons l held in
       (Some p.0, name_stands lexicons p.0 l p.1 ∙ ap Some is)
 
-  module _ (distinct : IsDistinct (names_of lexicons)) (flags : List FlagOp) (built : List (List LexEntry)) (are : AreLexiconsFor parts alphabet (names_of lexicons) flags lexicons built) where
+  module _ (distinct : IsDistinct (names_of lexicons)) (flags : List FlagOp) (given : List PlacedEntry) (are : AreLexiconsFor parts alphabet (names_of lexicons) flags lexicons given) where
     abbrev HasTapes : Option ℕ → List (Piece Sym) → List (Piece Sym) → Type 0
-    HasTapes place x y = (tape : List Tape) × HasPath built place tape × (x ≡ upper_side flags tape) × (y ≡ lower_side flags tape)
+    HasTapes place x y = (tape : List Tape) × HasPath (Contains given) place tape × (x ≡ upper_side flags tape) × (y ≡ lower_side flags tape)
 
     abbrev HasEntries : Option (List ℕ) → List (Piece Sym) → List (Piece Sym) → Type 0
     HasEntries from x y = (path : List (Entry Atom)) × IsNamedPath symbol_in (stands parts) alphabet lexicons from path x y
 
     -- an entry over names, by its place
-    step_up : (name : List ℕ) (k : ℕ) (entry : Entry Atom) (place : Option ℕ) → slice_get (names_of lexicons) k ≡ Some name → IsNamedEntry lexicons name entry → IsPlaceOf (names_of lexicons) entry.next place
-        → (b : LexEntry) × IsEntryOf built k b × IsEntryFor parts alphabet (names_of lexicons) flags entry b
-    step_up name k entry place at (l, held, is, among) goes =
+    step_up : (name : List ℕ) (k : ℕ) (entry : Entry Atom) (next : Option ℕ) → slice_get (names_of lexicons) k ≡ Some name → IsNamedEntry lexicons name entry → IsPlaceOf (names_of lexicons) entry.next next
+        → (g : PlacedEntry) × Contains given g × (g.place ≡ k) × IsEntryFor parts alphabet (names_of lexicons) flags entry g
+    step_up name k entry next at (l, held, is, among) goes =
         let p = slice_get_from_Contains lexicons l held in
         let same : p.0 ≡ k = distinct p.0 k name (name_stands lexicons p.0 l p.1 ∙ ap Some is) at in
-        let r = are.each k l (ap (slice_get lexicons) (sym same) ∙ p.1) in
-        let b = (r.2).all entry place among goes in
-        (b.0, (r.0, r.1, b.1), b.2)
+        are.all k l entry next (ap (slice_get lexicons) (sym same) ∙ p.1) among goes
 
-    step_down : (name : List ℕ) (k : ℕ) (b : LexEntry) → slice_get (names_of lexicons) k ≡ Some name → IsEntryOf built k b
-        → (entry : Entry Atom) × IsNamedEntry lexicons name entry × IsEntryFor parts alphabet (names_of lexicons) flags entry b
-    step_down name k b at (entries, there, held) =
+    step_down : (name : List ℕ) (k : ℕ) (g : PlacedEntry) → slice_get (names_of lexicons) k ≡ Some name → Contains given g → g.place ≡ k
+        → (entry : Entry Atom) × IsNamedEntry lexicons name entry × IsEntryFor parts alphabet (names_of lexicons) flags entry g
+    step_down name k g at held here =
         let l = lexicon_at lexicons k name at in
-        let r = are.each k l.0 l.1 in
-        let same : entries ≡ r.0 = same_at built k entries r.0 there r.1 in
-        let e = (r.2).only b (subst (λ es. Contains es b) same held) in
-        (e.0, (l.0, Contains-from_slice_get lexicons k l.0 l.1, l.2, e.1), e.2)
+        let r = are.only g held in
+        let same : r.0 ≡ l.0 = same_at lexicons k r.0 l.0 (ap (slice_get lexicons) (sym here) ∙ r.2) l.1 in
+        (r.1, (l.0, Contains-from_slice_get lexicons k l.0 l.1, l.2, subst (λ (d : Lexicon Atom). Contains d.entries r.1) same r.3), r.4)
 
     up : (path : List (Entry Atom)) (from : Option (List ℕ)) (place : Option ℕ) (x y : List (Piece Sym)) → IsPlaceOf (names_of lexicons) from place → IsNamedPath symbol_in (stands parts) alphabet lexicons from path x y → HasTapes place x y
     up [] None None x y goes h = ([], ([], refl), h.0, h.1)
@@ -88,27 +84,27 @@ module _ (parts : List Part) (alphabet : List Sym) (lexicons : List (Lexicon Ato
     up (entry ∷ path) (Some name) None x y goes h = absurd goes
     up (entry ∷ path) (Some name) (Some k) x y goes (x1, x2, y1, y2, member, adds, rest, x_is, y_is) =
         let next = place_of_path entry.next path x2 y2 rest in
-        let b = step_up name k entry next.0 goes member next.1 in
-        let is : IsEntryFor parts alphabet (names_of lexicons) flags entry b.0 = b.2 in
-        let front = (is.net flags (λ j f at. at) x1 y1).0 (form_to entry.form x1 y1 adds) in
-        let back = up path entry.next (b.0).next x2 y2 is.next rest in (
+        let g = step_up name k entry next.0 goes member next.1 in
+        let is : IsEntryFor parts alphabet (names_of lexicons) flags entry g.0 = g.3 in
+        let front = (is.sides flags (λ j f at. at) x1 y1).0 (form_to entry.form x1 y1 adds) in
+        let back = up path entry.next (g.0).next x2 y2 is.next rest in (
           front.0 ++ back.0,
-          (b.0 ∷ (back.1).0, (front.0, back.0, b.1, front.1, (back.1).1, refl)),
+          (g.0 ∷ (back.1).0, (front.0, back.0, g.1, g.2, front.1, (back.1).1, refl)),
           x_is ∙ ap (λ s. s ++ x2) front.2 ∙ ap (λ s. upper_side flags front.0 ++ s) back.2 ∙ sym (flat_map-append (upper_pieces flags) front.0 back.0),
           y_is ∙ ap (λ s. s ++ y2) front.3 ∙ ap (λ s. lower_side flags front.0 ++ s) back.3 ∙ sym (flat_map-append (lower_pieces flags) front.0 back.0),
         )
 
-    down : (path : List LexEntry) (from : Option (List ℕ)) (place : Option ℕ) (tape : List Tape) → IsPlaceOf (names_of lexicons) from place → IsPath built place path tape → HasEntries from (upper_side flags tape) (lower_side flags tape)
+    down : (path : List PlacedEntry) (from : Option (List ℕ)) (place : Option ℕ) (tape : List Tape) → IsPlaceOf (names_of lexicons) from place → IsPath (Contains given) place path tape → HasEntries from (upper_side flags tape) (lower_side flags tape)
     down [] None None tape goes h = ([], (ap (upper_side flags) h, ap (lower_side flags) h))
     down [] (Some name) None tape goes h = absurd goes
     down [] from (Some k) tape goes h = absurd h
-    down (b ∷ path) from None tape goes h = absurd h
-    down (b ∷ path) None (Some k) tape goes h = absurd goes
-    down (b ∷ path) (Some name) (Some k) tape goes (front, back, member, accepts, rest, tape_is) =
-        let e = step_down name k b goes member in
-        let is : IsEntryFor parts alphabet (names_of lexicons) flags e.0 b = e.2 in
-        let adds = (is.net flags (λ j f at. at) (upper_side flags front) (lower_side flags front)).1 (front, accepts, refl, refl) in
-        let others = down path (e.0).next b.next back is.next rest in (
+    down (g ∷ path) from None tape goes h = absurd h
+    down (g ∷ path) None (Some k) tape goes h = absurd goes
+    down (g ∷ path) (Some name) (Some k) tape goes (front, back, member, here, added, rest, tape_is) =
+        let e = step_down name k g goes member here in
+        let is : IsEntryFor parts alphabet (names_of lexicons) flags e.0 g = e.2 in
+        let adds = (is.sides flags (λ j f at. at) (upper_side flags front) (lower_side flags front)).1 (front, added, refl, refl) in
+        let others = down path (e.0).next g.next back is.next rest in (
           e.0 ∷ others.0,
           (
             upper_side flags front,
@@ -133,15 +129,8 @@ module _ (parts : List Part) (alphabet : List Sym) (lexicons : List (Lexicon Ato
     )
 
     -- what pairs are used
-    pub pairs_over : (pair : Pair) → SomeEntryUses built (OfPair pair) → IsPairOver alphabet pair
-    pairs_over pair (k, b, (entries, there, held), uses) =
-        let within = slice_get_within built k entries there in
-        elim ((slice_get_cases lexicons k).1) [
-          | inl l ↦
-              let r = are.each k l.0 l.2 in
-              let same : entries ≡ r.0 = same_at built k entries r.0 there r.1 in
-              let e = (r.2).only b (subst (λ es. Contains es b) same held) in
-              let is : IsEntryFor parts alphabet (names_of lexicons) flags e.0 b = e.2 in
-              is.symbols pair uses
-          | inr missing ↦ let past = missing.0 in let count = are.count in absurd (omega arith)
-        ]
+    pub pairs_over : (pair : Pair) → SomeEntryUses (Contains given) (OfPair pair) → IsPairOver alphabet pair
+    pairs_over pair (g, held, uses) =
+        let r = are.only g held in
+        let is : IsEntryFor parts alphabet (names_of lexicons) flags r.1 g = r.4 in
+        is.symbols pair uses

@@ -8,20 +8,20 @@ ghost use Rattle.network_expr.specs.Parts.{IsGround, stands};
 ghost use Rattle.network_lexicons.specs.Built.{AreBuilt};
 ghost use Rattle.network_lexicons.specs.Plain.{lexicon_of, names_of, symbol_in};
 
-use crate::entries::lexicons_of;
+use crate::entries::add_lexicons;
 use crate::flags::Flags;
 use crate::names::Names;
 use crate::small::{small, straightened};
 use flag_diacritics::resolve;
 use fsm_base::Sym;
-use lexc_compile::lexicon;
+use lexc_compile::LexiconBuilder;
 use network_algebra::{Network, reduced};
 use network_expr::Part;
 use regex_ast::{Atom, Lexicon};
 use std::alloc::{AllocError, Global};
 
 /// The network of lexicons: the two sides of each path from the lexicon `Root` on which the flags of each side pass by
-/// themselves, without these flags. It is made of one automaton of all entries, each of which is built once. That is made
+/// themselves, without these flags. It is made of one automaton, to which all entries are given one by one. That is made
 /// small before its flags are resolved, and straightened and reduced once behind that.
 pub fn network_of_lexicons(
     alloc: Global,
@@ -42,10 +42,17 @@ pub fn network_of_lexicons(
         unreachable!()
     };
     let mut flags = Flags::new(alloc);
-    let entries = lexicons_of(alloc, alphabet, parts, &names, lexicons, &mut flags)?;
-    let whole = lexicon(alloc, &entries, root)?;
-    drop(entries);
-    let tapes = small(alloc, &whole)?;
+    let mut builder = LexiconBuilder::new(alloc, lexicons.len(), root)?;
+    add_lexicons(
+        alloc,
+        alphabet,
+        parts,
+        &names,
+        &mut builder,
+        lexicons,
+        &mut flags,
+    )?;
+    let tapes = small(alloc, builder.finish())?;
     let resolved = resolve(alloc, &tapes, flags.as_slice())?;
     let pairs = straightened(alloc, resolved)?;
     reduced(alloc, &Network::Pairs(pairs))

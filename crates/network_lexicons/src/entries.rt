@@ -1,60 +1,86 @@
-ghost use Rattle.std.specs.Prelude.{IfOk, OnOk, map};
+ghost use Rattle.std.specs.Prelude.{◌≡◌, ◌<◌, OnOk, length, map};
 ghost use Rattle.flag_diacritics.specs.Numbers.{Keeps};
+ghost use Rattle.lexc_compile.specs.Growing.{IsBegun};
 ghost use Rattle.network_expr.specs.Parts.{IsGround};
 ghost use Rattle.network_lexicons.specs.Built.{AreBuilt, EntriesAreBuilt};
-ghost use Rattle.network_lexicons.specs.Entries.{AreEntriesFor, AreLexiconsFor};
+ghost use Rattle.network_lexicons.specs.Entries.{AreEntriesFor, AreLexiconsFor, GivesAll};
 ghost use Rattle.network_lexicons.specs.Plain.{entry_of, lexicon_of};
 
 use crate::flags::Flags;
+use crate::forms::add_form;
 use crate::names::Names;
-use crate::nets::net_of;
 use fsm_base::Sym;
-use lexc_compile::LexEntry;
+use lexc_compile::LexiconBuilder;
 use network_expr::Part;
 use regex_ast::{Atom, Entry, Lexicon};
 use std::alloc::{AllocError, Global};
 
-/// The entries of a lexicon, each by the automaton of its tapes. An entry that names no lexicon is on no path, and left out.
-fn entries_of(
+/// Gives the entries of the lexicon at a place, among those of these names. An entry that names no lexicon is on no path, and
+/// left out.
+fn add_entries(
     alloc: Global,
     alphabet: &[Sym],
     parts: &[Part],
     names: &Names,
+    builder: &mut LexiconBuilder,
+    place: usize,
     entries: &[Entry<Atom>],
     flags: &mut Flags,
-) -> Result<Vec<LexEntry>, AllocError>
+) -> Result<(), AllocError>
     requires ground { IsGround alphabet.now parts.now }
     requires built { EntriesAreBuilt parts.now alphabet.now (map entry_of entries.now) }
+    requires begun { IsBegun builder.old }
+    requires count { builder.old.count ≡ length names.now }
+    requires place { place < builder.old.count }
     ensures kept { OnOk result (Keeps flags.old flags.new) }
-    ensures entries { IfOk result (λ built. AreEntriesFor parts.now alphabet.now names.now flags.new (map entry_of entries.now) built.items) }
+    ensures given { OnOk result (GivesAll (AreEntriesFor parts.now alphabet.now names.now flags.new place (map entry_of entries.now)) builder.old builder.new) }
 {
-    let mut built = Vec::new(alloc);
     'entries: for entry in entries {
         if let Some(next) = names.target_of(&entry.next) {
-            let net = net_of(alloc, alphabet, parts, &entry.form, flags)?;
-            built.push(LexEntry { net, next })?;
+            add_form(
+                alloc,
+                alphabet,
+                parts,
+                builder,
+                place,
+                &entry.form,
+                next,
+                flags,
+            )?;
         }
     }
-    Ok(built)
+    Ok(())
 }
 
-/// The entries of each lexicon.
-pub fn lexicons_of(
+/// Gives the entries of each lexicon.
+pub fn add_lexicons(
     alloc: Global,
     alphabet: &[Sym],
     parts: &[Part],
     names: &Names,
+    builder: &mut LexiconBuilder,
     lexicons: &[Lexicon<Atom>],
     flags: &mut Flags,
-) -> Result<Vec<Vec<LexEntry>>, AllocError>
+) -> Result<(), AllocError>
     requires ground { IsGround alphabet.now parts.now }
     requires built { AreBuilt parts.now alphabet.now (map lexicon_of lexicons.now) }
+    requires begun { IsBegun builder.old }
+    requires count { builder.old.count ≡ length names.now }
+    requires places { length lexicons.now ≡ length names.now }
     ensures kept { OnOk result (Keeps flags.old flags.new) }
-    ensures lexicons { IfOk result (λ built. AreLexiconsFor parts.now alphabet.now names.now flags.new (map lexicon_of lexicons.now) (map (λ entries. entries.items) built.items)) }
+    ensures given { OnOk result (GivesAll (AreLexiconsFor parts.now alphabet.now names.now flags.new (map lexicon_of lexicons.now)) builder.old builder.new) }
 {
-    let mut built = Vec::new(alloc);
-    'lexicons: for lexicon in lexicons {
-        built.push(entries_of(alloc, alphabet, parts, names, &lexicon.entries, flags)?)?;
+    'lexicons: for (place, lexicon) in lexicons.iter().enumerate() {
+        add_entries(
+            alloc,
+            alphabet,
+            parts,
+            names,
+            builder,
+            place,
+            &lexicon.entries,
+            flags,
+        )?;
     }
-    Ok(built)
+    Ok(())
 }

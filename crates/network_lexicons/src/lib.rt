@@ -2,16 +2,16 @@
 //!
 //! - [`network_of_lexicons`]: the network of the two sides of each path from the lexicon `Root` on which the flags of each
 //!   side pass. What lexicons relate is defined in project_meaning (`specs/Lexicons.antt`).
-//! - `tapes`: the two sides of an entry as one tape. `nets`: what an entry adds, as an automaton of tapes. `entries`: the
-//!   entries of all lexicons, which lexc_compile makes one automaton of. `names`: places of lexicons. `flags`: numbers of
-//!   flags. `small`: the automaton of all entries, made small.
+//! - `tapes`: the two sides of an entry as one tape. `forms`: what an entry adds. `entries`: the entries of all lexicons,
+//!   which are given to one automaton (lexc_compile). `names`: places of lexicons. `flags`: numbers of flags. `small`: that
+//!   automaton, made small, and the transducer that is left of it without flags, straightened.
 #![tactic(auto)]
 
 mod build;
 mod entries;
 mod flags;
+mod forms;
 mod names;
-mod nets;
 mod small;
 mod tapes;
 

@@ -21,13 +21,15 @@ const EDGES_MORE: usize = 1_024;
 
 /// A smaller automaton of the same tapes, its flags being letters as the others are: common beginnings of entries become one
 /// path, as far as that takes few steps, and so do common ends. Resolved flags multiply states, so they are made few before.
-pub fn small(alloc: Global, tapes: &Fsa<Tape>) -> Result<Fsa<Tape>, AllocError>
-    ensures letters { IfOk result (λ m. (x : Tape) → UsesLetter m x → UsesLetter tapes.now x) }
-    ensures language { IfOk result (λ m. (tape : List Tape) → Accepts m tape ↔ Accepts tapes.now tape) }
+/// The automaton is given back as soon as it isn't needed, since it is the largest thing of all.
+pub fn small(alloc: Global, tapes: Fsa<Tape>) -> Result<Fsa<Tape>, AllocError>
+    ensures letters { IfOk result (λ m. (x : Tape) → UsesLetter m x → UsesLetter tapes x) }
+    ensures language { IfOk result (λ m. (tape : List Tape) → Accepts m tape ↔ Accepts tapes tape) }
 {
-    let Some(straight) = determine_within(alloc, tapes, steps_for(tapes.edges().len()))? else {
-        return reduced(alloc, tapes);
+    let Some(straight) = determine_within(alloc, &tapes, steps_for(tapes.edges().len()))? else {
+        return reduced(alloc, &tapes);
     };
+    drop(tapes);
     let small = reduced(alloc, &straight)?;
     Ok(small)
 }

@@ -2,5 +2,5 @@ use Rattle.std.proofs.Common.{take}
 use Rattle.lexc_compile.specs.Built.{Walks}
 use Rattle.lexc_compile.proofs.words.walk.Given as goal
 
-abbrev pub invariant-loop-edge : goal.invariant-loop-edge
-invariant-loop-edge l = Walks l.from (take l.edge-index l.edges) l.fn.m l.fn.steps l.m l.steps l.at
+abbrev pub invariant-loop-letter : goal.invariant-loop-letter
+invariant-loop-letter l = Walks l.from (take l.letter-index l.tape) l.fn.m l.fn.steps l.m l.steps l.at

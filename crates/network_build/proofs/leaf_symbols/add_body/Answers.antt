@@ -17,8 +17,18 @@ returns-in-Lexc c =
     (λ h. subst (λ (body : Body Atom). AddsLeaves old new (body_leaves (body_of body))) (sym c.in-Lexc.is) (subst (λ lexicons. AddsLeaves old new (lexicons_leaves lexicons)) c.deref.ensures.value h))
     c.add_lexicons.ensures
 
-pub returns-in_ok-body_leaves-in-Xfst : goal.returns-in_ok-body_leaves-in-Xfst
-returns-in_ok-body_leaves-in-Xfst c =
+pub returns-in_ok-leaves-in-Xfst : goal.returns-in_ok-leaves-in-Xfst
+returns-in_ok-leaves-in-Xfst c =
+    let old = c.args.symbols.now in
+    let new = c.add_leaves.new.symbols in
     on_ok_weaker c.add_leaves.result
-    (λ h. subst (AddsLeaves c.args.symbols.now c.add_leaves.new.symbols) (ap seen c.deref-in-Xfst.ensures.value ∙ c.in_ok-body_leaves-in-Xfst.ensures) h)
+    (λ h. subst (λ (body : Body Atom). AddsLeaves old new (body_leaves (body_of body))) (sym c.in-Xfst.is) (subst (AddsLeaves old new) (ap seen c.deref.ensures.value ∙ c.in_ok-leaves-in-Xfst.ensures) h))
     c.add_leaves.ensures
+
+pub returns-in_ok-grammar_leaves-in-Twolc : goal.returns-in_ok-grammar_leaves-in-Twolc
+returns-in_ok-grammar_leaves-in-Twolc c =
+    let old = c.args.symbols.now in
+    let new = c.add_leaves-in-Twolc.new.symbols in
+    on_ok_weaker c.add_leaves-in-Twolc.result
+    (λ h. subst (λ (body : Body Atom). AddsLeaves old new (body_leaves (body_of body))) (sym c.in-Twolc.is) (subst (AddsLeaves old new) (ap seen c.deref-in-Twolc.ensures.value ∙ c.in_ok-grammar_leaves-in-Twolc.ensures) h))
+    c.add_leaves-in-Twolc.ensures

@@ -6,7 +6,8 @@ use Rattle.fst_relation.specs.Relation.{IsRelated}
 use Rattle.lookup.specs.Answering.{IsOverAlphabet}
 use Rattle.network_algebra.specs.Networks.{PairsOf}
 use Rattle.word_relations.specs.Relations.{AreSame}
-use Rattle.network_build.proofs.Sounds.{over_alphabet, same_relation}
+use Rattle.network_lexicons.proofs.Related.{same_relation}
+use Rattle.network_build.proofs.Sounds.{over_alphabet}
 use Rattle.network_build.proofs.compiled.Compiled.of.Goals as goal
 
 pub returns-clause-relation : goal.returns-clause-relation

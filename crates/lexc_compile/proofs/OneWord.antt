@@ -1,14 +1,18 @@
 -- A chain accepts the letters of its edges alone.
-use Rattle.std.proofs.Common.{◌≡◌, ℕ, zero, suc, ◌+◌, ◌↔◌, List, [], ◌∷◌, ◌++◌, Some, drop, length, refl, subst, sym, ap, arith, append_assoc, append-nil, add-one, ◌∙◌}
+use Rattle.std.proofs.Common.{◌≡◌, ℕ, zero, suc, ◌+◌, ◌↔◌, List, [], ◌∷◌, ◌++◌, Option, None, Some, inl, inr, drop, length, refl, subst, sym, ap, arith, append_assoc, append-nil, add-one, ◌∙◌}
 use Rattle.std.specs.List.{Contains, slice_get}
 use Rattle.std.specs.Option.{option_to_list}
 use Rattle.std.proofs.lemmas.List.{drop_all, length_push}
+use Rattle.std.proofs.lemmas.List.Elements.{Contains-append_cases}
+use Rattle.word_relations.proofs.Members.{Contains-cons_cases, Contains-head, Contains-nil_cases, Contains-tail}
 use Rattle.word_relations.proofs.Places.{slice_get_from_Contains, Contains-from_slice_get, slice_get-append_right}
 use Rattle.fsa.specs.Automaton.{Automaton, IsFinal}
 use Rattle.fsa.specs.Language.{Accepts, AcceptsFrom, stop}
 use Rattle.fsa.specs.declared.automaton.Edge.{Edge}
 use Rattle.fsa_rational.proofs.Walks.{AcceptsFrom-least, AcceptsFrom-step}
 use Rattle.flag_diacritics.specs.declared.tape.Tape.{Tape}
+use Rattle.lexc_compile.specs.Growing.{IsSame}
+use Rattle.lexc_compile.specs.Paths.{network, word}
 use Rattle.lexc_compile.specs.Words.{IsChain, letters_of}
 
 -- what stands at a place, and behind it
@@ -23,6 +27,18 @@ letters_of-append (e ∷ es) fs = ap (λ v. option_to_list e.letter ++ v) (lette
 
 pub letters_of-push : (es : List (Edge Tape)) (e : Edge Tape) → letters_of (es ++ e ∷ []) ≡ letters_of es ++ option_to_list e.letter
 letters_of-push es e = letters_of-append es (e ∷ []) ∙ ap (λ v. letters_of es ++ v) (append-nil (option_to_list e.letter))
+
+-- a letter of edges is that of one of them
+letter_from : (o : Option Tape) (x : Tape) → Contains (option_to_list o) x → o ≡ Some x
+letter_from None x none = absurd (Contains-nil_cases x none)
+letter_from (Some y) x one = elim (Contains-cons_cases y [] x one) [ inl same ↦ ap Some same | inr none ↦ absurd (Contains-nil_cases x none) ]
+
+letters_from : (es : List (Edge Tape)) (x : Tape) → Contains (letters_of es) x → (e : Edge Tape) × Contains es e × (e.letter ≡ Some x)
+letters_from [] x h = absurd (Contains-nil_cases x h)
+letters_from (e ∷ es) x h = elim (Contains-append_cases (option_to_list e.letter) (letters_of es) x h) [
+  | inl first ↦ (e, Contains-head e es, letter_from e.letter x first)
+  | inr later ↦ let r = letters_from es x later in (r.0, Contains-tail e es r.0 r.1, r.2)
+]
 
 module _ (net : Automaton Tape) (is : IsChain net) where
   end_rest : (p : ℕ) → IsFinal net p → [] ≡ letters_of (drop p net.edges)
@@ -54,3 +70,14 @@ module _ (net : Automaton Tape) (is : IsChain net) where
     λ h. AcceptsFrom-least net (λ p v. v ≡ letters_of (drop p net.edges)) end_rest step_rest h,
     λ same. subst (λ v. AcceptsFrom net 0 v) (sym same) (accepts_rest [] net.edges refl),
   )
+
+  -- so a word of these letters does for it
+  pub chain_same : (tape : List Tape) → tape ≡ letters_of net.edges → IsSame (word tape) net
+  chain_same tape same = record {
+    adds = λ x. (λ h. (chain_language x).1 (h ∙ same), λ h. (chain_language x).0 h ∙ sym same);
+    uses = λ x h. letters_from net.edges x (subst (λ xs. Contains xs x) same h);
+  }
+
+-- a network does for itself
+pub network_same : (net : Automaton Tape) → IsSame (network net) net
+network_same net = record { adds = λ x. (λ h. h, λ h. h); uses = λ x h. h }

@@ -1,7 +1,7 @@
 use Rattle.std.proofs.Common.{length, true, refl, arith}
 use Rattle.std.proofs.lemmas.Bool.{ltb-true, lt-ltb}
 use Rattle.std.proofs.lemmas.Option.{slice_get_within}
-use Rattle.lexc_compile.proofs.words.ends_alone.Goals as goal
+use Rattle.lexc_compile.proofs.chains.ends_alone.Goals as goal
 
 pub returns : goal.returns
 returns c =

@@ -1,44 +1,51 @@
-ghost use Rattle.std.specs.Prelude.{IfOk, OnOk, Some};
+ghost use Rattle.std.specs.Prelude.{◌<◌, OnOk, Some};
 ghost use Rattle.flag_diacritics.specs.Numbers.{Keeps};
 ghost use Rattle.flag_diacritics.specs.declared.tape.Tape.TheVariants as tape;
+ghost use Rattle.lexc_compile.specs.Blocks.{IsThere};
+ghost use Rattle.lexc_compile.specs.Growing.{IsBegun};
 ghost use Rattle.network_expr.specs.Parts.{IsGround};
 ghost use Rattle.network_lexicons.specs.Built.{FormIsBuilt};
-ghost use Rattle.network_lexicons.specs.Entries.{IsNetOf, UsesPairsOver};
+ghost use Rattle.network_lexicons.specs.Entries.{GivesForm};
 ghost use Rattle.network_lexicons.specs.Plain.{form_of};
 
 use crate::flags::Flags;
 use crate::tapes::tape_of;
 use flag_diacritics::Tape;
-use fsa::Fsa;
 use fsm_base::{Pair, Sym};
-use network_algebra::{Renaming, renamed, word};
+use lexc_compile::LexiconBuilder;
+use network_algebra::{Renaming, renamed};
 use network_expr::{Part, relation_of};
 use regex_ast::{Atom, Form};
 use std::alloc::{AllocError, Global};
 
-/// The automaton of the tapes of a form: of two sides their tape, and of an expression those of its pairs. Flags get
-/// their numbers in a list, and new ones are put behind the others there.
-pub fn net_of(
+/// Gives an entry of this form, of the lexicon at a place, to the automaton of lexicons: of two sides their tape, and of an
+/// expression the tapes of its pairs. Flags get their numbers in a list, and new ones are put behind the others there.
+pub fn add_form(
     alloc: Global,
     alphabet: &[Sym],
     parts: &[Part],
+    builder: &mut LexiconBuilder,
+    place: usize,
     form: &Form<Atom>,
+    next: Option<u32>,
     flags: &mut Flags,
-) -> Result<Fsa<Tape>, AllocError>
+) -> Result<(), AllocError>
     requires ground { IsGround alphabet.now parts.now }
     requires built { FormIsBuilt parts.now alphabet.now (form_of form.now) }
+    requires begun { IsBegun builder.old }
+    requires placed { (place < builder.old.count) × IsThere builder.old.count next }
     ensures kept { OnOk result (Keeps flags.old flags.new) }
-    ensures symbols { IfOk result (UsesPairsOver alphabet.now) }
-    ensures net { IfOk result (IsNetOf parts.now alphabet.now flags.new (form_of form.now)) }
+    ensures given { OnOk result (GivesForm parts.now alphabet.now flags.new place (form_of form.now) next builder.old builder.new) }
 {
     match form {
         Form::Sides { upper, lower } => {
             let tape = tape_of(alloc, upper, lower, flags)?;
-            word(alloc, &tape)
+            builder.add_word(place, &tape, next)
         }
         Form::Pairs(expr) => {
             let pairs = relation_of(alloc, alphabet, parts, expr)?;
-            renamed(alloc, &pairs, &AsTape)
+            let tapes = renamed(alloc, &pairs, &AsTape)?;
+            builder.add_network(place, &tapes, next)
         }
     }
 }
