@@ -1,7 +1,6 @@
 -- Bodies of definitions are built as their forms are, and over other symbols where their leaves are among these.
-use Rattle.std.proofs.Common.{◌≡◌, ◌++◌, ◌||◌, Bool, true, false, List, [], ◌∷◌, All, Contains, IsTrue, map, refl, sym, ap, subst, ◌∙◌, inl, inr}
+use Rattle.std.proofs.Common.{◌≡◌, ◌||◌, Bool, true, false, List, [], ◌∷◌, All, Contains, IsTrue, map, refl, sym, subst, inl, inr}
 use Rattle.std.specs.List.{flat_map, list_any}
-use Rattle.std.proofs.lemmas.List.{map-append}
 use Rattle.std.proofs.lemmas.List.Elements.{All-nil, All-cons, All-head, All-append, All-map, All-contains, All-weaker}
 use Rattle.word_relations.proofs.Members.{Contains-nil_cases, Contains-cons_cases, Contains-head, Contains-map}
 use Rattle.fsm_base.specs.declared.letters.Sym.{Sym as Symbol}

@@ -10,8 +10,6 @@ use Rattle.word_relations.specs.Relations.{AreSame}
 use Rattle.word_relations.specs.Words.{IsDistinct}
 use Rattle.word_relations.proofs.Members.{Contains-cons_cases, Contains-head, Contains-tail, Contains-map, Contains-map_cases}
 use Rattle.fsa.specs.Automaton.{Automaton, UsesLetter}
-use Rattle.fsa.specs.Language.{Accepts}
-use Rattle.fst_relation.specs.Relation.{IsRelated}
 use Rattle.lookup.specs.Answering.{IsOverAlphabet}
 use Rattle.regex_ast.specs.declared.expr.Atom.{Atom}
 use Rattle.regex_ast.specs.declared.expr.Atom.TheVariants.{Sym, Name}

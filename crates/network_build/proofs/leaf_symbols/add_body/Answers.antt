@@ -14,7 +14,7 @@ returns-in-Lexc c =
     let old = c.args.symbols.now in
     let new = c.add_lexicons.new.symbols in
     on_ok_weaker c.add_lexicons.result
-    (λ h. subst (λ (body : Body Atom). AddsLeaves old new (body_leaves (body_of body))) (sym c.in-Lexc.is) (subst (λ lexicons. AddsLeaves old new (lexicons_leaves lexicons)) c.deref.ensures.value h))
+    (λ h. subst (λ (body : Body Atom). AddsLeaves old new (body_leaves (body_of body))) (sym c.in-Lexc.is) (subst (λ lexicons. AddsLeaves old new (lexicons_leaves lexicons)) c.deref-in-Lexc.ensures.value h))
     c.add_lexicons.ensures
 
 pub returns-in_ok-leaves-in-Xfst : goal.returns-in_ok-leaves-in-Xfst
