@@ -2,3 +2,4 @@ pub mod Tapes
 pub mod Numbers
 pub mod Search
 pub mod Idle
+pub mod Marks

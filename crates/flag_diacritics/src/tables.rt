@@ -1,8 +1,16 @@
 ghost use Rattle.std.specs.Prelude.{◌≡◌, ◌<◌, ◌++◌, ◌⊎◌, ◌∷◌, [], Some, IfOk, OnOk, length, slice_get};
+ghost use Rattle.std.specs.Cmp.Rules.{hashing};
+ghost use Rattle.std.specs.Hash as fed;
+ghost use Rattle.std.proofs.Common.{rules};
+ghost use Rattle.flag_diacritics.specs.Marks.{mark_of};
 
 use indexmap::IndexSet;
 use std::alloc::{AllocError, Global};
+use std::hash::{Hash, Hasher};
 use std::marker::Model;
+
+/// Odd, with its bits in no order, so that each number of a place moves the whole hash.
+const MULTIPLIER: usize = 0x9e37_79b9_7f4a_7c15;
 
 /// What each feature is at some place of a tape, numbered from 0 in the order in which they came, and found again by
 /// a hash. Contracts see the list of these lists.
@@ -60,7 +68,7 @@ impl FeatureTable {
 }
 
 /// A state of the network, and what the features of each side are there, by numbers.
-#[derive(Clone, Copy, Debug, PartialEq, Eq, Hash)]
+#[derive(Clone, Copy, Debug, PartialEq, Eq)]
 pub struct Place {
     /// The state.
     pub state: usize,
@@ -68,6 +76,27 @@ pub struct Place {
     pub upper: usize,
     /// What they are behind the lower flags so far.
     pub lower: usize,
+}
+
+/// Hashed as one number, since a search looks up a place for each edge.
+impl Hash for Place {
+    ghost hash_input = { λ place. fed.usize (mark_of place) };
+
+    ghost respects_eq = { Prim.search (hashing, rules) };
+
+    fn hash<H: Hasher>(&self, state: &mut H) {
+        mark_of(*self).hash(state);
+    }
+}
+
+/// The number by which a place is hashed. Few others have the same.
+fn mark_of(place: Place) -> usize
+    ensures { result ≡ mark_of place }
+{
+    let sides = MULTIPLIER
+        .wrapping_mul(place.upper)
+        .wrapping_add(place.lower);
+    MULTIPLIER.wrapping_mul(sides).wrapping_add(place.state)
 }
 
 /// Places, numbered from 0 in the order in which they came, and found again by a hash. Contracts see the list of the
@@ -117,9 +146,6 @@ impl PlaceTable {
         ensures number { IfOk result (λ k. slice_get self.new k ≡ Some place) }
         ensures kept { OnOk result ((self.new ≡ self.old) ⊎ (self.new ≡ self.old ++ place ∷ [])) }
     {
-        if let Some(number) = self.places.get_index_of(&place) {
-            return Ok(number);
-        }
         let (number, _) = self.places.insert_full(place)?;
         Ok(number)
     }

@@ -1,7 +1,7 @@
 //! The search over states that the constructions on automata share.
 //!
 //! - [`EdgesByState`]: the edges of an automaton, found again by the state that they leave. [`epsilon_edges`]: those without a
-//!   letter.
+//!   letter. [`sorted_by_state`], [`edges_from`]: a sorted list of edges, and those that leave a state among them.
 //! - [`NumberSet`]: a set of numbers below a bound, in the order in which they were found.
 //! - [`add_targets`]: the states that a letter's edges enter. [`close`]: adds what epsilon edges reach.
 //! - [`ListTable`]: lists of states, numbered in the order in which they came.
@@ -15,6 +15,7 @@
 mod alike;
 mod closure;
 mod edges_by_state;
+mod gathering;
 mod lazy;
 mod number_set;
 mod signatures;
@@ -22,7 +23,7 @@ mod table;
 
 pub use alike::{LetterClasses, alike_in_both, columns_alike, explore_by_class, rows_alike};
 pub use closure::{add_targets, close};
-pub use edges_by_state::{EdgesByState, epsilon_edges};
+pub use edges_by_state::{EdgesByState, edges_from, epsilon_edges, sorted_by_state};
 pub use lazy::{Explored, FoundLists, LazyAutomaton, explore};
 pub use number_set::NumberSet;
 pub use signatures::signature_of;

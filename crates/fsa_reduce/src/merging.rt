@@ -73,7 +73,7 @@ pub fn moved_edges(
     requires { AreWithinBoth edges.now (length classes.now) }
     ensures { IfOk result (λ v. (f : Edge ℕ) → Contains v.items f ↔ ((e : Edge ℕ) × Contains edges.now e × IsMoved classes.now e f)) }
 {
-    let mut moved = Vec::new(alloc);
+    let mut moved = Vec::with_capacity(alloc, edges.len())?;
     for edge in edges {
         moved.push(Edge {
             from: class_at(classes, edge.from),

@@ -31,7 +31,7 @@ pub fn placed_edges<L: Letter>(
     ensures { IfOk result (λ placed. IsPlaced letters.now edges.now placed.items) }
 {
     let places = places_of(alloc, letters)?;
-    let mut placed = Vec::new(alloc);
+    let mut placed = Vec::with_capacity(alloc, edges.len())?;
     for edge in edges {
         placed.push(at_place(&places, *edge))?;
     }

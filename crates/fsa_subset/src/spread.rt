@@ -1,4 +1,5 @@
 ghost use Rattle.std.specs.Prelude.{◌≡◌, ◌<◌, ◌↔◌, ℕ, List, IfOk, IfSome, OnOk, All, Contains, map, length};
+ghost use Rattle.std.specs.List.Sorted.{IsNonDecreasingBy};
 ghost use Rattle.fsa.specs.Automaton.{UsesLetter};
 ghost use Rattle.fsa.specs.Language.{Accepts};
 ghost use Rattle.fsa.specs.declared.automaton.Edge.{Edge};
@@ -13,7 +14,7 @@ use crate::partial::Partial;
 use crate::places::{LetterIndex, placed_rows};
 use crate::subsets::{any_final, moves_from, settled, target_set};
 use fsa::{Edge, Fsa};
-use fsa_explore::{EdgesByState, NumberSet};
+use fsa_explore::{EdgesByState, NumberSet, edges_from, sorted_by_state};
 use fsm_base::Letter;
 use std::alloc::{AllocError, Global};
 
@@ -96,10 +97,9 @@ fn leave(
     ensures steps { OnOk result (AddsSteps (IsSettled rows.now reached.old.bound) (LeadsBy rows.now set.now) number (HasMove rows.now set.now) found.old found.new) }
     ensures bound { reached.new.bound ≡ reached.old.bound }
 {
-    let moves = moves_from(alloc, rows, set)?;
+    let moves = sorted_by_state(alloc, moves_from(alloc, rows, set)?)?;
     let places = places_on(alloc, &moves)?;
-    let by_place = EdgesByState::of(alloc, &moves)?;
-    add_steps(alloc, rows, &by_place, &places, number, reached, found)?;
+    add_steps(alloc, rows, &moves, &places, number, reached, found)?;
     Ok(moves.len())
 }
 
@@ -120,11 +120,11 @@ fn sources_of(alloc: Global, edges: &[Edge<LetterIndex>]) -> Result<Vec<usize>, 
     edges.iter().map(|edge| edge.from).collect(alloc)
 }
 
-/// Adds an edge for each of these places, from the set with the number.
+/// Adds an edge for each of these places, from the set with the number. The moves are sorted by their places.
 fn add_steps(
     alloc: Global,
     rows: &EdgesByState<LetterIndex>,
-    moves: &EdgesByState<LetterIndex>,
+    moves: &[Edge<LetterIndex>],
     places: &[usize],
     number: usize,
     reached: &mut NumberSet,
@@ -132,11 +132,12 @@ fn add_steps(
 ) -> Result<(), AllocError>
     requires edges { AreWithin rows.now reached.old.bound }
     requires moves { AreWithin moves.now reached.old.bound }
+    requires sorted { IsNonDecreasingBy (λ e. e.from) moves.now }
     ensures steps { OnOk result (AddsSteps (IsSettled rows.now reached.old.bound) (IsTargetSet rows.now moves.now) number (Contains places.now) found.old found.new) }
     ensures bound { reached.new.bound ≡ reached.old.bound }
 {
     'places: for place in places {
-        let set = target_set(alloc, rows, moves.out(*place), reached)?;
+        let set = target_set(alloc, rows, edges_from(moves, *place), reached)?;
         found.add(number, *place, set)?;
     }
     Ok(())
@@ -147,7 +148,7 @@ fn finals_of(alloc: Global, found: &Partial, finals: &[bool]) -> Result<Vec<bool
     requires { (set : List ℕ) → Contains found.now.sets set → All (λ p. p < length finals.now) set }
     ensures { IfOk result (λ marks. AreFinal finals.now found.now.sets marks.items) }
 {
-    let mut marks = Vec::new(alloc);
+    let mut marks = Vec::with_capacity(alloc, found.len())?;
     'sets: for number in 0..found.len() {
         marks.push(any_final(finals, found.set(number)))?;
     }

@@ -66,9 +66,17 @@ fn add_form<'a, A>(
 pub fn form_places<A>(alloc: Global, form: &Form<A>) -> Result<Vec<Place<&A>>, AllocError>
     ensures { IfOk result (λ found. places_behind found.items ≡ places_in_form (form_of form.now)) }
 {
-    let mut found = Vec::new(alloc);
+    let mut found = Vec::with_capacity(alloc, pieces_on_sides(form))?;
     add_form(alloc, form, &mut found)?;
     Ok(found)
+}
+
+/// How many pieces the sides of a form have.
+fn pieces_on_sides<A>(form: &Form<A>) -> usize {
+    match form {
+        Form::Sides { upper, lower } => upper.len().saturating_add(lower.len()),
+        Form::Pairs(_) => 0,
+    }
 }
 
 /// Adds the leaves of entries.

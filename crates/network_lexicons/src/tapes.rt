@@ -33,7 +33,7 @@ pub fn tape_of(
     ensures kept { OnOk result (Keeps flags.old flags.new) }
     ensures sides { IfOk result (λ tape. HasSides flags.new upper.now lower.now tape.items) }
 {
-    let mut tape = Vec::new(alloc);
+    let mut tape = Vec::with_capacity(alloc, upper.len().max(lower.len()))?;
     let mut above = upper;
     let mut below = lower;
     'letters: while !are_empty(above, below) {
