@@ -1,5 +1,5 @@
 -- How letters are cut, place by place.
-use Rattle.std.proofs.Common.{◌≡◌, ◌<◌, ◌≤◌, ℕ, Bool, true, false, List, [], ◌∷◌, ◌++◌, length, take, drop, Option, None, Some, Contains, sym, ap, subst, ◌∙◌, arith, append_assoc, append-nil}
+use Rattle.std.proofs.Common.{◌≡◌, ◌+◌, ◌<◌, ◌≤◌, ℕ, suc, Bool, true, false, List, [], ◌∷◌, ◌++◌, length, take, drop, drop-cons, get_or, Option, None, Some, Contains, refl, sym, ap, subst, ◌∙◌, arith, append_assoc, append-nil}
 use Rattle.std.proofs.lemmas.List.{drop-map}
 use Rattle.std.specs.Bool.{if◌then◌else◌}
 use Rattle.std.specs.Str.{encode_utf8_all}
@@ -97,3 +97,15 @@ text_behind_one rest text behind letter others text_is split behind_is = behind_
 pub all_taken : (declared : List (List ℕ)) (letters rest : List Letter) (pieces : List (Piece Raw)) → length rest ≡ 0 → SoFar declared letters rest pieces → CutsInto declared letters pieces
 all_taken declared letters [] pieces none so_far = subst (CutsInto declared letters) (append-nil pieces) (so_far [] ended)
 all_taken declared letters (l ∷ rest) pieces none so_far = absurd (omega (arith, none))
+
+-- one more letter in front, with whose character no symbol and no flag begins
+pub one_more : (declared : List (List ℕ)) (letters : List Letter) (n : ℕ) (pieces pushed : List (Piece Raw)) (other letter : Letter) → n < length letters → letter ≡ get_or letters n other → ((behind : List ℕ) → HasNoPiece declared (character_of letter ∷ behind)) → pushed ≡ pieces ++ alone letter → SoFar declared letters (drop n letters) pieces → SoFar declared letters (drop (n + 1) letters) pushed
+one_more declared letters n pieces pushed other letter below is none pushed_is so_far =
+    let others = drop (n + 1) letters in
+    let split : drop n letters ≡ letter ∷ others =
+    drop-cons letters n other below ∙ ap (λ (l : Letter). l ∷ drop (suc n) letters) (sym is) ∙ ap (λ (k : ℕ). letter ∷ drop k letters) (next n) in
+    one_taken declared letters (letter ∷ others) (characters_of (letter ∷ others)) letter others pieces pushed refl refl (none (characters_of others)) pushed_is
+    (subst (λ (r : List Letter). SoFar declared letters r pieces) split so_far)
+  where
+    next : (n : ℕ) → suc n ≡ n + 1
+    next n = omega arith

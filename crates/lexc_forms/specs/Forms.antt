@@ -51,6 +51,11 @@ pub data CutsInto (declared : List (List ℕ)) : List Letter → List (Piece Raw
   longest : (letters : List Letter) (n : ℕ) (piece : Piece Raw) (pieces : List (Piece Raw)) → IsLongestPiece declared (characters_of letters) n piece → CutsInto declared (drop n letters) pieces → CutsInto declared letters (piece ∷ pieces)
   one : (letter : Letter) (letters : List Letter) (pieces : List (Piece Raw)) → HasNoPiece declared (characters_of (letter ∷ letters)) → CutsInto declared letters pieces → CutsInto declared (letter ∷ letters) (alone letter ++ pieces)
 
+-- so many letters in front are cut into these pieces, however the others are cut
+pub record IsCutFront (declared : List (List ℕ)) (letters : List Letter) (n : ℕ) (pieces : List (Piece Raw)) : Type 0 where
+  pub within : n ≤ length letters
+  pub with_others : (others : List (Piece Raw)) → CutsInto declared (drop n letters) others → CutsInto declared letters (pieces ++ others)
+
 -- the two sides of a word: what stands before and behind its `:`, or, where it has none, the word twice
 abbrev pub HasSides : List Letter → List Letter → List Letter → Type 0
 HasSides word upper lower =

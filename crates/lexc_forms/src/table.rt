@@ -1,4 +1,4 @@
-ghost use Rattle.std.specs.Prelude.{◌≡◌, ◌<◌, ◌≤◌, ℕ, List, [], false, length, take, IfOk, OnOk, MatchOption};
+ghost use Rattle.std.specs.Prelude.{◌≡◌, ◌<◌, ◌≤◌, ℕ, List, [], ◌∷◌, false, length, take, IfOk, OnOk, MatchOption};
 ghost use Rattle.fsm_base.specs.Symbols.{with_text};
 ghost use Rattle.lexc_forms.specs.Fronts.{HasNoFront, IsLongestFront};
 ghost use Rattle.lexc_forms.specs.Kept.{AreMarked, IsMarkedFor};
@@ -7,8 +7,8 @@ use indexmap::IndexSet;
 use std::alloc::{AllocError, Global};
 use std::marker::Model;
 
-/// How many characters have a place in a table: those of ASCII.
-const PLACES: usize = 128;
+/// How many characters have a place in a table: those that have two bytes at most in UTF-8.
+const PLACES: usize = 2_048;
 
 /// The declared multicharacter symbols that are no flags, each once. Contracts see the list of their characters.
 #[derive(Drop)]
@@ -70,15 +70,26 @@ impl DeclaredSymbols {
         Vec::from_slice(alloc, self.begins.as_slice())
     }
 
+    /// Whether a symbol may begin with a character.
+    pub(crate) fn may_begin_with(&self, character: char) -> bool
+        ensures { result ≡ false → (behind : List ℕ) → HasNoFront self.now (character ∷ behind) }
+    {
+        if self.symbols.is_empty() {
+            return false;
+        }
+        let place = character as usize;
+        place >= self.begins.len() || self.begins[place]
+    }
+
     /// Whether a symbol may begin a text.
     fn may_begin(&self, text: &[char]) -> bool
         ensures { result ≡ false → HasNoFront self.now text.now }
     {
-        match text.first() {
-            Some(first) => {
-                let place = *first as usize;
-                place >= self.begins.len() || self.begins[place]
-            }
+        if self.symbols.is_empty() {
+            return false;
+        }
+        match text.split_first() {
+            Some((first, _)) => self.may_begin_with(*first),
             None => false,
         }
     }

@@ -1,16 +1,21 @@
 -- Negative flags in words.
-use Rattle.std.proofs.Common.{◌≡◌, ◌≢◌, ◌+◌, ◌<◌, ◌≤◌, ◌⊎◌, ℕ, zero, suc, Bool, true, false, List, [], ◌∷◌, ◌++◌, All, MatchBool, IsTrue, length, take, drop, Option, None, Some, refl, sym, ap, subst, ◌∙◌, inl, inr, arith, append_assoc}
+use Rattle.std.proofs.Common.{◌≡◌, ◌≢◌, ◌+◌, ◌⊎◌, ℕ, zero, suc, Bool, true, false, List, [], ◌∷◌, ◌++◌, MatchBool, length, take, drop, refl, sym, ap, subst, ◌∙◌, inl, inr, arith}
 use Rattle.std.proofs.lemmas.List.{drop-drop}
+use Rattle.std.proofs.lemmas.Bool.Decides.{Decides-eqb}
+use Rattle.std.specs.List.{list_any}
 use Rattle.std.specs.Str.{encode_utf8_all}
 use Rattle.std.proofs.lemmas.List.Elements.{All-cons, All-append, All-weaker}
 use Rattle.regex_ast.specs.Flags.{IsFlag, IsNegativeFlag, IsFeature, IsFeatureByte}
 use Rattle.regex_ast.specs.declared.lexc.FlagKind.{FlagKind}
 use Rattle.regex_ast.specs.declared.lexc.FlagKind.TheVariants.{P, C, R, D, U}
 use Rattle.flag_texts.specs.Reading.{HasNo, letter_of}
-use Rattle.flag_texts.proofs.Shapes.{Shape, shape_of}
+use Rattle.flag_texts.proofs.Shapes.{shape_of}
 use Rattle.lexc_forms.specs.Fronts.{IsMarked, IsOnlyMarked, HasNoMarked}
-use Rattle.lexc_forms.proofs.Marks.{marked_characters}
-use Rattle.lexc_tokens.specs.Tokens.{HasNegativeFront}
+use Rattle.lexc_forms.specs.declared.letters.Letter.{Letter}
+use Rattle.lexc_forms.specs.Letters.{character_of, characters_of, is_mark}
+use Rattle.lexc_forms.proofs.Marks.{marked_characters, other_first}
+use Rattle.lexc_forms.proofs.Positions.{or_left, or_right, or_none}
+use Rattle.lexc_tokens.specs.Tokens.{HasNegativeFront, HasNegativeFlag}
 
 apart_from_feature : (feature : List ℕ) → IsFeature feature → HasNo 64 feature
 apart_from_feature feature is = All-weaker IsFeatureByte (λ b. b ≢ 64) (λ b h. h.4) feature is.1
@@ -84,6 +89,26 @@ one_later (c ∷ cs) none has = by has.0 has.1
     by : (n : ℕ) → HasNegativeFront (drop n (c ∷ cs)) → HasOne cs
     by zero front = absurd (none front)
     by (suc n) front = (n, front)
+
+-- Words without `@`.
+
+abbrev pub is_at : Letter → Bool
+is_at letter = is_mark (character_of letter)
+
+unmarked_characters : (letters : List Letter) → list_any is_at letters ≡ false → list_any is_mark (characters_of letters) ≡ false
+unmarked_characters [] none = refl
+unmarked_characters (l ∷ letters) none = or_none (is_at l) (list_any is_mark (characters_of letters)) (or_left (is_at l) (list_any is_at letters) none) (unmarked_characters letters (or_right (is_at l) (list_any is_at letters) none))
+
+other_than_mark : (c : ℕ) → is_mark c ≡ false → c ≢ 64
+other_than_mark c is same = let clash : true ≡ false = sym ((Decides-eqb c 64).1 same) ∙ is in cc
+
+none_behind : (text : List ℕ) → list_any is_mark text ≡ false → HasOne text → ⊥
+none_behind [] none has = none_at_end [] refl has
+none_behind (c ∷ cs) none has =
+    none_behind cs (or_right (is_mark c) (list_any is_mark cs) none) (one_later (c ∷ cs) (unmarked_no_negative (c ∷ cs) (other_first (c ∷ cs) c cs refl (other_than_mark c (or_left (is_mark c) (list_any is_mark cs) none)))) has)
+
+pub none_unmarked : (letters : List Letter) → list_any is_at letters ≡ false → HasNegativeFlag letters → ⊥
+none_unmarked letters none = none_behind (characters_of letters) (unmarked_characters letters none)
 
 pub next_place : (text rest behind : List ℕ) (n : ℕ) → rest ≡ drop n text → behind ≡ drop 1 rest → behind ≡ drop (n + 1) text
 next_place text rest behind n is behind_is = behind_is ∙ ap (drop 1) is ∙ drop-drop 1 n text

@@ -1,4 +1,6 @@
-ghost use Rattle.std.specs.Prelude.{IfOk, MatchBool};
+ghost use Rattle.std.specs.Prelude.{◌≡◌, IfOk, MatchBool};
+ghost use Rattle.std.specs.List.{list_any};
+ghost use Rattle.lexc_forms.specs.Letters.{character_of, is_mark};
 ghost use Rattle.lexc_tokens.specs.Tokens.{HasNegativeFlag, HasNegativeFront};
 
 use flag_texts::read_flag;
@@ -24,10 +26,20 @@ fn is_negative_front(alloc: Global, text: &[char]) -> Result<bool, AllocError>
     }
 }
 
+/// Whether a letter is an `@`, escaped or not. A word without one has no flag.
+fn has_mark(letters: &[Letter]) -> bool
+    ensures { result ≡ list_any (λ letter. is_mark (character_of letter)) letters.now }
+{
+    letters.iter().any(|letter| letter.character() == '@')
+}
+
 /// Whether a word has a negative flag in it, its escapes undone.
 pub fn has_negative_flag(alloc: Global, letters: &[Letter]) -> Result<bool, AllocError>
     ensures { IfOk result (λ has. MatchBool has (HasNegativeFlag letters.now) (HasNegativeFlag letters.now → ⊥)) }
 {
+    if !has_mark(letters) {
+        return Ok(false);
+    }
     let text = characters(alloc, letters)?;
     let mut rest = text.as_slice();
     'places: while !rest.is_empty() {

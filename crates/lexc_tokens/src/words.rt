@@ -4,6 +4,9 @@ ghost use Rattle.lexc_tokens.specs.Tokens.{IsWord, escaped_front, is_escapable, 
 use lexc_forms::Letter;
 use std::alloc::{AllocError, Global};
 
+/// Room for the letters of most words, so that few of them are moved while they grow.
+const ROOM: usize = 16;
+
 /// Whether a character may stand in a word without an escape: it is no blank, and none of `;`, `!` and `%`.
 fn is_plain(character: char) -> bool
     ensures { result ≡ is_plain character }
@@ -49,7 +52,7 @@ pub fn word(alloc: Global, text: &[char]) -> Result<(Vec<Letter>, usize), AllocE
     ensures letters { IfOk result (λ found. IsWord text.now found.0.items (drop found.1 text.now)) }
     ensures within { IfOk result (λ found. found.1 ≤ length text.now) }
 {
-    let mut letters = Vec::new(alloc);
+    let mut letters = Vec::with_capacity(alloc, ROOM)?;
     let mut len = 0;
     'letters: while let Some((letter, size)) = letter_front(text.split_at(len).1) {
         letters.push(letter)?;

@@ -7,8 +7,8 @@ pub rest-preserved-in-Some-2 : goal.rest-preserved-in-Some-2
 rest-preserved-in-Some-2 c =
     let front = rw c.in-Some-2.is at c.in_ok-piece.ensures in
     record {
-      characters_are = text_behind c.rest.rest.now c.rest.text.now c.split_at-in-Some-2.result.1.now c.split_at.result.1.now c.in-Some-2.len c.rest.invariant.characters_are c.split_at-in-Some-2.ensures.back c.split_at.ensures.back;
-      so_far = subst (λ (r : List Letter). SoFar c.args.declared.now c.args.letters.now r c.push.new.self.items) (sym c.split_at.ensures.back)
+      characters_are = text_behind c.rest.rest.now c.rest.text.now c.split_at-in-Some-2-2.result.1.now c.split_at-in-Some-2.result.1.now c.in-Some-2.len c.rest.invariant.characters_are c.split_at-in-Some-2-2.ensures.back c.split_at-in-Some-2.ensures.back;
+      so_far = subst (λ (r : List Letter). SoFar c.args.declared.now c.args.letters.now r c.push.new.self.items) (sym c.split_at-in-Some-2.ensures.back)
           (longest_taken c.args.declared.now c.args.letters.now c.rest.rest.now c.rest.text.now c.rest.pieces.items c.push.new.self.items c.in-Some-2.piece c.in-Some-2.len c.rest.invariant.characters_are front c.in_ok-push-in-Some-2.ensures.items c.rest.invariant.so_far);
     }
 

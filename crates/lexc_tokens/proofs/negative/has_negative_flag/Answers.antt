@@ -1,9 +1,12 @@
-use Rattle.std.proofs.Common.{◌≡◌, ◌+◌, ◌==◌, ℕ, List, true, length, sym, subst, ◌∙◌, arith}
+use Rattle.std.proofs.Common.{◌≡◌, ◌+◌, ◌==◌, true, length, sym, subst, ◌∙◌, arith}
 use Rattle.std.proofs.lemmas.Bool.Decides.{nat_tests}
 use Rattle.lexc_tokens.specs.Tokens.{HasNegativeFront}
 use Rattle.lexc_forms.specs.Letters.{characters_of}
-use Rattle.lexc_tokens.proofs.Negatives.{HasOne, none_at_end, one_later, next_place, by_true, by_false}
+use Rattle.lexc_tokens.proofs.Negatives.{HasOne, none_at_end, none_unmarked, one_later, next_place, by_true, by_false}
 use Rattle.lexc_tokens.proofs.negative.has_negative_flag.Goals as goal
+
+pub returns-then-not-has_mark : goal.returns-then-not-has_mark
+returns-then-not-has_mark c = none_unmarked c.args.letters.now (sym c.has_mark.ensures ∙ c.if-not-has_mark.true)
 
 pub places-init : goal.places-init
 places-init c =
