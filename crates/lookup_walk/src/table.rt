@@ -1,7 +1,10 @@
-ghost use Rattle.std.specs.Prelude.{◌≡◌, ◌≤◌, ◌-◌, ◌↔◌, None, Some, Contains, IfOk, IfSome, length, take, drop};
+ghost use Rattle.std.specs.Prelude.{◌≡◌, ◌+◌, ◌≤◌, ◌-◌, ◌↔◌, true, false, None, Some, Contains, IfOk, IfSome, length, take, drop};
+ghost use Rattle.std.specs.Bool.{OnTrue};
+ghost use Rattle.std.specs.List.{AllWithin};
+ghost use Rattle.std.specs.Ordering.{is_lt};
 ghost use Rattle.lookup_walk.specs.declared.moves.Move.{Move};
 ghost use Rattle.lookup_walk.specs.Moves.{AreMoves};
-ghost use Rattle.lookup_walk.specs.Sorted.{AreRows, AreSorted, IsOnly, IsRow};
+ghost use Rattle.lookup_walk.specs.Sorted.{AreRows, AreSorted, IsFirstFrom, IsOnly, IsRow, spot_cmp};
 
 use crate::moves::{Move, Spot, take};
 use fsa::Edge;
@@ -9,6 +12,9 @@ use fsm_base::{Pair, Sym};
 use lookup_answers::Direction;
 use std::alloc::{AllocError, Global};
 use std::marker::Model;
+
+/// The symbol that no other one comes before.
+const LEAST: Sym = Sym(0);
 
 /// Where the moves of a state stand among sorted ones.
 #[derive(Clone, Copy, Debug)]
@@ -177,32 +183,102 @@ fn moves_at(moves: &[Move], spot: Spot) -> &[Move]
     &rest[..rest.partition_point(|m| m.at.cmp(&spot).is_le())]
 }
 
-/// The rows of the first states, so many, among sorted moves.
+/// The rows of the first states, so many, among sorted moves. Each is looked for from the end of the one before it.
 fn rows_of(alloc: Global, moves: &[Move], states: usize) -> Result<Vec<Row>, AllocError>
     requires { AreSorted moves.now }
     ensures { IfOk result (λ rows. AreRows moves.now rows.items) }
 {
     let mut rows = Vec::with_capacity(alloc, states)?;
+    let mut near = 0;
     'states: for state in 0..states {
-        rows.push(row_of(moves, state))?;
+        let row = row_of(moves, state, near);
+        near = row.end;
+        rows.push(row)?;
     }
     Ok(rows)
 }
 
-/// The row of a state among sorted moves.
-fn row_of(moves: &[Move], state: usize) -> Row
+/// The row of a state among sorted moves, looked for from a place on.
+fn row_of(moves: &[Move], state: usize, near: usize) -> Row
     requires { AreSorted moves.now }
     ensures { IsRow moves.now state result }
 {
     let epsilon = Spot { state, read: None };
-    Row {
-        first: moves.partition_point(|m| m.at.cmp(&epsilon).is_lt()),
-        reads: moves.partition_point(|m| m.at.cmp(&epsilon).is_le()),
-        end: moves.partition_point(|m| m.at.state <= state),
+    let reading = Spot {
+        state,
+        read: Some(LEAST),
+    };
+    let first = first_from(moves, epsilon, near);
+    let reads = first_from(moves, reading, first);
+    let end = first_behind(moves, state, reads);
+    Row { first, reads, end }
+}
+
+/// How many of sorted moves leave this state or one before it, looked for from a place on.
+fn first_behind(moves: &[Move], state: usize, near: usize) -> usize
+    requires { AreSorted moves.now }
+    ensures { IsFirstFrom (record { state = state + 1; read = None }) moves.now result }
+{
+    let Some(next) = state.checked_add(1) else {
+        return moves.partition_point(|m| m.at.state <= state);
+    };
+    let epsilon = Spot {
+        state: next,
+        read: None,
+    };
+    first_from(moves, epsilon, near)
+}
+
+/// How many of sorted moves stand before a spot. They are counted on from a place, and found by halving where that isn't right.
+fn first_from(moves: &[Move], spot: Spot, near: usize) -> usize
+    requires { AreSorted moves.now }
+    ensures { IsFirstFrom spot moves.now result }
+{
+    let place = counted_on(moves, spot, near);
+    if is_first_from(moves, spot, place) {
+        return place;
+    }
+    moves.partition_point(|m| m.at.cmp(&spot).is_lt())
+}
+
+/// The first place from this one on where no move stands before a spot.
+fn counted_on(moves: &[Move], spot: Spot, near: usize) -> usize {
+    let Some(rest) = moves.get(near..) else {
+        return near;
+    };
+    let before = rest.iter().position(|m| m.at.cmp(&spot).is_ge());
+    near.saturating_add(before.unwrap_or(rest.len()))
+}
+
+/// Whether so many of sorted moves stand before a spot, and the others don't.
+fn is_first_from(moves: &[Move], spot: Spot, place: usize) -> bool
+    requires { AreSorted moves.now }
+    ensures { OnTrue result (IsFirstFrom spot moves.now place) }
+{
+    place <= moves.len() && stand_before(moves, spot, place) && stand_from(moves, spot, place)
+}
+
+/// Whether the sorted moves in front of a place stand before a spot.
+fn stand_before(moves: &[Move], spot: Spot, place: usize) -> bool
+    requires sorted { AreSorted moves.now }
+    requires within { place ≤ length moves.now }
+    ensures { OnTrue result (AllWithin (λ m. is_lt (spot_cmp m.at spot) ≡ true) moves.now 0 place) }
+{
+    match place.checked_sub(1) {
+        Some(last) => moves[last].at.cmp(&spot).is_lt(),
+        None => true,
     }
 }
 
-/// The moves along these edges, sorted.
+/// Whether none of the sorted moves from a place on stands before a spot.
+fn stand_from(moves: &[Move], spot: Spot, place: usize) -> bool
+    requires { AreSorted moves.now }
+    ensures { OnTrue result (AllWithin (λ m. is_lt (spot_cmp m.at spot) ≡ false) moves.now place (length moves.now)) }
+{
+    place >= moves.len() || moves[place].at.cmp(&spot).is_ge()
+}
+
+/// The moves along these edges, sorted where they aren't already.
 fn sorted_along(
     alloc: Global,
     direction: Direction,
@@ -212,7 +288,9 @@ fn sorted_along(
     ensures sorted { IfOk result (λ moves. AreSorted moves.items) }
 {
     let mut moves = moves_along(alloc, direction, edges)?;
-    moves.sort_unstable_by_key(|m| m.at);
+    if !moves.is_sorted_by_key(|m| m.at) {
+        moves.sort_unstable_by_key(|m| m.at);
+    }
     Ok(moves)
 }
 
@@ -224,7 +302,7 @@ fn moves_along(
 ) -> Result<Vec<Move>, AllocError>
     ensures { IfOk result (λ moves. AreMoves direction edges.now moves.items) }
 {
-    let mut moves = Vec::new(alloc);
+    let mut moves = Vec::with_capacity(alloc, edges.len())?;
     for edge in edges {
         moves.push(take(direction, *edge))?;
     }
