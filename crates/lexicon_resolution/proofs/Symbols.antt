@@ -1,12 +1,8 @@
 -- The symbols that stand in lexicons where names are defined.
 use Rattle.std.proofs.Common.{◌≡◌, ℕ, List, [], ◌∷◌, ◌++◌, map, refl, sym, ap, ◌∙◌}
 use Rattle.std.proofs.lemmas.List.{map-append}
-use Rattle.std.proofs.lemmas.Grind.{flat_map-append}
-use Rattle.std.proofs.lemmas.List.Folds.{flat_map-map}
 use Rattle.std.specs.List.{flat_map}
-use Rattle.expr_leaves.specs.Leaves.{leaves_in}
-use Rattle.lexicon_resolution.specs.Places.{SymbolsAreOfPlaces, places_in_form, places_in_piece, symbol_at}
-use Rattle.lexicon_resolution.specs.declared.place.Place.TheVariants.{InExpression}
+use Rattle.lexicon_resolution.specs.Places.{SymbolsAreOfForms, symbol_beside, symbols_at, symbols_in_piece}
 use Rattle.name_resolution.proofs.Listed.{listed_is}
 use Rattle.name_resolution.proofs.Mapped.{mapped_listed}
 use Rattle.project_meaning.specs.Leaves.{Leaf, form_symbols, forms_in, leaf_of, piece_symbols, resolved_entry, resolved_form, resolved_lexicon, resolved_piece, symbol_in, symbol_of}
@@ -25,26 +21,24 @@ module _ (names : List (List ℕ)) where
       let rest = forms all in
       (λ i. own i ++ rest i) ∙ sym (map-append (resolved_form names) (map (λ (e : Entry Raw). e.form) lexicon.entries) (forms_in all))
 
-  pieces : (all : List (Piece Raw)) → flat_map piece_symbols (map resolved_piece all) ≡ flat_map (symbol_at names) (flat_map places_in_piece all)
+  pieces : (all : List (Piece Raw)) → flat_map piece_symbols (map resolved_piece all) ≡ flat_map symbols_in_piece all
   pieces [] = refl
   pieces (letter raw ∷ all) = ap (λ (texts : List (List ℕ)). symbol_in (symbol_of raw) ++ texts) (pieces all)
   pieces (flag f ∷ all) = pieces all
 
-  one_form : (form : Form Raw) → form_symbols (resolved_form names form) ≡ flat_map (symbol_at names) (places_in_form form)
+  one_form : (form : Form Raw) → form_symbols (resolved_form names form) ≡ symbols_at names form
   one_form (sides upper lower) =
       let up = pieces upper in
       let low = pieces lower in
-      (λ i. up i ++ low i) ∙ sym (flat_map-append (symbol_at names) (flat_map places_in_piece upper) (flat_map places_in_piece lower))
-  one_form (pairs e) =
-      mapped_listed symbol_in (leaf_of names) e ∙ listed_is (λ (raw : Raw). symbol_in (leaf_of names raw)) e
-      ∙ sym (flat_map-map (symbol_at names) (λ (raw : Raw). InExpression raw) (leaves_in e))
+      λ i. up i ++ low i
+  one_form (pairs e) = mapped_listed symbol_in (leaf_of names) e ∙ listed_is (symbol_beside names) e
 
-  all_forms : (all : List (Form Raw)) → flat_map form_symbols (map (resolved_form names) all) ≡ flat_map (symbol_at names) (flat_map places_in_form all)
+  all_forms : (all : List (Form Raw)) → flat_map form_symbols (map (resolved_form names) all) ≡ flat_map (symbols_at names) all
   all_forms [] = refl
   all_forms (form ∷ all) =
       let own = one_form form in
       let rest = all_forms all in
-      (λ i. own i ++ rest i) ∙ sym (flat_map-append (symbol_at names) (places_in_form form) (flat_map places_in_form all))
+      λ i. own i ++ rest i
 
-pub symbols_of_places : SymbolsAreOfPlaces
-symbols_of_places names lexicons = ap (flat_map form_symbols) (forms names lexicons) ∙ all_forms names (forms_in lexicons)
+pub symbols_of_forms : SymbolsAreOfForms
+symbols_of_forms names lexicons = ap (flat_map form_symbols) (forms names lexicons) ∙ all_forms names (forms_in lexicons)

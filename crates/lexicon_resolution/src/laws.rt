@@ -1,12 +1,12 @@
 ghost use Rattle.lexicon_resolution.specs.Numbered.{AreResolvedByNumber};
-ghost use Rattle.lexicon_resolution.specs.Places.{SymbolsAreOfPlaces};
+ghost use Rattle.lexicon_resolution.specs.Places.{SymbolsAreOfForms};
 
 /// Lexicons by numbers are the resolved lexicons, each leaf by its number.
 pub fn are_resolved_by_number()
     ensures { AreResolvedByNumber }
 {}
 
-/// The symbols that stand in lexicons where names are defined are those of their leaves.
-pub fn symbols_are_of_places()
-    ensures { SymbolsAreOfPlaces }
+/// The symbols that stand in lexicons where names are defined are those of their forms.
+pub fn symbols_are_of_forms()
+    ensures { SymbolsAreOfForms }
 {}

@@ -75,8 +75,3 @@ module _ (text : List ℕ) (table : List (List ℕ)) where
       few : (b : Bool) → length (cond b table (table ++ text ∷ [])) ≤ most_symbols + 1
       few true = omega arith
       few false = omega (arith, length-append table (text ∷ []))
-
--- what is listed of what is listed
-pub flat_map-within : {A B C : Type 0} (f : B → List C) (g : A → List B) (xs : List A) → flat_map f (flat_map g xs) ≡ flat_map (λ x. flat_map f (g x)) xs
-flat_map-within f g [] = refl
-flat_map-within f g (x ∷ xs) = flat_map-append f (g x) (flat_map g xs) ∙ ap (λ z. flat_map f (g x) ++ z) (flat_map-within f g xs)

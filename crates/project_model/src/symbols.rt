@@ -3,23 +3,24 @@ ghost use Rattle.std.specs.List.{flat_map};
 ghost use Rattle.regex_ast.specs.Terms.{term};
 ghost use Rattle.expr_leaves.specs.Leaves.{listed, seen};
 ghost use Rattle.expr_leaves.specs.Mapped.{mapped};
-ghost use Rattle.lexicon_resolution.specs.Places.{behind, places_behind, symbol_at};
-ghost use Rattle.lexicon_resolution.specs.Plain.{form_of, lexicon_of};
+ghost use Rattle.lexicon_resolution.specs.Plain.{form_of, lexicon_of, piece_of};
 ghost use Rattle.project_meaning.specs.Leaves.{forms_in, leaf_of, resolved, symbol, symbol_in, symbol_of, symbols_in};
 ghost use Rattle.project_sources.specs.Limits.{most_symbols};
 ghost use Rattle.project_model.specs.Answers.{written_of};
-ghost use Rattle.project_model.specs.Gathered.{gathered, symbol_beside, symbols_at, symbols_of_all};
+ghost use Rattle.project_meaning.specs.Trees.{sides};
+ghost use Rattle.project_model.specs.Gathered.{gathered, symbols_of_all};
+ghost use Rattle.lexicon_resolution.specs.Places.{symbol_beside, symbols_at, symbols_in_piece};
 ghost use Rattle.project_definitions.specs.Plain.{body_of};
 
 use crate::written::WrittenDefine;
 use expr_leaves::leaves;
 use fsm_base::SymbolTable;
 use grammar_resolution::{grammar_leaves, symbols_are_of_leaves};
-use lexicon_resolution::{Place, form_places, symbols_are_of_places};
+use lexicon_resolution::symbols_are_of_forms;
 use name_resolution::{Names, symbol_text};
 use project_definitions::Body;
 use project_sources::MOST_SYMBOLS;
-use regex_ast::{Entry, Expr, Form, Lexicon, Raw};
+use regex_ast::{Entry, Expr, Form, Lexicon, Piece, Raw};
 use std::alloc::{AllocError, Global};
 
 /// Puts the symbol of a leaf into a table, where it's new and the table has room for it.
@@ -69,30 +70,40 @@ fn add_letter(text: &str, table: &mut SymbolTable) -> Result<(), AllocError>
     Ok(())
 }
 
-/// Puts the symbol of a leaf of lexicons into a table, where it's new and the table has room for it.
-fn add_place(place: &Place<&Raw>, names: &Names, table: &mut SymbolTable) -> Result<(), AllocError>
+/// Puts the symbol of a piece into a table, if it is one, where it's new and the table has room for it.
+fn add_piece(piece: &Piece<Raw>, table: &mut SymbolTable) -> Result<(), AllocError>
     requires { length table.old ≤ most_symbols + 1 }
-    ensures { OnOk result (table.new ≡ gathered table.old (symbol_at names.now (behind place.now))) }
+    ensures { OnOk result (table.new ≡ gathered table.old (symbols_in_piece (piece_of piece.now))) }
 {
-    match place {
-        Place::OnSide(leaf) => add_letter(symbol_text(leaf), table),
-        Place::InExpression(leaf) => add_symbol(leaf, names, table),
+    match piece {
+        Piece::Symbol(leaf) => add_letter(symbol_text(leaf), table),
+        Piece::Flag(_) => Ok(()),
     }
 }
 
-/// Puts the symbols of leaves of lexicons into a table, each where it's new and the table has room for it.
-fn add_places(
-    places: &[Place<&Raw>],
+/// Puts the symbols of a side into a table, each where it's new and the table has room for it.
+fn add_side(side: &[Piece<Raw>], table: &mut SymbolTable) -> Result<(), AllocError>
+    requires { length table.old ≤ most_symbols + 1 }
+    ensures { OnOk result (table.new ≡ gathered table.old (flat_map symbols_in_piece (map piece_of side.now))) }
+{
+    'pieces: for piece in side {
+        add_piece(piece, table)?;
+    }
+    Ok(())
+}
+
+/// Puts the symbols of two sides into a table, each where it's new and the table has room for it.
+fn add_sides(
+    upper: &[Piece<Raw>],
+    lower: &[Piece<Raw>],
     names: &Names,
     table: &mut SymbolTable,
 ) -> Result<(), AllocError>
     requires { length table.old ≤ most_symbols + 1 }
-    ensures { OnOk result (table.new ≡ gathered table.old (flat_map (symbol_at names.now) (places_behind places.now))) }
+    ensures { OnOk result (table.new ≡ gathered table.old (symbols_at names.now (sides (map piece_of upper.now) (map piece_of lower.now)))) }
 {
-    'places: for place in places {
-        add_place(place, names, table)?;
-    }
-    Ok(())
+    add_side(upper, table)?;
+    add_side(lower, table)
 }
 
 /// Puts the symbols of a form into a table, each where it's new and the table has room for it.
@@ -105,7 +116,10 @@ fn add_form(
     requires { length table.old ≤ most_symbols + 1 }
     ensures { OnOk result (table.new ≡ gathered table.old (symbols_at names.now (form_of form.now))) }
 {
-    add_places(&form_places(alloc, form)?, names, table)
+    match form {
+        Form::Sides { upper, lower } => add_sides(upper, lower, names, table),
+        Form::Pairs(expr) => add_symbols(&leaves(alloc, expr)?, names, table),
+    }
 }
 
 /// Puts the symbols of entries into a table, each where it's new and the table has room for it.
@@ -162,7 +176,7 @@ fn add_body(
     ensures { OnOk result (table.new ≡ gathered table.old (symbols_in (resolved names.now (body_of body.now)))) }
 {
     // the laws that the symbols of lexicons and of a grammar are those of their leaves
-    symbols_are_of_places();
+    symbols_are_of_forms();
     symbols_are_of_leaves();
     match body {
         Body::Xfst(expr) => add_expression(alloc, expr, names, table),

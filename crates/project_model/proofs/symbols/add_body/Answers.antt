@@ -3,14 +3,13 @@ use Rattle.std.proofs.lemmas.Result.{on_ok_weaker}
 use Rattle.std.specs.List.{flat_map}
 use Rattle.regex_ast.specs.declared.expr.Raw.{Raw}
 use Rattle.expr_leaves.specs.Leaves.{seen}
-use Rattle.lexicon_resolution.specs.Places.{places_in_form, symbol_at}
 use Rattle.lexicon_resolution.specs.Plain.{lexicon_of}
 use Rattle.grammar_pairs.specs.Plain.{grammar_of}
 use Rattle.project_meaning.specs.Leaves.{forms_in, resolved, symbol_in, symbol_of, symbols_in}
 use Rattle.project_definitions.specs.Plain.{body_of}
 use Rattle.project_definitions.specs.declared.definition.Body.{Body}
-use Rattle.project_model.specs.Gathered.{gathered, symbols_at}
-use Rattle.project_model.proofs.Gathering.{flat_map-within}
+use Rattle.project_model.specs.Gathered.{gathered}
+use Rattle.lexicon_resolution.specs.Places.{symbols_at}
 use Rattle.project_model.proofs.symbols.add_body.Goals as goal
 
 pub returns-in-Lexc : goal.returns-in-Lexc
@@ -20,8 +19,7 @@ returns-in-Lexc c =
     (λ same.
     same
     ∙ ap (gathered c.args.table.now)
-    (ap (λ z. flat_map (symbols_at c.args.names.now) (forms_in (map lexicon_of z))) c.deref.ensures.value ∙ sym (flat_map-within (symbol_at c.args.names.now) places_in_form (forms_in lexicons))
-    ∙ sym (c.symbols_are_of_places.ensures c.args.names.now lexicons)
+    (ap (λ z. flat_map (symbols_at c.args.names.now) (forms_in (map lexicon_of z))) c.deref.ensures.value ∙ sym (c.symbols_are_of_forms.ensures c.args.names.now lexicons)
     ∙ ap (λ (b : Body Raw). symbols_in (resolved c.args.names.now (body_of b))) (sym c.in-Lexc.is)))
     c.add_lexicons.ensures
 

@@ -7,7 +7,7 @@ use Rattle.lexicon_resolution.specs.Plain.{form_of, lexicon_of}
 use Rattle.project_meaning.specs.Leaves.{expressions_in, expressions_of}
 use Rattle.project_meaning.specs.Trees.{lexc}
 use Rattle.lexicon_resolution.proofs.Lexicons.{one_lexicon}
-use Rattle.lexicon_resolution.proofs.leaves.expressions.Goals as goal
+use Rattle.lexicon_resolution.proofs.listing.expressions.Goals as goal
 
 pub lexicons-preserved : goal.lexicons-preserved
 lexicons-preserved g c =

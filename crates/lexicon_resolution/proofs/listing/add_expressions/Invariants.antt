@@ -3,7 +3,7 @@ use Rattle.std.specs.List.{flat_map}
 use Rattle.lexicon_resolution.specs.Places.{terms_behind}
 use Rattle.lexicon_resolution.specs.Plain.{form_of}
 use Rattle.project_meaning.specs.Leaves.{expressions_in}
-use Rattle.lexicon_resolution.proofs.leaves.add_expressions.Given as goal
+use Rattle.lexicon_resolution.proofs.listing.add_expressions.Given as goal
 
 -- what was found, and what is in the other items
 abbrev pub invariant-entries : goal.invariant-entries

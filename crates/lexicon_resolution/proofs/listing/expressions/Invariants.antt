@@ -3,7 +3,7 @@ use Rattle.lexicon_resolution.specs.Places.{terms_behind}
 use Rattle.lexicon_resolution.specs.Plain.{lexicon_of}
 use Rattle.project_meaning.specs.Leaves.{expressions_of}
 use Rattle.project_meaning.specs.Trees.{lexc}
-use Rattle.lexicon_resolution.proofs.leaves.expressions.Given as goal
+use Rattle.lexicon_resolution.proofs.listing.expressions.Given as goal
 
 -- what was found, and what is in the other items
 abbrev pub invariant-lexicons : goal.invariant-lexicons
