@@ -1,5 +1,5 @@
 -- Values of idle features don't count for what comes behind.
-use Rattle.std.proofs.Common.{◌≡◌, ℕ, ◌+◌, ◌<◌, ◌≤◌, ◌⊎◌, ◌↔◌, Bool, true, false, cond, List, ◌++◌, Option, None, Some, length, get_or, take, refl, sym, ap, subst, inl, inr, arith, ◌∙◌}
+use Rattle.std.proofs.Common.{◌≡◌, ℕ, ◌+◌, ◌<◌, ◌≤◌, ◌⊎◌, ◌↔◌, ◌^◌, Bool, bit_and, true, false, cond, List, ◌++◌, Option, None, Some, length, get_or, take, refl, sym, ap, subst, inl, inr, arith, ◌∙◌}
 use Rattle.std.specs.Prelude.{slice_index_or, slice_set}
 use Rattle.std.specs.List.{Contains, slice_get, enumerate_from}
 use Rattle.std.specs.Option.{option_map, option_to_list, unwrap_or}
@@ -20,10 +20,11 @@ use Rattle.flag_diacritics.specs.declared.tape.Tape.TheVariants.{Pair as OfPair,
 use Rattle.flag_diacritics.specs.declared.actions.Action.{Action}
 use Rattle.flag_diacritics.specs.declared.idle.Idle.{Idle}
 use Rattle.flag_diacritics.specs.Numbers.{Features, passes_by, number_behind, behind_if, with_upper, with_lower, behind}
-use Rattle.flag_diacritics.specs.Idle.{does_test, does_set, is_idle, Sets, KeepsIdle, upper_action, lower_action, upper_row, lower_row, IsIdleAlong, AreIdle, masked, masked_at, behind_edge, live_behind}
+use Rattle.flag_diacritics.specs.Idle.{does_test, does_set, is_idle, KeepsIdle, upper_action, lower_action, upper_row, lower_row, IsIdleAlong, AreIdle, HasValued, masked, masked_at, behind_edge, live_behind}
 use Rattle.flag_diacritics.specs.Search.{IsPlaceBehind}
 use Rattle.flag_diacritics.specs.declared.tables.Place.{Place}
 use Rattle.flag_diacritics.proofs.Passing.{Runs}
+use Rattle.flag_diacritics.proofs.Rows.{idle_within, none_of_both}
 
 pub runs_step : (actions : List Action) (letter : Option Tape) (now next : Features) (tape : List Tape) → behind actions letter now ≡ Some next → Runs actions next tape → Runs actions now (option_to_list letter ++ tape)
 runs_step actions None now next tape is r = subst (λ (z : Features). Runs actions z tape) (sym (same_Some now next is)) r
@@ -61,17 +62,17 @@ alike_behind D value x y same = same refl
 alike_behind U value x y same = refl
 
 -- two lists have the same values but for the idle features
-pub record Agree (row : List Bool) (xs ys : List (Option ℕ)) : Type 0 where
+pub record Agree (row : ℕ) (xs ys : List (Option ℕ)) : Type 0 where
   pub long : length xs ≡ length ys
   pub same : (f : ℕ) → is_idle row f ≡ false → slice_get xs f ≡ slice_get ys f
 
-pub agree_sym : (row : List Bool) (xs ys : List (Option ℕ)) → Agree row xs ys → Agree row ys xs
+pub agree_sym : (row : ℕ) (xs ys : List (Option ℕ)) → Agree row xs ys → Agree row ys xs
 agree_sym row xs ys h = record { long = sym h.long; same = λ f live. sym (h.same f live) }
 
 index_same : (xs ys : List (Option ℕ)) (f : ℕ) → slice_get xs f ≡ slice_get ys f → slice_index_or xs f None ≡ slice_index_or ys f None
 index_same xs ys f e = sym (unwrap_or-slice_get xs f None) ∙ ap (λ (o : Option (Option ℕ)). unwrap_or o None) e ∙ unwrap_or-slice_get ys f None
 
-module _ (before behind : List Bool) (xs ys : List (Option ℕ)) (agree : Agree before xs ys) where
+module _ (before behind : ℕ) (xs ys : List (Option ℕ)) (agree : Agree before xs ys) where
   agree_on : KeepsIdle None before behind → Agree behind xs ys
   agree_on keeps = record {
     long = agree.long;
@@ -149,7 +150,7 @@ module _ (before behind : List Bool) (xs ys : List (Option ℕ)) (agree : Agree 
       )
 
 -- what features are, with the idle ones neutral
-masked_get : (row : List Bool) (xs : List (Option ℕ)) (f : ℕ) → f < length xs → slice_get (masked row xs) f ≡ Some (cond (is_idle row f) None (get_or xs f None))
+masked_get : (row : ℕ) (xs : List (Option ℕ)) (f : ℕ) → f < length xs → slice_get (masked row xs) f ≡ Some (cond (is_idle row f) None (get_or xs f None))
 masked_get row xs f within =
     let v : ℕ × Option ℕ → Option ℕ = λ p. cond (is_idle row p.0) None p.1 in
     let es = enumerate_from 0 xs in
@@ -160,10 +161,10 @@ masked_get row xs f within =
     let at : get_or es f (0, d) ≡ (f, value) = get_or-enumerate_from 0 xs f (0, d) within ∙ ap (λ (k : ℕ). (k, value)) zero in
     slice_get-map v es f ∙ ap (option_map v) (slice_get-get_or es f (0, d) (omega arith)) ∙ ap (λ (p : ℕ × Option ℕ). Some (v p)) at
 
-masked_long : (row : List Bool) (xs : List (Option ℕ)) → length (masked row xs) ≡ length xs
+masked_long : (row : ℕ) (xs : List (Option ℕ)) → length (masked row xs) ≡ length xs
 masked_long row xs = length-map (enumerate_from 0 xs) (λ p. cond (is_idle row p.0) None p.1) ∙ length-enumerate_from 0 xs
 
-agree_masked : (row : List Bool) (xs : List (Option ℕ)) → Agree row (masked row xs) xs
+agree_masked : (row : ℕ) (xs : List (Option ℕ)) → Agree row (masked row xs) xs
 agree_masked row xs =
     let long = masked_long row xs in
     record {
@@ -174,19 +175,16 @@ agree_masked row xs =
       ];
     }
 
--- a list whose idle features are neutral already
-abbrev pub IsNeutral : List Bool → List (Option ℕ) → ℕ → Type 0
-IsNeutral row xs f = is_idle row f ≡ true → slice_index_or xs f None ≡ None
-
-pub masked_same : (row : List Bool) (xs : List (Option ℕ)) (i : ℕ) → length xs ≤ i → ((f : ℕ) → f < i → IsNeutral row xs f) → masked row xs ≡ xs
-masked_same row xs i past neutral =
+-- a list with no value at the features that are idle
+pub masked_same : (row bits : ℕ) (xs : List (Option ℕ)) → row < 2 ^ 64 → bit_and row bits ≡ 0 → HasValued bits xs → masked row xs ≡ xs
+masked_same row bits xs fits apart has =
     let long = masked_long row xs in
     ext_get_or None (masked row xs) xs long
     (λ f below.
     let within : f < length xs = omega arith in
     let value : Option ℕ = get_or xs f None in
     let is : cond (is_idle row f) None value ≡ value = elim (by_bool (is_idle row f)) [
-      | inl idle ↦ ap (λ (b : Bool). cond b None value) idle ∙ sym (neutral f (omega arith) idle)
+      | inl idle ↦ ap (λ (b : Bool). cond b None value) idle ∙ sym (has f (idle_within row f fits idle) (none_of_both row bits f apart idle))
       | inr awake ↦ ap (λ (b : Bool). cond b None value) awake
     ] in
     get_or_from_slice_get (masked row xs) f (cond (is_idle row f) None value) None (masked_get row xs f within) ∙ is)
@@ -255,11 +253,7 @@ module _ (actions : List Action) (idle : Idle) where
           runs_alike path mask now (record { upper = up; lower = low }),
         )
 
--- the rows are looked at feature by feature
-abbrev pub Stays : Option Action → List Bool → List Bool → ℕ → Type 0
-Stays action before behind f = is_idle before f ≡ true → (is_idle behind f ≡ true) ⊎ Sets action f
-
--- and edge by edge
+-- the rows are looked at edge by edge
 module _ (actions : List Action) (idle : Idle) (edges : List (Edge Tape)) (i : ℕ) where
   pub idle_more : (d : Edge Tape) → i < length edges → AreIdle actions idle (take i edges) → IsIdleAlong actions idle (get_or edges i d) → AreIdle actions idle (take (i + 1) edges)
   idle_more d within before is e held =

@@ -1,4 +1,5 @@
 pub mod Passing
+pub mod Rows
 pub mod Idling
 pub mod Finding
 pub mod Searching

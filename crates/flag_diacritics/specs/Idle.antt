@@ -1,6 +1,7 @@
 -- Features that are idle at a state: whatever their values are there, paths go on alike, since each flag that tests one comes behind a
 -- flag that sets it. Any table of features will do where it agrees with itself along each edge.
-use Rattle.std.specs.Prelude.{◌≡◌, ◌⊎◌, ℕ, Bool, true, false, cond, List, [], Option, None, Some, Contains, map, slice_get, slice_index_or}
+use Rattle.std.specs.Prelude.{◌≡◌, ◌<◌, ◌⊎◌, ℕ, Bool, true, false, cond, List, Option, None, Some, Contains, map, slice_get, slice_index_or, nat_eq}
+use Rattle.std.specs.Int.{bit_at}
 use Rattle.std.specs.List.{enumerate_from}
 use Rattle.std.specs.Option.{option_map}
 use Rattle.fsa.specs.declared.automaton.Edge.{Edge}
@@ -27,9 +28,9 @@ does_set R = false
 does_set D = false
 does_set U = true
 
--- whether a feature is idle by a row of the table
-abbrev pub is_idle : List Bool → ℕ → Bool
-is_idle row feature = slice_index_or row feature false
+-- whether a feature is idle by a row of the table, which has a bit for each
+abbrev pub is_idle : ℕ → ℕ → Bool
+is_idle row feature = nat_eq (bit_at row feature) 1
 
 -- the flag sets the feature, if there is a flag
 abbrev pub Sets : Option Action → ℕ → Type 0
@@ -37,12 +38,12 @@ Sets None feature = ⊥
 Sets (Some a) feature = (a.feature ≡ feature) × (does_set a.kind ≡ true)
 
 -- the flag's feature isn't idle before it, if it tests it
-abbrev pub TestsNone : List Bool → Option Action → Type 0
+abbrev pub TestsNone : ℕ → Option Action → Type 0
 TestsNone row None = Unit {0}
 TestsNone row (Some a) = does_test a.kind ≡ true → is_idle row a.feature ≡ false
 
 -- the flag tests no idle feature, and what is idle before it is idle behind it or set by it
-pub record KeepsIdle (action : Option Action) (before behind : List Bool) : Type 0 where
+pub record KeepsIdle (action : Option Action) (before behind : ℕ) : Type 0 where
   pub tests : TestsNone before action
   pub stays : (feature : ℕ) → is_idle before feature ≡ true → (is_idle behind feature ≡ true) ⊎ Sets action feature
 
@@ -60,11 +61,11 @@ lower_action actions (Some (UpFlag n)) = None
 lower_action actions (Some (LowFlag n)) = slice_get actions n
 
 -- a state's rows of the table
-abbrev pub upper_row : Idle → ℕ → List Bool
-upper_row idle state = slice_index_or (map (λ row. row.items) idle.upper.items) state []
+abbrev pub upper_row : Idle → ℕ → ℕ
+upper_row idle state = slice_index_or idle.upper.items state 0
 
-abbrev pub lower_row : Idle → ℕ → List Bool
-lower_row idle state = slice_index_or (map (λ row. row.items) idle.lower.items) state []
+abbrev pub lower_row : Idle → ℕ → ℕ
+lower_row idle state = slice_index_or idle.lower.items state 0
 
 -- the table agrees with itself along the edge
 pub record IsIdleAlong (actions : List Action) (idle : Idle) (edge : Edge Tape) : Type 0 where
@@ -75,8 +76,16 @@ abbrev pub AreIdle : List Action → Idle → List (Edge Tape) → Type 0
 AreIdle actions idle edges = (edge : Edge Tape) → Contains edges edge → IsIdleAlong actions idle edge
 
 -- what features are, the idle ones being made neutral
-abbrev pub masked : List Bool → List (Option ℕ) → List (Option ℕ)
+abbrev pub masked : ℕ → List (Option ℕ) → List (Option ℕ)
 masked row now = map (λ p. cond (is_idle row p.0) None p.1) (enumerate_from 0 now)
+
+-- a row has a bit for each feature that has a value, but for those that no row has a bit for
+abbrev pub HasValued : ℕ → List (Option ℕ) → Type 0
+HasValued row now = (feature : ℕ) → feature < 64 → bit_at row feature ≡ 0 → slice_index_or now feature None ≡ None
+
+-- there is such a row for some of the lists
+abbrev pub AreValued : List (List (Option ℕ)) → List ℕ → Type 0
+AreValued lists rows = (k row : ℕ) → slice_get rows k ≡ Some row → (now : List (Option ℕ)) × (slice_get lists k ≡ Some now) × HasValued row now
 
 abbrev pub masked_at : Idle → ℕ → Features → Features
 masked_at idle state now = record { upper = masked (upper_row idle state) now.upper; lower = masked (lower_row idle state) now.lower }

@@ -1,5 +1,6 @@
-ghost use Rattle.std.specs.Prelude.{◌≡◌, ◌⊎◌, ◌↔◌, ℕ, [], None, false, true, IfOk, IsTrue, cond, map, slice_get, slice_index_or};
-ghost use Rattle.flag_diacritics.specs.Idle.{AreIdle, IsIdleAlong, KeepsIdle, Sets, TestsNone, does_set, does_test, is_idle, lower_action, masked, upper_action};
+ghost use Rattle.std.specs.Prelude.{◌≡◌, ◌<◌, ◌⊎◌, ℕ, None, false, true, IfOk, IsTrue, cond, slice_get, slice_index_or};
+ghost use Rattle.std.specs.Int.{bit_at};
+ghost use Rattle.flag_diacritics.specs.Idle.{AreIdle, HasValued, IsIdleAlong, KeepsIdle, Sets, TestsNone, does_set, does_test, is_idle, lower_action, masked, upper_action};
 
 use crate::actions::{Action, Actions};
 use crate::tape::Tape;
@@ -8,14 +9,14 @@ use fsa_explore::EdgesByState;
 use regex_ast::FlagKind;
 use std::alloc::{AllocError, Global};
 
-/// Which features are idle at each state, by their numbers: each flag that tests one comes behind a flag that sets it. A
-/// feature that has no place in a row, or a state that has none, is not idle.
+/// Which features are idle at each state, as bits by their numbers: each flag that tests one comes behind a flag that sets
+/// it. A feature that has no bit is not idle, and neither is any at a state that has no row.
 #[derive(Debug, Drop)]
 pub struct Idle {
     /// A row for each state, for the flags of the upper side.
-    pub upper: Vec<Vec<bool>>,
+    pub upper: Vec<u64>,
     /// A row for each state, for those of the lower side.
-    pub lower: Vec<Vec<bool>>,
+    pub lower: Vec<u64>,
 }
 
 /// So many features have a bit. Those past them are counted as live everywhere.
@@ -48,23 +49,9 @@ pub fn idle_features(alloc: Global, net: &Fsa<Tape>, actions: &Actions) -> Resul
 /// The features that no path from a state tests before it sets them.
 fn sought(alloc: Global, net: &Fsa<Tape>, actions: &Actions) -> Result<Idle, AllocError> {
     let live = live_features(alloc, net, &actions.list)?;
-    let mut upper = Vec::with_capacity(alloc, live.len())?;
-    let mut lower = Vec::with_capacity(alloc, live.len())?;
-    for state in &live {
-        upper.push(idle_row(alloc, state.upper, actions.features)?)?;
-        lower.push(idle_row(alloc, state.lower, actions.features)?)?;
-    }
+    let upper = live.iter().map(|state| !state.upper).collect(alloc)?;
+    let lower = live.iter().map(|state| !state.lower).collect(alloc)?;
     Ok(Idle { upper, lower })
-}
-
-/// Which of so many features are idle, where these are live.
-fn idle_row(alloc: Global, live: u64, features: usize) -> Result<Vec<bool>, AllocError> {
-    let size = features.min(MASKED);
-    let mut row = Vec::with_capacity(alloc, size)?;
-    for feature in 0..size {
-        row.push(live & bit_of(feature) == 0)?;
-    }
-    Ok(row)
 }
 
 /// The features that are live at each state: those that are tested there, followed back over the edges to where they are set.
@@ -170,7 +157,9 @@ fn tested_by(action: Option<Action>) -> u64 {
 }
 
 /// The bit of the feature that a flag sets whatever it was.
-fn set_by(action: Option<Action>) -> u64 {
+fn set_by(action: Option<Action>) -> u64
+    ensures { (feature : ℕ) → is_idle result feature ≡ true → Sets action feature }
+{
     match action {
         Some(action) if does_set(action.kind) => bit_of(action.feature),
         _ => 0,
@@ -178,7 +167,10 @@ fn set_by(action: Option<Action>) -> u64 {
 }
 
 /// The bit of a feature, if it has one.
-fn bit_of(feature: usize) -> u64 {
+fn bit_of(feature: usize) -> u64
+    ensures alone { (other : ℕ) → is_idle result other ≡ true → feature ≡ other }
+    ensures there { feature < 64 → bit_at result feature ≡ 1 }
+{
     if feature < MASKED { 1 << feature } else { 0 }
 }
 
@@ -243,15 +235,15 @@ fn action_at(actions: &[Action], flag: u32) -> Option<Action>
 }
 
 /// Whether a flag tests no idle feature, and what is idle before it is idle behind it or set by it.
-fn keeps_idle(action: Option<Action>, before: &[bool], behind: &[bool]) -> bool
-    ensures { IsTrue result → KeepsIdle action before.now behind.now }
+fn keeps_idle(action: Option<Action>, before: u64, behind: u64) -> bool
+    ensures { IsTrue result → KeepsIdle action before behind }
 {
     !tests_idle(action, before) && stays_idle(action, before, behind)
 }
 
 /// Whether a flag tests an idle feature.
-fn tests_idle(action: Option<Action>, before: &[bool]) -> bool
-    ensures { result ≡ false → TestsNone before.now action }
+fn tests_idle(action: Option<Action>, before: u64) -> bool
+    ensures { result ≡ false → TestsNone before action }
 {
     match action {
         Some(action) => does_test(action.kind) && is_idle(before, action.feature),
@@ -260,27 +252,10 @@ fn tests_idle(action: Option<Action>, before: &[bool]) -> bool
 }
 
 /// Whether each feature that is idle before a flag is idle behind it or set by it.
-fn stays_idle(action: Option<Action>, before: &[bool], behind: &[bool]) -> bool
-    ensures { IsTrue result → (feature : ℕ) → is_idle before.now feature ≡ true → (is_idle behind.now feature ≡ true) ⊎ Sets action feature }
+fn stays_idle(action: Option<Action>, before: u64, behind: u64) -> bool
+    ensures { IsTrue result → (feature : ℕ) → is_idle before feature ≡ true → (is_idle behind feature ≡ true) ⊎ Sets action feature }
 {
-    let mut feature = 0;
-    'features: while feature < before.len() {
-        if before[feature] && !is_idle(behind, feature) && !is_set(action, feature) {
-            return false;
-        }
-        feature += 1;
-    }
-    true
-}
-
-/// Whether a flag sets a feature.
-fn is_set(action: Option<Action>, feature: usize) -> bool
-    ensures { IsTrue result ↔ Sets action feature }
-{
-    match action {
-        Some(action) => action.feature == feature && does_set(action.kind),
-        None => false,
-    }
+    before & !(behind | set_by(action)) == 0
 }
 
 /// Whether a kind of flag asks what its feature is.
@@ -304,30 +279,26 @@ fn does_set(kind: FlagKind) -> bool
 }
 
 /// Whether a feature is idle by a row.
-fn is_idle(row: &[bool], feature: usize) -> bool
-    ensures { result ≡ is_idle row.now feature }
+fn is_idle(row: u64, feature: usize) -> bool
+    ensures { result ≡ is_idle row feature }
 {
-    feature < row.len() && row[feature]
+    feature < MASKED && row >> feature & 1 == 1
 }
 
 /// The row of a state; a state that has none has no idle features.
-pub fn row_at(rows: &[Vec<bool>], state: usize) -> &[bool]
-    ensures { result.now ≡ slice_index_or (map (λ row. row.items) rows.now) state [] }
+pub fn row_at(rows: &[u64], state: usize) -> u64
+    ensures { result ≡ slice_index_or rows.now state 0 }
 {
-    if state < rows.len() {
-        rows[state].as_slice()
-    } else {
-        &[]
-    }
+    if state < rows.len() { rows[state] } else { 0 }
 }
 
 /// What features are, the idle ones being made neutral.
 pub fn masked(
     alloc: Global,
-    row: &[bool],
+    row: u64,
     now: &[Option<usize>],
 ) -> Result<Vec<Option<usize>>, AllocError>
-    ensures { IfOk result (λ list. list.items ≡ masked row.now now.now) }
+    ensures { IfOk result (λ list. list.items ≡ masked row now.now) }
 {
     now.iter()
         .enumerate()
@@ -335,18 +306,26 @@ pub fn masked(
         .collect(alloc)
 }
 
-/// Whether the idle features are neutral already, so that nothing need be made.
-pub fn is_masked(row: &[bool], now: &[Option<usize>]) -> bool
-    ensures { IsTrue result → masked row.now now.now ≡ now.now }
+/// The features that have a value, as bits.
+pub fn valued(now: &[Option<usize>]) -> u64
+    ensures { HasValued result now.now }
 {
-    let mut feature = 0;
-    'features: while feature < now.len() {
-        if is_idle(row, feature) && now[feature].is_some() {
-            return false;
-        }
-        feature += 1;
+    let mut bits = 0;
+    'features: for feature in 0..now.len() {
+        bits = with_valued(bits, feature, now[feature]);
     }
-    true
+    bits
+}
+
+/// These bits, with the one of a feature where it has a value.
+fn with_valued(bits: u64, feature: usize, value: Option<usize>) -> u64
+    ensures kept { (other : ℕ) → bit_at result other ≡ 0 → bit_at bits other ≡ 0 }
+    ensures added { feature < 64 → bit_at result feature ≡ 0 → value ≡ None }
+{
+    match value {
+        Some(_) => bits | bit_of(feature),
+        None => bits,
+    }
 }
 
 /// A value, or none where its feature is idle.

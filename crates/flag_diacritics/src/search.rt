@@ -6,7 +6,7 @@ ghost use Rattle.flag_diacritics.specs.Idle.{behind_edge, live_behind, masked};
 ghost use Rattle.flag_diacritics.specs.Search.{Names, Shows, IsPlaceBehind, AddsEdges, IsResolved, letter_for};
 
 use crate::actions::{Action, Actions, behind_action};
-use crate::idle::{Idle, is_masked, masked, row_at};
+use crate::idle::{Idle, masked, row_at};
 use crate::tables::{FeatureTable, Place, PlaceTable};
 use crate::tape::Tape;
 use fsa::{Edge, Fsa};
@@ -171,20 +171,16 @@ fn live_place(
 fn masked_number(
     alloc: Global,
     features: &mut FeatureTable,
-    row: &[bool],
+    row: u64,
     number: usize,
 ) -> Result<usize, AllocError>
     ensures kept { OnOk result (Keeps features.old features.new) }
-    ensures masked { IfOk result (λ k. (now : List (Option ℕ)) → slice_get features.old number ≡ Some now → slice_get features.new k ≡ Some (masked row.now now)) }
+    ensures masked { IfOk result (λ k. (now : List (Option ℕ)) → slice_get features.old number ≡ Some now → slice_get features.new k ≡ Some (masked row now)) }
 {
-    if number >= features.len() {
+    if features.is_masked(row, number) || number >= features.len() {
         return Ok(number);
     }
-    let now = features.get(number);
-    if is_masked(row, now) {
-        return Ok(number);
-    }
-    let list = masked(alloc, row, now)?;
+    let list = masked(alloc, row, features.get(number))?;
     features.number_of(list)
 }
 

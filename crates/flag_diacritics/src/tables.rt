@@ -1,9 +1,11 @@
-ghost use Rattle.std.specs.Prelude.{◌≡◌, ◌<◌, ◌++◌, ◌⊎◌, ◌∷◌, [], Some, IfOk, OnOk, length, slice_get};
+ghost use Rattle.std.specs.Prelude.{◌≡◌, ◌<◌, ◌++◌, ◌⊎◌, ◌∷◌, ℕ, List, [], Option, Some, IfOk, OnOk, IsTrue, length, slice_get};
 ghost use Rattle.std.specs.Cmp.Rules.{hashing};
 ghost use Rattle.std.specs.Hash as fed;
 ghost use Rattle.std.proofs.Common.{rules};
+ghost use Rattle.flag_diacritics.specs.Idle.{masked};
 ghost use Rattle.flag_diacritics.specs.Marks.{mark_of};
 
+use crate::idle::valued;
 use indexmap::IndexSet;
 use std::alloc::{AllocError, Global};
 use std::hash::{Hash, Hasher};
@@ -19,14 +21,19 @@ pub struct FeatureTable {
     /// The lists, each once: the number of each feature's value, or none where the feature is neutral. The place of a
     /// list is its number.
     lists: IndexSet<Vec<Option<usize>>>,
+    /// The features that have a value in each list, as bits. Lists for which there was no memory have no bits here.
+    valued: Vec<u64>,
 }
 
 impl Model for FeatureTable {
     ghost use Rattle.std.specs.Prelude.{List, ℕ, Option, map};
+    ghost use Rattle.flag_diacritics.specs.Idle.{AreValued};
 
     ghost Value = { List (List (Option ℕ)) };
 
     ghost view = { λ table. map (λ list. list.items) table.lists.keys };
+
+    ghost invariant = { λ table. AreValued (map (λ list. list.items) table.lists.keys) table.valued.items };
 }
 
 impl FeatureTable {
@@ -36,6 +43,7 @@ impl FeatureTable {
     {
         FeatureTable {
             lists: IndexSet::new(alloc),
+            valued: Vec::new(alloc),
         }
     }
 
@@ -59,11 +67,30 @@ impl FeatureTable {
         ensures number { IfOk result (λ k. slice_get self.new k ≡ Some list.items) }
         ensures kept { OnOk result ((self.new ≡ self.old) ⊎ (self.new ≡ self.old ++ list.items ∷ [])) }
     {
-        if let Some(number) = self.lists.get_index_of(&list) {
-            return Ok(number);
-        }
+        let bits = valued(&list);
         let (number, _) = self.lists.insert_full(list)?;
+        note(&mut self.valued, number, bits);
         Ok(number)
+    }
+
+    /// Whether the features of a row are neutral already in the list with a number, so that nothing need be made. For a list
+    /// without bits the answer is no.
+    pub fn is_masked(&self, row: u64, number: usize) -> bool
+        ensures { IsTrue result → (now : List (Option ℕ)) → slice_get self.now number ≡ Some now → masked row now ≡ now }
+    {
+        match self.valued.get(number) {
+            Some(bits) => row & *bits == 0,
+            None => false,
+        }
+    }
+}
+
+/// Notes the bits of the list with a number, if it is the next one that has none. Without memory for them it has none.
+fn note(valued: &mut Vec<u64>, number: usize, bits: u64)
+    ensures { (valued.new.items ≡ valued.old.items) ⊎ ((number ≡ length valued.old.items) × (valued.new.items ≡ valued.old.items ++ bits ∷ [])) }
+{
+    if number == valued.len() && valued.push(bits).is_err() {
+        return;
     }
 }
 

@@ -1,11 +1,19 @@
-use Rattle.std.proofs.Common.{sym}
-use Rattle.flag_diacritics.proofs.Finding.{listed_at, listed_by_search}
+use Rattle.std.proofs.Common.{List, Option, ℕ, subst}
+use Rattle.flag_diacritics.specs.Idle.{HasValued}
+use Rattle.flag_diacritics.proofs.Finding.{listed_at, keeps_inserted, are_valued_more}
 use Rattle.flag_diacritics.proofs.tables.FeatureTable.number_of.Goals as goal
-
-pub returns-in-Some-clause-number : goal.returns-in-Some-clause-number
-returns-in-Some-clause-number c = rw (← c.self.view_is) (listed_by_search (λ k. k.items) c.args.list.items _ c.in-Some.number (sym c.in-Some.ensures.index))
 
 pub returns-clause-number : goal.returns-clause-number
 returns-clause-number c =
     let stored = c.in_ok-number.ensures.stored in
     listed_at (λ k. k.items) c.args.list.items _ c.in_ok-number.number stored.0 stored.1 stored.2
+
+pub invariant_of-self-2 : goal.invariant_of-self-2
+invariant_of-self-2 c =
+    let ok = c.in_ok-number.ensures in
+    let list : List (Option ℕ) = c.args.list.items in
+    let bits : ℕ = c.valued-bits.result in
+    let has : HasValued bits list = subst (HasValued bits) c.deref.ensures.value c.valued-bits.ensures in
+    are_valued_more _ _ c.self.inside.valued.items c.note.new.valued.items c.in_ok-number.number bits list c.self.invariant
+    (keeps_inserted (λ k. k.items) _ c.self.inside.lists.keys c.insert_full.new.self.keys c.args.list ok.keys)
+    (listed_at (λ k. k.items) list _ c.in_ok-number.number ok.stored.0 ok.stored.1 ok.stored.2) has c.note.ensures

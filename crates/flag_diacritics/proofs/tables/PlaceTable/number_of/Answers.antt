@@ -1,6 +1,8 @@
-use Rattle.std.proofs.Common.{sym}
-use Rattle.flag_diacritics.proofs.Finding.{place_by_search}
+use Rattle.std.proofs.Common.{Some, ap, ◌∙◌}
+use Rattle.flag_diacritics.proofs.Finding.{same_place}
 use Rattle.flag_diacritics.proofs.tables.PlaceTable.number_of.Goals as goal
 
-pub returns-in-Some-clause-number : goal.returns-in-Some-clause-number
-returns-in-Some-clause-number c = rw (← c.self.view_is) (place_by_search c.args.place c.self.inside.places.keys c.in-Some.number (sym c.in-Some.ensures.index))
+pub returns-clause-number : goal.returns-clause-number
+returns-clause-number c =
+    let stored = c.in_ok-number.ensures.stored in
+    stored.1 ∙ ap Some (same_place c.args.place stored.0 stored.2)
