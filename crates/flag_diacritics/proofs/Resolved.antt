@@ -35,18 +35,6 @@ pair_letter (Some (OfPair pair)) x is = ap (λ p. Some (OfPair p)) (same_Some pa
 pair_letter (Some (UpFlag n)) x is = let clash : None ≡ Some x = is in cc
 pair_letter (Some (LowFlag n)) x is = let clash : None ≡ Some x = is in cc
 
--- the edges are those of another list
-pub resolved_for : (step : Edge Tape → Features → Option Features) (net : Automaton Tape) (first : Features) (names : Names) (edges : List (Edge Pair)) (finals : List Bool) → IsResolved step net first names edges finals → (m : Automaton Pair) → m.finals ≡ finals → ((e : Edge Pair) → Contains m.edges e ↔ Contains edges e) → IsResolved step net first names m.edges m.finals
-resolved_for step net first names edges finals is m same_finals same_edges =
-    subst (λ fs. IsResolved step net first names m.edges fs) (sym same_finals)
-    (record {
-      start = is.start;
-      count = is.count;
-      final = is.final;
-      only = λ e h. is.only e ((same_edges e).0 h);
-      all = λ k now next old at held passes. let r = is.all k now next old at held passes in (r.0, (same_edges r.0).1 r.1, r.2, r.3);
-    })
-
 -- edges lie between states, and there is a start
 pub resolved_start : (step : Edge Tape → Features → Option Features) (net : Automaton Tape) (first : Features) (names : Names) (edges : List (Edge Pair)) (finals : List Bool) → IsResolved step net first names edges finals → 0 < length finals
 resolved_start step net first names edges finals is =

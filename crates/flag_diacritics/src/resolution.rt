@@ -11,7 +11,7 @@ use crate::idle::idle_features;
 use crate::search::explore;
 use crate::tape::Tape;
 use fsa::Fsa;
-use fsa_trim::{automaton, trim};
+use fsa_trim::trim;
 use fsm_base::Pair;
 use regex_ast::FlagOp;
 use std::alloc::{AllocError, Global};
@@ -29,6 +29,6 @@ pub fn resolve(alloc: Global, net: &Fsa<Tape>, flags: &[FlagOp]) -> Result<Fsa<P
     let actions = actions_of(alloc, flags)?;
     let idle = idle_features(alloc, net, &actions)?;
     let built = explore(alloc, net, &actions, &idle)?;
-    let m = automaton(alloc, built.finals, &built.edges)?;
+    let m = Fsa::of(built.finals, built.edges);
     trim(alloc, &m)
 }

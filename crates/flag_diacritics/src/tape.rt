@@ -16,4 +16,12 @@ pub enum Tape {
 
 impl Letter for Tape {
     ghost equal_is_same = { Prim.search rules };
+
+    fn mark(self) -> usize {
+        match self {
+            Tape::Pair(pair) => pair.mark(),
+            Tape::UpFlag(flag) => (flag as usize).wrapping_add(512),
+            Tape::LowFlag(flag) => (flag as usize).wrapping_add(768),
+        }
+    }
 }

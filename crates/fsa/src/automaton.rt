@@ -1,4 +1,5 @@
-ghost use Rattle.std.specs.Prelude.{◌≡◌, ◌<◌, ◌+◌, ◌↔◌, [], ◌∷◌, ◌++◌, IfOk, OnOk, OnErr, IsTrue, false, true, length, slice_set};
+ghost use Rattle.std.specs.Prelude.{◌≡◌, Contains, ◌<◌, ◌+◌, ◌↔◌, [], ◌∷◌, ◌++◌, IfOk, OnOk, OnErr, IsTrue, false, true, length, slice_set};
+ghost use Rattle.fsa.specs.declared.automaton.Edge.{Edge};
 ghost use Rattle.fsa.specs.Automaton.{IsWellFormed, IsFinal};
 
 use std::alloc::{AllocError, Global};
@@ -58,6 +59,15 @@ impl<L: Copy> Fsa<L> {
             edges: Vec::new(alloc),
             finals,
         }
+    }
+
+    /// The automaton of edges, by which of its states are final. There is an entry for each state. No copy is made.
+    pub fn of(finals: Vec<bool>, edges: Vec<Edge<L>>) -> Fsa<L>
+        requires start { 0 < length finals.items }
+        requires within { (e : Edge L) → Contains edges.items e → (e.from < length finals.items) × (e.to < length finals.items) }
+        ensures { result ≡ record { edges = edges.items; finals = finals.items } }
+    {
+        Fsa { edges, finals }
     }
 
     /// Adds a state, which is not final, and gives its number.

@@ -1,5 +1,5 @@
 -- The states that are kept, their new numbers, and the language of what is left.
-use Rattle.std.proofs.Common.{◌≡◌, ℕ, ◌+◌, ◌<◌, ◌≤◌, ◌⊎◌, ◌↔◌, List, [], ◌∷◌, ◌++◌, Bool, Option, Some, None, true, false, Result, Ok, Err, IfOk, length, map, get_or, set, take, refl, subst, sym, ap, inl, inr, arith, ◌∙◌}
+use Rattle.std.proofs.Common.{◌≡◌, ℕ, ◌+◌, ◌<◌, ◌≤◌, ◌⊎◌, ◌↔◌, List, [], ◌∷◌, ◌++◌, Bool, Option, Some, None, true, false, length, map, get_or, set, take, refl, subst, sym, ap, inl, inr, arith, ◌∙◌}
 use Rattle.std.specs.List.{Contains, slice_get}
 use Rattle.std.specs.List.Sorted.{IsPermutation}
 use Rattle.std.specs.Option.{option_map}
@@ -198,20 +198,8 @@ module _ {L : Type 0} (a : Automaton L) (kept : Marks) (bound : kept.bound ≡ l
   state_there : (k : ℕ) → Contains kept.found k → k < length a.finals
   state_there k (i, l, e) = subst (λ n. k < n) bound (subst (λ j. j < kept.bound) e (ok.within i k l))
 
-  abbrev IsTrimmed : Automaton L → Type 0
-  IsTrimmed m = ((x : L) → UsesLetter m x → UsesLetter a x) × ((w : List L) → Accepts m w ↔ Accepts a w)
+  pub built_letters : (x : L) → UsesLetter (record { edges = edges; finals = finals }) x → UsesLetter a x
+  built_letters = trimmed_letters a (record { edges = edges; finals = finals }) kept.found numbers numbering start all_live finals_are state_there edges_are
 
-  is_trimmed : (m : Automaton L) → m.finals ≡ finals → ((e : Edge L) → Contains m.edges e ↔ Contains edges e) → IsTrimmed m
-  is_trimmed m same_finals same_edges =
-      let are : (e : Edge L) → Contains m.edges e ↔ ForSome (IsRenumbered numbers) a.edges e = λ e. (λ h. (edges_are e).0 ((same_edges e).0 h), λ r. (same_edges e).1 ((edges_are e).1 r)) in (
-        trimmed_letters a m kept.found numbers numbering start all_live (same_finals ∙ finals_are) state_there are,
-        trimmed_language a m kept.found numbers numbering start all_live (same_finals ∙ finals_are) state_there are zero,
-      )
-
-  pub built_letters : {E : Type 0} (r : Result (Automaton L) E) → IfOk r (λ m. m.finals ≡ finals) → IfOk r (λ m. (e : Edge L) → Contains m.edges e ↔ Contains edges e) → IfOk r (λ m. (x : L) → UsesLetter m x → UsesLetter a x)
-  built_letters (Ok m) same_finals same_edges = (is_trimmed m same_finals same_edges).0
-  built_letters (Err x) same_finals same_edges = tt
-
-  pub built_language : {E : Type 0} (r : Result (Automaton L) E) → IfOk r (λ m. m.finals ≡ finals) → IfOk r (λ m. (e : Edge L) → Contains m.edges e ↔ Contains edges e) → IfOk r (λ m. (w : List L) → Accepts m w ↔ Accepts a w)
-  built_language (Ok m) same_finals same_edges = (is_trimmed m same_finals same_edges).1
-  built_language (Err x) same_finals same_edges = tt
+  pub built_language : (w : List L) → Accepts (record { edges = edges; finals = finals }) w ↔ Accepts a w
+  built_language = trimmed_language a (record { edges = edges; finals = finals }) kept.found numbers numbering start all_live finals_are state_there edges_are zero

@@ -6,7 +6,6 @@ ghost use Rattle.fsa_explore.specs.Marks.{Adds};
 ghost use Rattle.fsa_trim.specs.Gains.{ForSome};
 ghost use Rattle.fsa_trim.specs.Trimmed.{IsNumbering, IsRenumbered, turned};
 
-use crate::building::automaton;
 use fsa::{Edge, Fsa};
 use fsa_explore::{EdgesByState, NumberSet, close};
 use fsm_base::Letter;
@@ -23,7 +22,7 @@ pub fn trim<L: Letter>(alloc: Global, a: &Fsa<L>) -> Result<Fsa<L>, AllocError>
     let numbers = numbers_of(alloc, a.states(), &kept)?;
     let finals = finals_of(alloc, a.finals(), kept.found())?;
     let edges = kept_edges(alloc, a.edges(), &numbers)?;
-    automaton(alloc, finals, &edges)
+    Ok(Fsa::of(finals, edges))
 }
 
 /// The start, and each state from which a final state is reached.
@@ -44,7 +43,7 @@ fn kept_states<L: Letter>(alloc: Global, a: &Fsa<L>) -> Result<NumberSet, AllocE
 fn turned_edges<L: Letter>(alloc: Global, edges: &[Edge<L>]) -> Result<Vec<Edge<L>>, AllocError>
     ensures { IfOk result (λ turned_edges. turned_edges.items ≡ map turned edges.now) }
 {
-    let mut turned_edges = Vec::new(alloc);
+    let mut turned_edges = Vec::with_capacity(alloc, edges.len())?;
     for edge in edges {
         turned_edges.push(Edge {
             from: edge.to,
@@ -94,7 +93,7 @@ fn finals_of(alloc: Global, finals: &[bool], kept: &[usize]) -> Result<Vec<bool>
     requires { All (λ state. state < length finals.now) kept.now }
     ensures { IfOk result (λ kept_finals. kept_finals.items ≡ map (λ state. slice_index_or finals.now state false) kept.now) }
 {
-    let mut kept_finals = Vec::new(alloc);
+    let mut kept_finals = Vec::with_capacity(alloc, kept.len())?;
     for state in kept {
         kept_finals.push(finals[*state])?;
     }
@@ -110,7 +109,7 @@ fn kept_edges<L: Letter>(
     requires { (e : Edge L) → Contains edges.now e → (e.from < length numbers.now) × (e.to < length numbers.now) }
     ensures { IfOk result (λ kept. (e : Edge L) → Contains kept.items e ↔ ForSome (IsRenumbered numbers.now) edges.now e) }
 {
-    let mut kept = Vec::new(alloc);
+    let mut kept = Vec::with_capacity(alloc, edges.len())?;
     for edge in edges {
         if let Some(edge) = renumbered(edge, numbers) {
             kept.push(edge)?;

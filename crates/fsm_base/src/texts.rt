@@ -109,7 +109,7 @@ impl TextTable {
         let alloc = *self.texts.allocator();
         let owned = String::from_str(alloc, text)?;
         let (place, _) = self.texts.insert_full(owned)?;
-        self.hints.note(alloc, text, place);
+        self.hints.note(alloc, mark_of(text), place);
         Ok(place)
     }
 
@@ -124,13 +124,22 @@ impl TextTable {
     fn hinted_place(&self, text: &str) -> Option<usize>
         ensures { MatchOption result (Unit {0}) (λ place. slice_get self.now place ≡ Some text.now) }
     {
-        let place = self.hints.place_for(text)?;
+        let place = self.hints.place_for(mark_of(text))?;
         let found = self.texts.get_index(place)?;
         if are_same(found.as_str(), text) {
             Some(place)
         } else {
             None
         }
+    }
+}
+
+/// The mark of a text, by its first and its last byte. Most texts are single characters, each with a mark of its own.
+fn mark_of(text: &str) -> usize {
+    let bytes = text.as_bytes();
+    match (bytes.first(), bytes.last()) {
+        (Some(first), Some(last)) => usize::from(*first % 16) * 64 + usize::from(*last % 64),
+        _ => 0,
     }
 }
 

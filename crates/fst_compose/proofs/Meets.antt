@@ -50,26 +50,20 @@ module _ (a b : Automaton Pair) (xs ys : List (Edge Pair)) (fs gs : List Bool) (
   from_b : (e : Edge Pair) → Contains b.edges e → Contains ys e
   from_b e h = (same_elements b.edges ys second e).1 h
 
-  built_is : (m : Automaton Pair) → m.finals ≡ finals → ((e : Edge Pair) → Contains m.edges e ↔ Contains edges e) → IsProduct a b pairs m.edges m.finals
-  built_is m finals_are edges_are = record {
+  pub built_is : IsProduct a b pairs edges finals
+  built_is = record {
     start = is.start;
-    count = is.count ∙ ap length (sym finals_are);
+    count = is.count;
     final = λ k p q at.
         let f = is.final k p q at in (
           λ h.
-              let both = f.0 (subst (λ ms. slice_get ms k ≡ Some true) finals_are h) in
+              let both = f.0 h in
               (subst (λ ms. slice_get ms p ≡ Some true) fs_are both.0, subst (λ ms. slice_get ms q ≡ Some true) gs_are both.1),
-          λ both.
-              let h = f.1 (subst (λ ms. slice_get ms p ≡ Some true) (sym fs_are) both.0, subst (λ ms. slice_get ms q ≡ Some true) (sym gs_are) both.1) in
-              subst (λ ms. slice_get ms k ≡ Some true) (sym finals_are) h,
+          λ both. f.1 (subst (λ ms. slice_get ms p ≡ Some true) (sym fs_are) both.0, subst (λ ms. slice_get ms q ≡ Some true) (sym gs_are) both.1),
         );
-    only = λ e h. let r = is.only e ((edges_are e).0 h) in (r.0, r.1, r.2, r.3, move_same xs ys a.edges b.edges to_a to_b r.0 r.1 r.2 r.4, r.5);
-    all = λ k p q move at is_move. let r = is.all k p q move at (move_same a.edges b.edges xs ys from_a from_b p q move is_move) in (r.0, (edges_are r.0).1 r.1, r.2, r.3);
+    only = λ e h. let r = is.only e h in (r.0, r.1, r.2, r.3, move_same xs ys a.edges b.edges to_a to_b r.0 r.1 r.2 r.4, r.5);
+    all = λ k p q move at is_move. is.all k p q move at (move_same a.edges b.edges xs ys from_a from_b p q move is_move);
   }
-
-  pub built_product : {E : Type 0} (r : Result (Automaton Pair) E) → IfOk r (λ m. m.finals ≡ finals) → IfOk r (λ m. (e : Edge Pair) → Contains m.edges e ↔ Contains edges e) → IfOk r (λ m. IsProduct a b pairs m.edges m.finals)
-  built_product (Ok m) finals_are edges_are = built_is m finals_are edges_are
-  built_product (Err x) finals_are edges_are = tt
 
 -- the composition, by the second transducer with its sides exchanged
 pub composed : (r s turned m : Automaton Pair) → AreSame (IsRelated turned) (IsInverse (IsRelated s)) → AreSame (IsRelated m) (ShareLower (IsRelated r) (IsRelated turned)) → AreSame (IsRelated m) (IsComposition (IsRelated r) (IsRelated s))

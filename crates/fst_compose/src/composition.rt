@@ -7,7 +7,7 @@ ghost use Rattle.fst_algebra.specs.Relations.{UsesUpper, UsesLower};
 use crate::operand::Operand;
 use crate::product::explore;
 use fsa::Fsa;
-use fsa_trim::{automaton, trim};
+use fsa_trim::trim;
 use fsm_base::Pair;
 use fst_algebra::inverse;
 use std::alloc::{AllocError, Global};
@@ -34,5 +34,5 @@ fn meet(alloc: Global, a: &Fsa<Pair>, b: &Fsa<Pair>) -> Result<Fsa<Pair>, AllocE
     let first = Operand::of(alloc, a.edges())?;
     let second = Operand::of(alloc, b.edges())?;
     let built = explore(alloc, &first, a.finals(), &second, b.finals())?;
-    automaton(alloc, built.finals, &built.edges)
+    Ok(Fsa::of(built.finals, built.edges))
 }

@@ -9,30 +9,27 @@ use Rattle.flag_diacritics.specs.Tapes.{HasPairs, TapesRelate, UsesPair}
 use Rattle.flag_diacritics.specs.Idle.{live_behind}
 use Rattle.flag_diacritics.specs.Search.{IsResolved}
 use Rattle.flag_diacritics.proofs.Passing.{neutral}
-use Rattle.flag_diacritics.proofs.Resolved.{resolved_for, resolved_within, resolved_letters, resolved_language, resolved_relation}
+use Rattle.flag_diacritics.proofs.Resolved.{resolved_within, resolved_letters, resolved_language, resolved_relation}
 use Rattle.flag_diacritics.proofs.resolution.resolve.Goals as goal
 
-pub automaton-requires-clause-within : goal.automaton-requires-clause-within
-automaton-requires-clause-within c =
-    rw c.deref.ensures.value
-    (resolved_within (live_behind c.in_ok-actions.actions.list.items c.in_ok-idle.idle) c.args.net.now (neutral c.in_ok-actions.actions.features) c.in_ok-built.ensures.0 c.in_ok-built.built.edges.items c.in_ok-built.built.finals.items c.in_ok-built.ensures.1)
+pub of-m-requires-clause-within : goal.of-m-requires-clause-within
+of-m-requires-clause-within c =
+    resolved_within (live_behind c.in_ok-actions.actions.list.items c.in_ok-idle.idle) c.args.net.now (neutral c.in_ok-actions.actions.features) c.in_ok-built.ensures.0 c.in_ok-built.built.edges.items c.in_ok-built.built.finals.items c.in_ok-built.ensures.1
 
-resolved : (c : goal.After-drop-actions-2) → IsResolved (live_behind c.in_ok-actions.actions.list.items c.in_ok-idle.idle) c.args.net.now (neutral c.in_ok-actions.actions.features) c.in_ok-built.ensures.0 c.in_ok-m.m.edges c.in_ok-m.m.finals
-resolved c =
-    resolved_for (live_behind c.in_ok-actions.actions.list.items c.in_ok-idle.idle) c.args.net.now (neutral c.in_ok-actions.actions.features) c.in_ok-built.ensures.0 c.in_ok-built.built.edges.items c.in_ok-built.built.finals.items c.in_ok-built.ensures.1
-    c.in_ok-m.m c.in_ok-m.ensures.finals (rw c.deref.ensures.value at c.in_ok-m.ensures.edges)
+resolved : (c : goal.After-drop-actions-2) → IsResolved (live_behind c.in_ok-actions.actions.list.items c.in_ok-idle.idle) c.args.net.now (neutral c.in_ok-actions.actions.features) c.in_ok-built.ensures.0 c.of-m.result.edges c.of-m.result.finals
+resolved c = rw c.of-m.ensures c.in_ok-built.ensures.1
 
 pub returns-clause-pairs : goal.returns-clause-pairs
 returns-clause-pairs c =
-    IfOk-weaker c.trim.result (λ m. (x : Pair) → UsesLetter m x → UsesLetter c.in_ok-m.m x) (λ m. (x : Pair) → UsesLetter m x → UsesPair c.args.net.now x)
-    (λ m letters x uses. resolved_letters c.in_ok-actions.actions.list.items c.in_ok-idle.idle c.args.net.now c.in_ok-idle.ensures (neutral c.in_ok-actions.actions.features) c.in_ok-built.ensures.0 c.in_ok-m.m (resolved c) x (letters x uses)) c.trim.ensures.letters
+    IfOk-weaker c.trim.result (λ m. (x : Pair) → UsesLetter m x → UsesLetter c.of-m.result x) (λ m. (x : Pair) → UsesLetter m x → UsesPair c.args.net.now x)
+    (λ m letters x uses. resolved_letters c.in_ok-actions.actions.list.items c.in_ok-idle.idle c.args.net.now c.in_ok-idle.ensures (neutral c.in_ok-actions.actions.features) c.in_ok-built.ensures.0 c.of-m.result (resolved c) x (letters x uses)) c.trim.ensures.letters
 
 pub returns-clause-language : goal.returns-clause-language
 returns-clause-language c =
     let are = c.in_ok-actions.ensures in
-    IfOk-weaker c.trim.result (λ m. (w : List Pair) → Accepts m w ↔ Accepts c.in_ok-m.m w) (λ m. (w : List Pair) → Accepts m w ↔ HasPairs c.args.net.now c.args.flags.now w)
+    IfOk-weaker c.trim.result (λ m. (w : List Pair) → Accepts m w ↔ Accepts c.of-m.result w) (λ m. (w : List Pair) → Accepts m w ↔ HasPairs c.args.net.now c.args.flags.now w)
     (λ m same pairs.
-    let whole = resolved_language c.in_ok-actions.actions.list.items c.in_ok-idle.idle c.args.net.now c.in_ok-idle.ensures (neutral c.in_ok-actions.actions.features) c.in_ok-built.ensures.0 c.in_ok-m.m (resolved c) are.0 are.1 c.args.flags.now are.2 (ap neutral are.3) pairs in
+    let whole = resolved_language c.in_ok-actions.actions.list.items c.in_ok-idle.idle c.args.net.now c.in_ok-idle.ensures (neutral c.in_ok-actions.actions.features) c.in_ok-built.ensures.0 c.of-m.result (resolved c) are.0 are.1 c.args.flags.now are.2 (ap neutral are.3) pairs in
     (λ h. whole.0 ((same pairs).0 h), λ h. (same pairs).1 (whole.1 h)))
     c.trim.ensures.language
 

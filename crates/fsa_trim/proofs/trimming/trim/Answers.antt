@@ -5,26 +5,25 @@ use Rattle.fsa_trim.proofs.trimming.trim.Goals as goal
 pub kept_edges-requires : goal.kept_edges-requires
 kept_edges-requires g c = rw (c.deref.ensures.value, c.in_ok-numbers.ensures.count ∙ c.states.ensures.number) (λ e h. c.edges.ensures.formed.within e (rw c.edges.ensures.edges at h))
 
-pub automaton-requires-clause-within : goal.automaton-requires-clause-within
-automaton-requires-clause-within g c =
+pub of-requires-clause-within : goal.of-requires-clause-within
+of-requires-clause-within g c =
     let are = rw c.deref.ensures.value at c.in_ok-edges.ensures in
-    rw c.deref-2.ensures.value
-    (λ e h. trimmed_within c.in_ok-kept.kept.found c.in_ok-numbers.numbers.items c.in_ok-numbers.ensures.numbering (λ k. get_or c.finals.result.now k false) c.in_ok-finals.finals.items (rw c.found.ensures.found at c.in_ok-finals.ensures) c.edges.result.now e ((are e).0 h))
+    λ e h. trimmed_within c.in_ok-kept.kept.found c.in_ok-numbers.numbers.items c.in_ok-numbers.ensures.numbering (λ k. get_or c.finals.result.now k false) c.in_ok-finals.finals.items (rw c.found.ensures.found at c.in_ok-finals.ensures) c.edges.result.now e ((are e).0 h)
 
 pub returns-clause-letters : goal.returns-clause-letters
 returns-clause-letters g c =
     let a = c.args.a.now in
     let kept = c.in_ok-kept.kept in
     let numbers = c.in_ok-numbers.numbers.items in
-    built_letters a kept c.in_ok-kept.ensures.bound c.in_ok-kept.ensures.start c.in_ok-kept.ensures.live c.found.ensures.bounded numbers c.in_ok-numbers.ensures.numbering c.in_ok-numbers.ensures.start
-    c.in_ok-finals.finals.items (rw (c.finals.ensures.finals, c.found.ensures.found) at c.in_ok-finals.ensures) c.in_ok-edges.edges.items (rw (c.edges.ensures.edges, c.deref.ensures.value) at c.in_ok-edges.ensures)
-    c.automaton.result c.automaton.ensures.finals (rw c.deref-2.ensures.value at c.automaton.ensures.edges)
+    rw c.of.ensures
+    (built_letters a kept c.in_ok-kept.ensures.bound c.in_ok-kept.ensures.start c.in_ok-kept.ensures.live c.found.ensures.bounded numbers c.in_ok-numbers.ensures.numbering c.in_ok-numbers.ensures.start
+    c.in_ok-finals.finals.items (rw (c.finals.ensures.finals, c.found.ensures.found) at c.in_ok-finals.ensures) c.in_ok-edges.edges.items (rw (c.edges.ensures.edges, c.deref.ensures.value) at c.in_ok-edges.ensures))
 
 pub returns-clause-language : goal.returns-clause-language
 returns-clause-language g c =
     let a = c.args.a.now in
     let kept = c.in_ok-kept.kept in
     let numbers = c.in_ok-numbers.numbers.items in
-    built_language a kept c.in_ok-kept.ensures.bound c.in_ok-kept.ensures.start c.in_ok-kept.ensures.live c.found.ensures.bounded numbers c.in_ok-numbers.ensures.numbering c.in_ok-numbers.ensures.start
-    c.in_ok-finals.finals.items (rw (c.finals.ensures.finals, c.found.ensures.found) at c.in_ok-finals.ensures) c.in_ok-edges.edges.items (rw (c.edges.ensures.edges, c.deref.ensures.value) at c.in_ok-edges.ensures)
-    c.automaton.result c.automaton.ensures.finals (rw c.deref-2.ensures.value at c.automaton.ensures.edges)
+    rw c.of.ensures
+    (built_language a kept c.in_ok-kept.ensures.bound c.in_ok-kept.ensures.start c.in_ok-kept.ensures.live c.found.ensures.bounded numbers c.in_ok-numbers.ensures.numbering c.in_ok-numbers.ensures.start
+    c.in_ok-finals.finals.items (rw (c.finals.ensures.finals, c.found.ensures.found) at c.in_ok-finals.ensures) c.in_ok-edges.edges.items (rw (c.edges.ensures.edges, c.deref.ensures.value) at c.in_ok-edges.ensures))
