@@ -7,3 +7,4 @@ pub mod LettersNumbered
 pub mod SameEdges
 pub mod Cut
 pub mod Ordering
+pub mod Owned

@@ -2,7 +2,7 @@
 //! Introduction to Automata Theory, section 4.4; what is merged here is what edges show to be alike at once, and
 //! not all that has the same language).
 //!
-//! - [`reduced`]: merges states, takes epsilon edges away where that is cheap, and merges again.
+//! - [`reduced`]: merges states, takes epsilon edges away where that is cheap, and merges again. [`ends_merged`]: merges them once.
 //! - `merging`: an automaton with one state for each class of states. `classes`: which states go on alike.
 //!   `order`: states in an order in which edges lead on. `numbering`: numbers in place of letters.
 //! - `cutting`: an automaton without a last state that nothing reaches. `epsilon`: whether epsilon edges
@@ -17,4 +17,4 @@ mod numbering;
 mod order;
 mod reduction;
 
-pub use reduction::reduced;
+pub use reduction::{ends_merged, reduced};

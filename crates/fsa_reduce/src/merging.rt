@@ -1,10 +1,11 @@
-ghost use Rattle.std.specs.Prelude.{◌≡◌, ◌<◌, ◌↔◌, ℕ, List, Some, true, IfOk, OnOk, All, Contains, slice_get, length};
+ghost use Rattle.std.specs.Prelude.{◌≡◌, ◌<◌, ◌↔◌, ℕ, List, Bool, Some, true, IfOk, IsTrue, OnOk, All, Contains, slice_get, length};
 ghost use Rattle.fsa.specs.Automaton.{UsesLetter};
 ghost use Rattle.fsa.specs.Language.{Accepts};
 ghost use Rattle.fsa.specs.declared.automaton.Edge.{Edge};
 ghost use Rattle.fsa_rational.specs.Shapes.{Extends, ForEach};
 ghost use Rattle.fsa_reduce.specs.Numbering.{StandsFor};
-ghost use Rattle.fsa_reduce.specs.Merging.{IsMoved, AreWithinBoth};
+ghost use Rattle.fsa_reduce.specs.Classes.{AreAlike};
+ghost use Rattle.fsa_reduce.specs.Merging.{IsMoved, AreWithinBoth, AreOfClasses, AreOwn, IsOwn};
 
 use crate::classes::classes_of;
 use crate::cutting::without_last;
@@ -14,7 +15,7 @@ use fsm_base::Letter;
 use std::alloc::{AllocError, Global};
 
 /// An automaton of the same language, with one state for each class of states that go on alike, as `classes_of`
-/// finds them. Takes time in proportion to the edges, which are sorted.
+/// finds them. Takes time in proportion to the edges, of which those of one state of each class are sorted.
 pub fn merged<L: Letter>(alloc: Global, a: &Fsa<L>, ends_first: bool) -> Result<Fsa<L>, AllocError>
     ensures letters { IfOk result (λ m. (x : L) → UsesLetter m x → UsesLetter a.now x) }
     ensures language { IfOk result (λ m. (w : List L) → Accepts m w ↔ Accepts a.now w) }
@@ -22,7 +23,7 @@ pub fn merged<L: Letter>(alloc: Global, a: &Fsa<L>, ends_first: bool) -> Result<
     let with_numbers = number_letters(alloc, a.edges())?;
     let alike = classes_of(alloc, a.finals(), &with_numbers.edges, ends_first)?;
     let finals = merged_finals(alloc, a.finals(), &alike.of_states, alike.count)?;
-    let edges = merged_edges(alloc, &with_numbers.edges, &alike.of_states)?;
+    let edges = merged_edges(alloc, &with_numbers.edges, &alike.of_states, alike.count)?;
     let mut m = Fsa::of_states(alloc, finals);
     add_numbered(&mut m, &edges, &with_numbers.letters)?;
     without_last(alloc, m)
@@ -49,19 +50,64 @@ pub fn merged_finals(
     Ok(merged)
 }
 
-/// The edges between the classes, sorted, each once.
+/// The edges between the classes, sorted, each once. Of each class the edges of one state are taken, since its other states have
+/// edges that are alike.
 fn merged_edges(
     alloc: Global,
     edges: &[Edge<usize>],
     classes: &[usize],
+    count: usize,
 ) -> Result<Vec<Edge<usize>>, AllocError>
-    requires { AreWithinBoth edges.now (length classes.now) }
+    requires within { AreWithinBoth edges.now (length classes.now) }
+    requires alike { (finals : List Bool) × AreAlike finals edges.now classes.now count }
     ensures { IfOk result (λ v. (f : Edge ℕ) → Contains v.items f ↔ ((e : Edge ℕ) × Contains edges.now e × IsMoved classes.now e f)) }
 {
-    let mut merged = moved_edges(alloc, edges, classes)?;
+    let states = states_of(alloc, classes, count)?;
+    let own = own_edges(alloc, edges, classes, &states)?;
+    let mut merged = moved_edges(alloc, &own, classes)?;
     merged.sort_unstable();
     merged.dedup();
     Ok(merged)
+}
+
+/// For each class a state of it, if there is one.
+fn states_of(alloc: Global, classes: &[usize], count: usize) -> Result<Vec<usize>, AllocError>
+    requires { All (λ k. k < count) classes.now }
+    ensures { IfOk result (λ states. AreOfClasses classes.now states.items) }
+{
+    let mut states = vec![in alloc; 0usize; count]?;
+    for (state, class) in classes.iter().enumerate() {
+        states[*class] = state;
+    }
+    Ok(states)
+}
+
+/// The edges that leave these states of their classes.
+fn own_edges(
+    alloc: Global,
+    edges: &[Edge<usize>],
+    classes: &[usize],
+    states: &[usize],
+) -> Result<Vec<Edge<usize>>, AllocError>
+    ensures { IfOk result (λ own. AreOwn classes.now states.now edges.now own.items) }
+{
+    let mut own = Vec::new(alloc);
+    for edge in edges {
+        if is_own(classes, states, edge.from) {
+            own.push(*edge)?;
+        }
+    }
+    Ok(own)
+}
+
+/// Whether a state is the one of its class.
+fn is_own(classes: &[usize], states: &[usize], state: usize) -> bool
+    ensures { IsTrue result ↔ IsOwn classes.now states.now state }
+{
+    let Some(class) = classes.get(state) else {
+        return false;
+    };
+    states.get(*class) == Some(&state)
 }
 
 /// An edge between classes for each edge.

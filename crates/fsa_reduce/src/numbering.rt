@@ -3,9 +3,12 @@ ghost use Rattle.fsa.specs.declared.automaton.Edge.{Edge};
 ghost use Rattle.fsa_reduce.specs.Numbering.{StandsFor, AreNumbered, Keeps};
 
 use fsa::Edge;
-use fsm_base::Letter;
+use fsm_base::{Hints, Letter};
 use std::alloc::{AllocError, Global};
 use std::collections::BTreeMap;
+
+/// How many edges there are at least where hints save more than they take.
+const MANY: usize = 256;
 
 /// Edges with numbers in place of their letters, none being a letter of its own.
 #[derive(Drop)]
@@ -23,11 +26,19 @@ pub fn number_letters<L: Letter>(
 ) -> Result<Numbered<L>, AllocError>
     ensures { IfOk result (λ n. AreNumbered edges.now n.letters.items n.edges.items) }
 {
+    let mut hints = Hints::new(alloc);
     let mut numbers = BTreeMap::new(alloc);
     let mut letters = Vec::new(alloc);
     let mut numbered = Vec::with_capacity(alloc, edges.len())?;
     for edge in edges {
-        let number = number_of(&mut numbers, &mut letters, edge.letter)?;
+        let number = number_of(
+            alloc,
+            edges.len(),
+            &mut hints,
+            &mut numbers,
+            &mut letters,
+            edge.letter,
+        )?;
         numbered.push(Edge {
             from: edge.from,
             letter: Some(number),
@@ -40,8 +51,11 @@ pub fn number_letters<L: Letter>(
     })
 }
 
-/// The number of a letter, which is noted where none is.
+/// The number of a letter of so many edges, which is noted where none is.
 fn number_of<L: Letter>(
+    alloc: Global,
+    edges: usize,
+    hints: &mut Hints,
     numbers: &mut BTreeMap<Option<L>, usize>,
     letters: &mut Vec<Option<L>>,
     letter: Option<L>,
@@ -49,15 +63,32 @@ fn number_of<L: Letter>(
     ensures number { IfOk result (λ k. slice_get letters.new.items k ≡ Some letter) }
     ensures kept { OnOk result (Keeps letters.old.items letters.new.items) }
 {
+    if let Some(number) = hints.place_of(letters, letter) {
+        return Ok(number);
+    }
     if let Some(number) = numbers.get(&letter) {
         if *number < letters.len() && is_same(letters[*number], letter) {
             return Ok(*number);
         }
     }
     let number = letters.len();
+    note(alloc, edges, hints, letter, number);
     numbers.insert(letter, number)?;
     letters.push(letter)?;
     Ok(number)
+}
+
+/// Notes the number of a letter of so many edges, if these are many.
+fn note<L: Letter>(
+    alloc: Global,
+    edges: usize,
+    hints: &mut Hints,
+    letter: Option<L>,
+    number: usize,
+) {
+    if edges >= MANY {
+        hints.note(alloc, letter.mark(), number);
+    }
 }
 
 /// Whether two letters are the same, or both are none.

@@ -28,6 +28,15 @@ pub fn reduced<L: Letter>(alloc: Global, a: &Fsa<L>) -> Result<Fsa<L>, AllocErro
     }
 }
 
+/// A smaller automaton of the same language, in one pass over its edges: common ends become one, and states that go on alike into
+/// the same states.
+pub fn ends_merged<L: Letter>(alloc: Global, a: &Fsa<L>) -> Result<Fsa<L>, AllocError>
+    ensures letters { IfOk result (λ m. (x : L) → UsesLetter m x → UsesLetter a.now x) }
+    ensures language { IfOk result (λ m. (w : List L) → Accepts m w ↔ Accepts a.now w) }
+{
+    merged(alloc, a, true)
+}
+
 /// Whether one of the edges is an epsilon edge.
 fn has_epsilon<L>(edges: &[Edge<L>]) -> bool {
     edges.iter().any(|edge| edge.letter.is_none())

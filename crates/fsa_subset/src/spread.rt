@@ -35,8 +35,8 @@ pub fn determine_within<L: Letter>(
         return Ok(None);
     };
     let finals = finals_of(alloc, &found, a.finals())?;
-    let m = with_letters(alloc, finals, found.edges(), &letters)?;
-    Ok(Some(m))
+    let edges = with_letters(alloc, found.edges(), &letters)?;
+    Ok(Some(Fsa::of(finals, edges)))
 }
 
 /// The sets that the start reaches, and the edges between them, or None where that takes more steps.
@@ -155,22 +155,18 @@ fn finals_of(alloc: Global, found: &Partial, finals: &[bool]) -> Result<Vec<bool
     Ok(marks)
 }
 
-/// The automaton of edges that carry places of letters, and of final states.
+/// Edges with the letters at the places that they carry.
 fn with_letters<L: Letter>(
     alloc: Global,
-    finals: Vec<bool>,
     edges: &[Edge<LetterIndex>],
     letters: &[L],
-) -> Result<Fsa<L>, AllocError>
-    requires start { 0 < length finals.items }
-    requires within { (e : Edge LetterIndex) → Contains edges.now e → (e.from < length finals.items) × (e.to < length finals.items) }
-    ensures { IfOk result (λ m. m ≡ record { edges = map (with_letter letters.now) edges.now; finals = finals.items }) }
+) -> Result<Vec<Edge<L>>, AllocError>
+    ensures { IfOk result (λ lettered. lettered.items ≡ map (with_letter letters.now) edges.now) }
 {
-    let mut m = Fsa::of_states(alloc, finals);
-    'edges: for edge in edges {
-        m.add_edge(with_letter(letters, *edge))?;
-    }
-    Ok(m)
+    edges
+        .iter()
+        .map(|edge| with_letter(letters, *edge))
+        .collect(alloc)
 }
 
 /// The edge with the letter at the place that it carries.

@@ -12,14 +12,17 @@ classes_of-requires-clause-within g c = λ e h.
     let within = numbered_within a.edges c.in_ok-with_numbers.with_numbers.letters.items numbered (length a.finals) c.edges.ensures.formed.within given in
     rw c.finals.ensures.finals (within e (subst (λ es. Contains es e) c.deref.ensures.value h))
 
-pub merged_edges-requires : goal.merged_edges-requires
-merged_edges-requires g c = λ e h.
+pub merged_edges-requires-clause-within : goal.merged_edges-requires-clause-within
+merged_edges-requires-clause-within g c = λ e h.
     let a = c.args.a.now in
     let numbered = c.in_ok-with_numbers.with_numbers.edges.items in
     let given = rw c.edges.ensures.edges at c.in_ok-with_numbers.ensures in
     let within = numbered_within a.edges c.in_ok-with_numbers.with_numbers.letters.items numbered (length a.finals) c.edges.ensures.formed.within given in
     let same = ap length c.deref-4.ensures.value ∙ c.in_ok-alike.ensures.alike.number ∙ ap length c.finals.ensures.finals in
     rw same (within e (subst (λ es. Contains es e) c.deref-3.ensures.value h))
+
+pub merged_edges-requires-clause-alike : goal.merged_edges-requires-clause-alike
+merged_edges-requires-clause-alike g c = (c.finals.result.now, rw (c.deref-3.ensures.value, c.deref-4.ensures.value) (rw c.deref.ensures.value at c.in_ok-alike.ensures.alike))
 
 pub of_states-m-requires : goal.of_states-m-requires
 of_states-m-requires g c =

@@ -1,5 +1,6 @@
 use Rattle.std.proofs.Common.{◌≡◌, ◌<◌, ◌↔◌, Some, IfSome, length, map, sym, subst, ap, ◌∙◌}
 use Rattle.std.specs.List.{Contains, All}
+use Rattle.word_relations.proofs.Members.{Contains-map_cases}
 use Rattle.fsa.specs.Automaton.{UsesLetter}
 use Rattle.fsa.specs.Language.{Accepts}
 use Rattle.fsa.specs.declared.automaton.Edge.{Edge}
@@ -27,12 +28,14 @@ finals_of-requires g c = λ set h.
     let same = c.states.ensures.number ∙ sym (ap length c.finals.ensures.finals) in
     subst (λ n. All (λ p. p < n) set) same (sets_within rows c.states.result (length found.sets) found built set h)
 
-pub with_letters-requires-clause-within : goal.with_letters-requires-clause-within
-with_letters-requires-clause-within g c = λ e h.
+pub of-requires-clause-within : goal.of-requires-clause-within
+of-requires-clause-within g c = λ e h.
     let rows = c.in_ok-rows.rows in
     let found = c.in-Some.found in
     let built : IsSpreadBy rows c.states.result (length found.sets) found = subst (λ o. IfSome o (λ p. IsSpreadBy rows c.states.result (length p.sets) p)) c.in-Some.is c.in_ok-found.ensures in
-    rw c.in_ok-finals.ensures.count (edges_within rows c.states.result (length found.sets) found built e (subst (λ es. Contains es e) c.edges-3.ensures h))
+    let old = Contains-map_cases (with_letter c.deref-2.result.now) c.edges-3.result.now e (subst (λ es. Contains es e) c.in_ok-edges.ensures h) in
+    let within = edges_within rows c.states.result (length found.sets) found built old.0 (subst (λ es. Contains es old.0) c.edges-3.ensures old.1) in
+    rw c.in_ok-finals.ensures.count (subst (λ (d : Edge g.row.L.Denot). (d.from < length found.sets) × (d.to < length found.sets)) old.2 within)
 
 pub returns-clause-letters : goal.returns-clause-letters
 returns-clause-letters g c =
@@ -46,7 +49,8 @@ returns-clause-letters g c =
     let built : IsSpreadBy rows (length a.finals) (length found.sets) found =
     rw c.states.ensures.number at (subst (λ o. IfSome o (λ p. IsSpreadBy rows c.states.result (length p.sets) p)) c.in-Some.is c.in_ok-found.ensures) in
     let final : AreFinal a.finals found.sets marks = rw c.finals.ensures.finals at c.in_ok-finals.ensures in
-    let made : c.in_ok-m.m ≡ record { edges = map (with_letter letters) found.edges; finals = marks } = rw (c.deref-2.ensures.value, c.edges-3.ensures) at c.in_ok-m.ensures in
+    let made : c.of.result ≡ record { edges = map (with_letter letters) found.edges; finals = marks } =
+    c.of.ensures ∙ ap (λ es. record { edges = es; finals = marks }) (rw (c.deref-2.ensures.value, c.edges-3.ensures) at c.in_ok-edges.ensures) in
     λ x used. spread_letters a letters rows placed all found built marks final x (subst (λ n. UsesLetter n x) made used)
 
 pub returns-clause-language : goal.returns-clause-language
@@ -61,5 +65,6 @@ returns-clause-language g c =
     let built : IsSpreadBy rows (length a.finals) (length found.sets) found =
     rw c.states.ensures.number at (subst (λ o. IfSome o (λ p. IsSpreadBy rows c.states.result (length p.sets) p)) c.in-Some.is c.in_ok-found.ensures) in
     let final : AreFinal a.finals found.sets marks = rw c.finals.ensures.finals at c.in_ok-finals.ensures in
-    let made : c.in_ok-m.m ≡ record { edges = map (with_letter letters) found.edges; finals = marks } = rw (c.deref-2.ensures.value, c.edges-3.ensures) at c.in_ok-m.ensures in
+    let made : c.of.result ≡ record { edges = map (with_letter letters) found.edges; finals = marks } =
+    c.of.ensures ∙ ap (λ es. record { edges = es; finals = marks }) (rw (c.deref-2.ensures.value, c.edges-3.ensures) at c.in_ok-edges.ensures) in
     λ w. subst (λ n. Accepts n w ↔ Accepts a w) (sym made) (spread_language a letters rows placed all found built marks final w)

@@ -1,6 +1,5 @@
-use Rattle.std.proofs.Common.{◌≡◌, ◌↔◌, ℕ, IsPermutation, subst, sym}
+use Rattle.std.proofs.Common.{◌≡◌, ◌↔◌, ℕ}
 use Rattle.std.specs.List.{Contains}
-use Rattle.std.specs.List.Sorted.{IsNonDecreasingBy}
 use Rattle.std.proofs.lemmas.List.Sorted.{IsPermutation-refl}
 use Rattle.fsa.specs.declared.automaton.Edge.{Edge}
 use Rattle.fsa_subset.specs.declared.places.LetterIndex.{LetterIndex}
