@@ -8,6 +8,7 @@
 mod finals;
 mod moves;
 mod net;
+mod sorting;
 mod table;
 mod walk;
 

@@ -7,6 +7,7 @@ ghost use Rattle.lookup_walk.specs.Moves.{AreMoves};
 ghost use Rattle.lookup_walk.specs.Sorted.{AreRows, AreSorted, IsFirstFrom, IsOnly, IsRow, spot_cmp};
 
 use crate::moves::{Move, Spot, take};
+use crate::sorting::sort_moves;
 use fsa::Edge;
 use fsm_base::{Pair, Sym};
 use lookup_answers::Direction;
@@ -289,7 +290,7 @@ fn sorted_along(
 {
     let mut moves = moves_along(alloc, direction, edges)?;
     if !moves.is_sorted_by_key(|m| m.at) {
-        moves.sort_unstable_by_key(|m| m.at);
+        sort_moves(&mut moves);
     }
     Ok(moves)
 }
