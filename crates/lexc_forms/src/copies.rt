@@ -1,7 +1,6 @@
 ghost use Rattle.std.specs.Prelude.{◌≡◌, IfOk};
 
-use fsm_base::Text;
-use regex_ast::{FlagOp, Piece, Raw};
+use regex_ast::{Piece, Raw};
 use std::alloc::{AllocError, Global};
 
 /// A copy of pieces, which shares their texts.
@@ -21,7 +20,7 @@ fn same_piece(piece: &Piece<Raw>) -> Result<Piece<Raw>, AllocError>
 {
     match piece {
         Piece::Symbol(raw) => Ok(Piece::Symbol(same_raw(raw)?)),
-        Piece::Flag(flag) => Ok(Piece::Flag(same_flag(flag)?)),
+        Piece::Flag(flag) => Ok(Piece::Flag(flag.clone()?)),
     }
 }
 
@@ -32,26 +31,5 @@ fn same_raw(raw: &Raw) -> Result<Raw, AllocError>
     match raw {
         Raw::Run(text) => Ok(Raw::Run(text.clone()?)),
         Raw::Quoted(text) => Ok(Raw::Quoted(text.clone()?)),
-    }
-}
-
-/// The same flag.
-fn same_flag(flag: &FlagOp) -> Result<FlagOp, AllocError>
-    ensures { IfOk result (λ same. same ≡ flag.now) }
-{
-    Ok(FlagOp {
-        kind: flag.kind,
-        feature: flag.feature.clone()?,
-        value: same_value(&flag.value)?,
-    })
-}
-
-/// The same value, where there is one.
-fn same_value(value: &Option<Text>) -> Result<Option<Text>, AllocError>
-    ensures { IfOk result (λ same. same ≡ value.now) }
-{
-    match value {
-        Some(text) => Ok(Some(text.clone()?)),
-        None => Ok(None),
     }
 }

@@ -2,7 +2,7 @@
 use Rattle.std.proofs.Common.{◌≡◌, ℕ, List, [], ◌∷◌, ◌++◌, map, refl, sym, ap, ◌∙◌}
 use Rattle.std.proofs.lemmas.List.{map-append}
 use Rattle.std.specs.List.{flat_map}
-use Rattle.lexicon_resolution.specs.Places.{SymbolsAreOfForms, symbol_beside, symbols_at, symbols_in_piece}
+use Rattle.lexicon_resolution.specs.Symbols.{SymbolsAreOfForms, symbol_beside, symbols_at, symbols_in_piece}
 use Rattle.name_resolution.proofs.Listed.{listed_is}
 use Rattle.name_resolution.proofs.Mapped.{mapped_listed}
 use Rattle.project_meaning.specs.Leaves.{Leaf, form_symbols, forms_in, leaf_of, piece_symbols, resolved_entry, resolved_form, resolved_lexicon, resolved_piece, symbol_in, symbol_of}

@@ -1,3 +1,3 @@
 pub mod Numbered
-pub mod Places
 pub mod Plain
+pub mod Symbols

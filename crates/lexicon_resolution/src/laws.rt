@@ -1,5 +1,5 @@
 ghost use Rattle.lexicon_resolution.specs.Numbered.{AreResolvedByNumber};
-ghost use Rattle.lexicon_resolution.specs.Places.{SymbolsAreOfForms};
+ghost use Rattle.lexicon_resolution.specs.Symbols.{SymbolsAreOfForms};
 
 /// Lexicons by numbers are the resolved lexicons, each leaf by its number.
 pub fn are_resolved_by_number()

@@ -4,7 +4,7 @@
 //! - [`expressions`]: the expressions that stand in lexicons.
 //! - [`are_resolved_by_number`], [`symbols_are_of_forms`]: laws, which the contracts of the crates above cite.
 //!
-//! Read `specs/Plain.antt`, `specs/Numbered.antt` and `specs/Places.antt`.
+//! Read `specs/Plain.antt`, `specs/Numbered.antt` and `specs/Symbols.antt`.
 #![tactic(auto)]
 
 mod laws;

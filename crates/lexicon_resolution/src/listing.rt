@@ -1,6 +1,6 @@
 ghost use Rattle.std.specs.Prelude.{◌≡◌, ◌++◌, IfOk, OnOk, map};
 ghost use Rattle.std.specs.List.{flat_map};
-ghost use Rattle.lexicon_resolution.specs.Places.{terms_behind};
+ghost use Rattle.lexicon_resolution.specs.Symbols.{terms_behind};
 ghost use Rattle.lexicon_resolution.specs.Plain.{form_of, lexicon_of};
 ghost use Rattle.project_meaning.specs.Leaves.{expressions_in, expressions_of};
 ghost use Rattle.project_meaning.specs.Trees.{lexc};

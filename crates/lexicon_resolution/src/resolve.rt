@@ -1,34 +1,11 @@
 ghost use Rattle.std.specs.Prelude.{◌≡◌, IfOk, map};
 ghost use Rattle.lexicon_resolution.specs.Numbered.{entry_in, form_in, lexicon_in, piece_in};
-ghost use Rattle.lexicon_resolution.specs.Plain.{entry_of, flag_of, form_of, lexicon_of, lines_of, piece_of};
+ghost use Rattle.lexicon_resolution.specs.Plain.{entry_of, form_of, lexicon_of, lines_of, piece_of};
 
-use fsm_base::{SymbolTable, Text};
+use fsm_base::SymbolTable;
 use name_resolution::{Names, letter_of, resolve};
-use regex_ast::{Atom, Entry, FlagOp, Form, Lexicon, Piece, Raw};
+use regex_ast::{Atom, Entry, Form, Lexicon, Piece, Raw};
 use std::alloc::{AllocError, Global};
-
-/// A copy of a text, where there is one.
-fn same_text(text: &Option<Text>) -> Result<Option<Text>, AllocError>
-    ensures { IfOk result (λ found. found ≡ text.now) }
-{
-    match text {
-        Some(text) => Ok(Some(text.clone()?)),
-        None => Ok(None),
-    }
-}
-
-/// A copy of a flag.
-fn same_flag(flag: &FlagOp) -> Result<FlagOp, AllocError>
-    ensures { IfOk result (λ found. flag_of found ≡ flag_of flag.now) }
-{
-    let feature = flag.feature.clone()?;
-    let value = same_text(&flag.value)?;
-    Ok(FlagOp {
-        kind: flag.kind,
-        feature,
-        value,
-    })
-}
 
 /// A piece with its letter resolved.
 fn resolve_piece(
@@ -40,7 +17,7 @@ fn resolve_piece(
 {
     match piece {
         Piece::Symbol(leaf) => Ok(Piece::Symbol(letter_of(names, table, leaf))),
-        Piece::Flag(flag) => Ok(Piece::Flag(same_flag(flag)?)),
+        Piece::Flag(flag) => Ok(Piece::Flag(flag.clone()?)),
     }
 }
 
@@ -90,7 +67,7 @@ fn resolve_entry(
     ensures line { IfOk result (λ found. found.line ≡ entry.now.line) }
 {
     let form = resolve_form(alloc, names, table, &entry.form)?;
-    let next = same_text(&entry.next)?;
+    let next = entry.next.clone()?;
     Ok(Entry {
         line: entry.line,
         form,

@@ -2,7 +2,6 @@ ghost use Rattle.std.specs.Prelude.{◌≡◌, [], IfOk, IsTrue, MatchOption, On
 ghost use Rattle.flag_diacritics.specs.Numbers.{Keeps};
 ghost use Rattle.flag_diacritics.specs.Tapes.{flag_of};
 
-use fsm_base::Text;
 use indexmap::IndexMap;
 use regex_ast::{FlagKind, FlagOp};
 use std::alloc::{AllocError, Global};
@@ -58,7 +57,7 @@ impl Flags {
         let Ok(number) = u32::try_from(self.list.len()) else {
             return Err(AllocError);
         };
-        self.list.push(copy_of(flag)?)?;
+        self.list.push(flag.clone()?)?;
         self.numbers.insert(text, number)?;
         Ok(number)
     }
@@ -104,19 +103,4 @@ fn kind_text(kind: FlagKind) -> &'static str {
         FlagKind::D => "D.",
         FlagKind::U => "U.",
     }
-}
-
-/// A copy of a flag.
-fn copy_of(flag: &FlagOp) -> Result<FlagOp, AllocError>
-    ensures { IfOk result (λ copy. flag_of copy ≡ flag_of flag.now) }
-{
-    let value = match &flag.value {
-        Some(value) => Some(value.clone()?),
-        None => None,
-    };
-    Ok(FlagOp {
-        kind: flag.kind,
-        feature: flag.feature.clone()?,
-        value,
-    })
 }

@@ -5,7 +5,7 @@ ghost use Rattle.expr_leaves.specs.Leaves.{seen};
 ghost use Rattle.name_order.specs.Graph.{graph_of};
 ghost use Rattle.name_order.specs.Orders.{HasNoCycle, IsOrder};
 ghost use Rattle.project_files.specs.Refusals.{IsRefusedBy};
-ghost use Rattle.lexicon_resolution.specs.Places.{terms_behind};
+ghost use Rattle.lexicon_resolution.specs.Symbols.{terms_behind};
 ghost use Rattle.project_definitions.specs.Plain.{body_of};
 ghost use Rattle.project_definitions.specs.Referring.{CycleFault, body_places, place_in, places_in, references_of};
 

@@ -9,7 +9,7 @@ ghost use Rattle.project_sources.specs.Limits.{most_symbols};
 ghost use Rattle.project_model.specs.Answers.{written_of};
 ghost use Rattle.project_meaning.specs.Trees.{sides};
 ghost use Rattle.project_model.specs.Gathered.{gathered, symbols_of_all};
-ghost use Rattle.lexicon_resolution.specs.Places.{symbol_beside, symbols_at, symbols_in_piece};
+ghost use Rattle.lexicon_resolution.specs.Symbols.{symbol_beside, symbols_at, symbols_in_piece};
 ghost use Rattle.project_definitions.specs.Plain.{body_of};
 
 use crate::written::WrittenDefine;

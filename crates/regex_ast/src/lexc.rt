@@ -1,5 +1,8 @@
+ghost use Rattle.std.specs.Prelude.{◌≡◌};
+
 use crate::expr::Expr;
 use fsm_base::Text;
+use std::alloc::AllocError;
 
 /// A lexicon of a lexc file, with the lexicons that its entries go on in (Beesley and Karttunen, Finite
 /// State Morphology, 2003, chapter 4). The declared multicharacter symbols are a first lexicon with the
@@ -58,6 +61,19 @@ pub struct FlagOp {
     pub feature: Text,
     /// The value, where it has one.
     pub value: Option<Text>,
+}
+
+/// A clone shares the texts.
+impl Clone for FlagOp {
+    ghost is_clone = { λ source flag. flag ≡ source };
+
+    fn clone(&self) -> Result<FlagOp, AllocError> {
+        Ok(FlagOp {
+            kind: self.kind,
+            feature: self.feature.clone()?,
+            value: self.value.clone()?,
+        })
+    }
 }
 
 /// What a flag diacritic does.

@@ -4,7 +4,7 @@ ghost use Rattle.regex_ast.specs.Terms.{term};
 ghost use Rattle.expr_leaves.specs.Alphabet.{uses_alphabet};
 ghost use Rattle.expr_leaves.specs.Leaves.{seen};
 ghost use Rattle.expr_equality.specs.Renumbered.{renumbered};
-ghost use Rattle.lexicon_resolution.specs.Places.{terms_behind};
+ghost use Rattle.lexicon_resolution.specs.Symbols.{terms_behind};
 ghost use Rattle.project_definitions.specs.Bodies.{mapped_body};
 ghost use Rattle.project_definitions.specs.Plain.{body_of};
 ghost use Rattle.project_definitions.specs.Referring.{body_places, place_in, places_in};

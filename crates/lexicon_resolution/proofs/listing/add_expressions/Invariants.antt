@@ -1,6 +1,6 @@
 use Rattle.std.proofs.Common.{◌≡◌, ◌++◌, drop, map}
 use Rattle.std.specs.List.{flat_map}
-use Rattle.lexicon_resolution.specs.Places.{terms_behind}
+use Rattle.lexicon_resolution.specs.Symbols.{terms_behind}
 use Rattle.lexicon_resolution.specs.Plain.{form_of}
 use Rattle.project_meaning.specs.Leaves.{expressions_in}
 use Rattle.lexicon_resolution.proofs.listing.add_expressions.Given as goal

@@ -2,7 +2,7 @@ use Rattle.std.proofs.Common.{◌++◌, ◌+◌, ◌∙◌, ap, arith, drop, map
 use Rattle.std.specs.List.{flat_map}
 use Rattle.word_relations.proofs.Behind.{left_behind}
 use Rattle.expr_leaves.proofs.Behind.{go_on}
-use Rattle.lexicon_resolution.specs.Places.{terms_behind}
+use Rattle.lexicon_resolution.specs.Symbols.{terms_behind}
 use Rattle.lexicon_resolution.specs.Plain.{form_of, lexicon_of}
 use Rattle.project_meaning.specs.Leaves.{expressions_in, expressions_of}
 use Rattle.project_meaning.specs.Trees.{lexc}

@@ -1,5 +1,5 @@
 use Rattle.std.proofs.Common.{◌≡◌, ◌++◌, drop, map}
-use Rattle.lexicon_resolution.specs.Places.{terms_behind}
+use Rattle.lexicon_resolution.specs.Symbols.{terms_behind}
 use Rattle.lexicon_resolution.specs.Plain.{lexicon_of}
 use Rattle.project_meaning.specs.Leaves.{expressions_of}
 use Rattle.project_meaning.specs.Trees.{lexc}

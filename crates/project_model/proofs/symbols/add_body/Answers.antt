@@ -9,7 +9,7 @@ use Rattle.project_meaning.specs.Leaves.{forms_in, resolved, symbol_in, symbol_o
 use Rattle.project_definitions.specs.Plain.{body_of}
 use Rattle.project_definitions.specs.declared.definition.Body.{Body}
 use Rattle.project_model.specs.Gathered.{gathered}
-use Rattle.lexicon_resolution.specs.Places.{symbols_at}
+use Rattle.lexicon_resolution.specs.Symbols.{symbols_at}
 use Rattle.project_model.proofs.symbols.add_body.Goals as goal
 
 pub returns-in-Lexc : goal.returns-in-Lexc

@@ -3,7 +3,7 @@ use Rattle.std.specs.List.{flat_map}
 use Rattle.lexicon_resolution.specs.Plain.{lexicon_of}
 use Rattle.project_meaning.specs.Leaves.{forms_in}
 use Rattle.project_model.specs.Gathered.{gathered}
-use Rattle.lexicon_resolution.specs.Places.{symbols_at}
+use Rattle.lexicon_resolution.specs.Symbols.{symbols_at}
 use Rattle.project_sources.specs.Limits.{most_symbols}
 use Rattle.project_model.proofs.symbols.add_lexicons.Given as goal
 

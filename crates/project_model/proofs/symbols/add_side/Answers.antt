@@ -2,7 +2,7 @@ use Rattle.std.proofs.Common.{◌+◌, ap, arith, drop, map}
 use Rattle.std.specs.List.{flat_map}
 use Rattle.word_relations.proofs.Behind.{left_behind}
 use Rattle.lexicon_resolution.specs.Plain.{piece_of}
-use Rattle.lexicon_resolution.specs.Places.{symbols_in_piece}
+use Rattle.lexicon_resolution.specs.Symbols.{symbols_in_piece}
 use Rattle.project_model.proofs.Gathering.{gather_more, still_short}
 use Rattle.project_model.proofs.symbols.add_side.Goals as goal
 

@@ -1,6 +1,6 @@
 use Rattle.std.proofs.Common.{◌↔◌, IfOk, IsTrue, length, map, sym, ap, subst, ◌∙◌}
 use Rattle.std.specs.List.{flat_map}
-use Rattle.lexicon_resolution.specs.Places.{terms_behind}
+use Rattle.lexicon_resolution.specs.Symbols.{terms_behind}
 use Rattle.lexicon_resolution.specs.Plain.{lexicon_of}
 use Rattle.project_meaning.specs.Leaves.{expressions_of}
 use Rattle.project_meaning.specs.Trees.{lexc}
