@@ -17,7 +17,8 @@ use std::marker::Model;
 /// The automaton of lexicons, to which entries are given one by one. It has a state for each lexicon, one for each front of
 /// the words that are entries of a lexicon, however many of its words begin so, and the states of each other entry's network.
 /// So it takes time in proportion to the entries, and has fewer states where words begin alike. Contracts see it as the number
-/// of lexicons, the automaton so far and the steps of its words; `IsGiven` says of which entries it is.
+/// of lexicons, the automaton so far and the steps of its words; `IsGiven` says of which entries it is. After an error of a
+/// call nothing more may be given to it: what it is then isn't said.
 #[derive(Debug, Drop)]
 pub struct LexiconBuilder {
     /// How many lexicons there are.

@@ -4,7 +4,7 @@ ghost use Rattle.fsa.specs.Language.{Accepts};
 
 use flag_diacritics::Tape;
 use fsa::Fsa;
-use fsa_reduce::reduced;
+use fsa_reduce::{ends_merged, reduced};
 use fsa_subset::determine_within;
 use fsm_base::Pair;
 use std::alloc::{AllocError, Global};
@@ -19,17 +19,19 @@ const STEPS: usize = 65_536;
 /// How many edges more than twice as many a straightened transducer may have.
 const EDGES_MORE: usize = 1_024;
 
-/// A smaller automaton of the same tapes, its flags being letters as the others are: common beginnings of entries become one
-/// path, as far as that takes few steps, and so do common ends. Resolved flags multiply states, so they are made few before.
-/// The automaton is given back as soon as it isn't needed, since it is the largest thing of all.
+/// A smaller automaton of the same tapes, its flags being letters as the others are: common ends of entries become one path, then common
+/// beginnings, as far as that takes few steps, and what goes on alike behind that. Resolved flags multiply states, so they are made few
+/// before. The automaton is given back as soon as it isn't needed, since it is the largest thing of all.
 pub fn small(alloc: Global, tapes: Fsa<Tape>) -> Result<Fsa<Tape>, AllocError>
     ensures letters { IfOk result (λ m. (x : Tape) → UsesLetter m x → UsesLetter tapes x) }
     ensures language { IfOk result (λ m. (tape : List Tape) → Accepts m tape ↔ Accepts tapes tape) }
 {
-    let Some(straight) = determine_within(alloc, &tapes, steps_for(tapes.edges().len()))? else {
-        return reduced(alloc, &tapes);
-    };
+    let merged = ends_merged(alloc, &tapes)?;
     drop(tapes);
+    let Some(straight) = determine_within(alloc, &merged, steps_for(merged.edges().len()))? else {
+        return reduced(alloc, &merged);
+    };
+    drop(merged);
     let small = reduced(alloc, &straight)?;
     Ok(small)
 }
