@@ -1,3 +1,4 @@
 pub mod Lexicons
+mod Bytes
 mod Numbering
 mod Symbols

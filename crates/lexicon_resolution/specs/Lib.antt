@@ -1,3 +1,4 @@
+pub mod Bytes
 pub mod Numbered
 pub mod Plain
 pub mod Symbols

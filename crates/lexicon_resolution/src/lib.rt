@@ -9,6 +9,7 @@
 
 mod laws;
 mod listing;
+mod numbers;
 mod resolve;
 
 pub use laws::{are_resolved_by_number, symbols_are_of_forms};

@@ -1,9 +1,11 @@
 ghost use Rattle.std.specs.Prelude.{◌≡◌, IfOk, map};
+ghost use Rattle.lexicon_resolution.specs.Bytes.{AreOfBytes};
 ghost use Rattle.lexicon_resolution.specs.Numbered.{entry_in, form_in, lexicon_in, piece_in};
 ghost use Rattle.lexicon_resolution.specs.Plain.{entry_of, form_of, lexicon_of, lines_of, piece_of};
 
-use fsm_base::SymbolTable;
-use name_resolution::{Names, letter_of, resolve};
+use crate::numbers::{letter_in, symbols_of_bytes};
+use fsm_base::{Sym, SymbolTable};
+use name_resolution::{Names, resolve};
 use regex_ast::{Atom, Entry, Form, Lexicon, Piece, Raw};
 use std::alloc::{AllocError, Global};
 
@@ -11,12 +13,14 @@ use std::alloc::{AllocError, Global};
 fn resolve_piece(
     names: &Names,
     table: &SymbolTable,
+    of_bytes: &[Option<Sym>],
     piece: &Piece<Raw>,
 ) -> Result<Piece<Atom>, AllocError>
+    requires { AreOfBytes table.now of_bytes.now }
     ensures { IfOk result (λ found. piece_of found ≡ piece_in names.now table.now (piece_of piece.now)) }
 {
     match piece {
-        Piece::Symbol(leaf) => Ok(Piece::Symbol(letter_of(names, table, leaf))),
+        Piece::Symbol(leaf) => Ok(Piece::Symbol(letter_in(names, table, of_bytes, leaf))),
         Piece::Flag(flag) => Ok(Piece::Flag(flag.clone()?)),
     }
 }
@@ -26,13 +30,15 @@ fn resolve_side(
     alloc: Global,
     names: &Names,
     table: &SymbolTable,
+    of_bytes: &[Option<Sym>],
     side: &[Piece<Raw>],
 ) -> Result<Vec<Piece<Atom>>, AllocError>
+    requires { AreOfBytes table.now of_bytes.now }
     ensures { IfOk result (λ found. map piece_of found.items ≡ map (piece_in names.now table.now) (map piece_of side.now)) }
 {
     let mut found = Vec::with_capacity(alloc, side.len())?;
     'side: for piece in side {
-        found.push(resolve_piece(names, table, piece)?)?;
+        found.push(resolve_piece(names, table, of_bytes, piece)?)?;
     }
     Ok(found)
 }
@@ -42,14 +48,16 @@ fn resolve_form(
     alloc: Global,
     names: &Names,
     table: &SymbolTable,
+    of_bytes: &[Option<Sym>],
     form: &Form<Raw>,
 ) -> Result<Form<Atom>, AllocError>
+    requires { AreOfBytes table.now of_bytes.now }
     ensures { IfOk result (λ found. form_of found ≡ form_in names.now table.now (form_of form.now)) }
 {
     match form {
         Form::Sides { upper, lower } => {
-            let upper = resolve_side(alloc, names, table, upper)?;
-            let lower = resolve_side(alloc, names, table, lower)?;
+            let upper = resolve_side(alloc, names, table, of_bytes, upper)?;
+            let lower = resolve_side(alloc, names, table, of_bytes, lower)?;
             Ok(Form::Sides { upper, lower })
         }
         Form::Pairs(expr) => Ok(Form::Pairs(resolve(alloc, names, table, expr)?)),
@@ -61,12 +69,14 @@ fn resolve_entry(
     alloc: Global,
     names: &Names,
     table: &SymbolTable,
+    of_bytes: &[Option<Sym>],
     entry: &Entry<Raw>,
 ) -> Result<Entry<Atom>, AllocError>
+    requires { AreOfBytes table.now of_bytes.now }
     ensures entry { IfOk result (λ found. entry_of found ≡ entry_in names.now table.now (entry_of entry.now)) }
     ensures line { IfOk result (λ found. found.line ≡ entry.now.line) }
 {
-    let form = resolve_form(alloc, names, table, &entry.form)?;
+    let form = resolve_form(alloc, names, table, of_bytes, &entry.form)?;
     let next = entry.next.clone()?;
     Ok(Entry {
         line: entry.line,
@@ -80,14 +90,16 @@ fn resolve_entries(
     alloc: Global,
     names: &Names,
     table: &SymbolTable,
+    of_bytes: &[Option<Sym>],
     entries: Vec<Entry<Raw>>,
 ) -> Result<Vec<Entry<Atom>>, AllocError>
+    requires { AreOfBytes table.now of_bytes.now }
     ensures entries { IfOk result (λ found. map entry_of found.items ≡ map (entry_in names.now table.now) (map entry_of entries.items)) }
     ensures lines { IfOk result (λ found. map (λ e. e.line) found.items ≡ map (λ e. e.line) entries.items) }
 {
     let mut found = Vec::with_capacity(alloc, entries.len())?;
     'entries: for entry in entries {
-        found.push(resolve_entry(alloc, names, table, &entry)?)?;
+        found.push(resolve_entry(alloc, names, table, of_bytes, &entry)?)?;
     }
     Ok(found)
 }
@@ -97,8 +109,10 @@ fn resolve_lexicon(
     alloc: Global,
     names: &Names,
     table: &SymbolTable,
+    of_bytes: &[Option<Sym>],
     lexicon: Lexicon<Raw>,
 ) -> Result<Lexicon<Atom>, AllocError>
+    requires { AreOfBytes table.now of_bytes.now }
     ensures lexicon { IfOk result (λ found. lexicon_of found ≡ lexicon_in names.now table.now (lexicon_of lexicon)) }
     ensures lines { IfOk result (λ found. lines_of found ≡ lines_of lexicon) }
 {
@@ -107,7 +121,7 @@ fn resolve_lexicon(
         line,
         entries,
     } = lexicon;
-    let entries = resolve_entries(alloc, names, table, entries)?;
+    let entries = resolve_entries(alloc, names, table, of_bytes, entries)?;
     Ok(Lexicon {
         name,
         line,
@@ -127,9 +141,10 @@ pub fn resolve_lexicons(
     ensures lexicons { IfOk result (λ found. map lexicon_of found.items ≡ map (lexicon_in names.now table.now) (map lexicon_of lexicons.items)) }
     ensures lines { IfOk result (λ found. map lines_of found.items ≡ map lines_of lexicons.items) }
 {
+    let of_bytes = symbols_of_bytes(alloc, table)?;
     let mut found = Vec::new(alloc);
     'lexicons: for lexicon in lexicons {
-        found.push(resolve_lexicon(alloc, names, table, lexicon)?)?;
+        found.push(resolve_lexicon(alloc, names, table, &of_bytes, lexicon)?)?;
     }
     Ok(found)
 }

@@ -3,6 +3,7 @@ pub mod Gathering
 pub mod Alphabets
 pub mod Leaves
 mod Adding
+mod Known
 mod Views
 mod Sound
 mod Requiring

@@ -1,6 +1,7 @@
 pub mod Answers
 pub mod Files
 pub mod Gathered
+pub mod Known
 pub mod Numbered
 pub mod Plans
 pub mod Sound

@@ -9,6 +9,7 @@
 
 mod content;
 mod files;
+mod gathered;
 mod names;
 mod plan;
 mod read;

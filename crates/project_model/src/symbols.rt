@@ -12,6 +12,7 @@ ghost use Rattle.project_model.specs.Gathered.{gathered, symbols_of_all};
 ghost use Rattle.lexicon_resolution.specs.Symbols.{symbol_beside, symbols_at, symbols_in_piece};
 ghost use Rattle.project_definitions.specs.Plain.{body_of};
 
+use crate::gathered::GatheredSymbols;
 use crate::written::WrittenDefine;
 use expr_leaves::leaves;
 use fsm_base::SymbolTable;
@@ -24,7 +25,7 @@ use regex_ast::{Entry, Expr, Form, Lexicon, Piece, Raw};
 use std::alloc::{AllocError, Global};
 
 /// Puts the symbol of a leaf into a table, where it's new and the table has room for it.
-fn add_symbol(leaf: &Raw, names: &Names, table: &mut SymbolTable) -> Result<(), AllocError>
+fn add_symbol(leaf: &Raw, names: &Names, table: &mut GatheredSymbols) -> Result<(), AllocError>
     requires { length table.old ≤ most_symbols + 1 }
     ensures { OnOk result (table.new ≡ gathered table.old (symbol_beside names.now leaf.now)) }
 {
@@ -35,7 +36,11 @@ fn add_symbol(leaf: &Raw, names: &Names, table: &mut SymbolTable) -> Result<(), 
 }
 
 /// Puts the symbols of leaves into a table, each where it's new and the table has room for it.
-fn add_symbols(leaves: &[&Raw], names: &Names, table: &mut SymbolTable) -> Result<(), AllocError>
+fn add_symbols(
+    leaves: &[&Raw],
+    names: &Names,
+    table: &mut GatheredSymbols,
+) -> Result<(), AllocError>
     requires { length table.old ≤ most_symbols + 1 }
     ensures { OnOk result (table.new ≡ gathered table.old (flat_map (symbol_beside names.now) (seen leaves.now))) }
 {
@@ -50,7 +55,7 @@ fn add_expression(
     alloc: Global,
     expr: &Expr<Raw>,
     names: &Names,
-    table: &mut SymbolTable,
+    table: &mut GatheredSymbols,
 ) -> Result<(), AllocError>
     requires { length table.old ≤ most_symbols + 1 }
     ensures { OnOk result (table.new ≡ gathered table.old (listed symbol_in (mapped (leaf_of names.now) (term expr.now)))) }
@@ -60,7 +65,7 @@ fn add_expression(
 }
 
 /// Puts a text into a table, where it isn't empty, it's new and the table has room for it.
-fn add_letter(text: &str, table: &mut SymbolTable) -> Result<(), AllocError>
+fn add_letter(text: &str, table: &mut GatheredSymbols) -> Result<(), AllocError>
     requires { length table.old ≤ most_symbols + 1 }
     ensures { OnOk result (table.new ≡ gathered table.old (symbol_in (symbol text.now))) }
 {
@@ -71,7 +76,7 @@ fn add_letter(text: &str, table: &mut SymbolTable) -> Result<(), AllocError>
 }
 
 /// Puts the symbol of a piece into a table, if it is one, where it's new and the table has room for it.
-fn add_piece(piece: &Piece<Raw>, table: &mut SymbolTable) -> Result<(), AllocError>
+fn add_piece(piece: &Piece<Raw>, table: &mut GatheredSymbols) -> Result<(), AllocError>
     requires { length table.old ≤ most_symbols + 1 }
     ensures { OnOk result (table.new ≡ gathered table.old (symbols_in_piece (piece_of piece.now))) }
 {
@@ -82,7 +87,7 @@ fn add_piece(piece: &Piece<Raw>, table: &mut SymbolTable) -> Result<(), AllocErr
 }
 
 /// Puts the symbols of a side into a table, each where it's new and the table has room for it.
-fn add_side(side: &[Piece<Raw>], table: &mut SymbolTable) -> Result<(), AllocError>
+fn add_side(side: &[Piece<Raw>], table: &mut GatheredSymbols) -> Result<(), AllocError>
     requires { length table.old ≤ most_symbols + 1 }
     ensures { OnOk result (table.new ≡ gathered table.old (flat_map symbols_in_piece (map piece_of side.now))) }
 {
@@ -97,7 +102,7 @@ fn add_sides(
     upper: &[Piece<Raw>],
     lower: &[Piece<Raw>],
     names: &Names,
-    table: &mut SymbolTable,
+    table: &mut GatheredSymbols,
 ) -> Result<(), AllocError>
     requires { length table.old ≤ most_symbols + 1 }
     ensures { OnOk result (table.new ≡ gathered table.old (symbols_at names.now (sides (map piece_of upper.now) (map piece_of lower.now)))) }
@@ -111,7 +116,7 @@ fn add_form(
     alloc: Global,
     form: &Form<Raw>,
     names: &Names,
-    table: &mut SymbolTable,
+    table: &mut GatheredSymbols,
 ) -> Result<(), AllocError>
     requires { length table.old ≤ most_symbols + 1 }
     ensures { OnOk result (table.new ≡ gathered table.old (symbols_at names.now (form_of form.now))) }
@@ -127,7 +132,7 @@ fn add_entries(
     alloc: Global,
     entries: &[Entry<Raw>],
     names: &Names,
-    table: &mut SymbolTable,
+    table: &mut GatheredSymbols,
 ) -> Result<(), AllocError>
     requires { length table.old ≤ most_symbols + 1 }
     ensures { OnOk result (table.new ≡ gathered table.old (flat_map (symbols_at names.now) (map (λ e. form_of e.form) entries.now))) }
@@ -143,7 +148,7 @@ fn add_lexicons(
     alloc: Global,
     lexicons: &[Lexicon<Raw>],
     names: &Names,
-    table: &mut SymbolTable,
+    table: &mut GatheredSymbols,
 ) -> Result<(), AllocError>
     requires { length table.old ≤ most_symbols + 1 }
     ensures { OnOk result (table.new ≡ gathered table.old (flat_map (symbols_at names.now) (forms_in (map lexicon_of lexicons.now)))) }
@@ -155,7 +160,7 @@ fn add_lexicons(
 }
 
 /// Puts the texts of leaves that are no names into a table, each where it isn't empty, it's new and the table has room for it.
-fn add_letters(leaves: &[&Raw], table: &mut SymbolTable) -> Result<(), AllocError>
+fn add_letters(leaves: &[&Raw], table: &mut GatheredSymbols) -> Result<(), AllocError>
     requires { length table.old ≤ most_symbols + 1 }
     ensures { OnOk result (table.new ≡ gathered table.old (flat_map (λ leaf. symbol_in (symbol_of leaf)) (seen leaves.now))) }
 {
@@ -170,7 +175,7 @@ fn add_body(
     alloc: Global,
     body: &Body<Raw>,
     names: &Names,
-    table: &mut SymbolTable,
+    table: &mut GatheredSymbols,
 ) -> Result<(), AllocError>
     requires { length table.old ≤ most_symbols + 1 }
     ensures { OnOk result (table.new ≡ gathered table.old (symbols_in (resolved names.now (body_of body.now)))) }
@@ -197,9 +202,9 @@ pub fn symbols_of(
 ) -> Result<SymbolTable, AllocError>
     ensures { IfOk result (λ table. table ≡ gathered [] (symbols_of_all names.now (map written_of written.now))) }
 {
-    let mut table = SymbolTable::new(alloc);
+    let mut table = GatheredSymbols::new(alloc)?;
     'written: for one in written {
         add_body(alloc, &one.body, names, &mut table)?;
     }
-    Ok(table)
+    Ok(table.into_table())
 }
