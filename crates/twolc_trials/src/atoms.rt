@@ -50,22 +50,42 @@ fn said_of_part(alloc: Global, part: Option<&PairPart<Raw>>) -> Result<String, A
     }
 }
 
+/// What an atom is as a part of an expression.
+fn said_as_part(alloc: Global, names: &KnownNames, atom: &str) -> Result<String, AllocError> {
+    let part = part_in(alloc, names, atom)?;
+    said_of_part(alloc, part.as_ref())
+}
+
+/// What an atom is in the alphabet.
+fn said_as_pair(alloc: Global, atom: &str) -> Result<String, AllocError> {
+    let pair = symbols_in(alloc, atom)?;
+    said_of_pair(alloc, pair.as_ref())
+}
+
+/// What an atom is as the centre of a rule.
+fn said_as_centre(alloc: Global, names: &KnownNames, atom: &str) -> Result<String, AllocError> {
+    let centre = centre_in(alloc, names, atom)?;
+    said_of_pair(alloc, centre.as_ref())
+}
+
+/// What an atom is in the list of a set.
+fn said_as_member(alloc: Global, atom: &str) -> Result<String, AllocError> {
+    let symbol = one_symbol_in(alloc, atom)?;
+    String::from_str(alloc, symbol.as_ref().map_or("none", text_of))
+}
+
 /// What an atom is: as a part of an expression, in the alphabet, as the centre of a rule, and in the list of a set.
 pub fn said_of_atom(alloc: Global, atom: &str) -> Result<String, AllocError> {
     let names = names(alloc)?;
-    let part = part_in(alloc, &names, atom)?;
-    let pair = symbols_in(alloc, atom)?;
-    let centre = centre_in(alloc, &names, atom)?;
-    let symbol = one_symbol_in(alloc, atom)?;
-    let said_part = said_of_part(alloc, part.as_ref())?;
-    let said_pair = said_of_pair(alloc, pair.as_ref())?;
-    let said_centre = said_of_pair(alloc, centre.as_ref())?;
-    let said_symbol = symbol.as_ref().map_or("none", text_of);
+    let part = said_as_part(alloc, &names, atom)?;
+    let pair = said_as_pair(alloc, atom)?;
+    let centre = said_as_centre(alloc, &names, atom)?;
+    let member = said_as_member(alloc, atom)?;
     format!(in alloc;
         "part {}, alphabet {}, centre {}, set {}",
-        said_part.as_str(),
-        said_pair.as_str(),
-        said_centre.as_str(),
-        said_symbol
+        part.as_str(),
+        pair.as_str(),
+        centre.as_str(),
+        member.as_str()
     )
 }
