@@ -1,8 +1,8 @@
 #!/usr/bin/env python3
 """Compiles lexc lexicons and looks words up in them, beside foma and hfst-lexc where these are installed, on the same source in one run: 20,000
 and 100,000 entries of stems with two endings, and 16,700 entries whose nouns form compounds of at most three parts and take the endings that flags
-of 23 features ask for. Prints the processor seconds and the peak memory of compiling with their ratio to ours, and what a word takes beside
-`flookup`, which obeys flags.
+of 23 features ask for. Prints the processor seconds and the peak memory of compiling, of the shortest of some runs, with their ratio to ours, and
+what a word takes beside `flookup`, which obeys flags.
 
 usage: bench/lexicons.py [PROGRAM]
 """
@@ -16,6 +16,8 @@ from lexicon import of_a_word
 from measure import has_foma, program, spent
 
 SECONDS = 300
+# so many runs of us and of foma, in turns, of which the least is told: most take some hundredths of a second
+RUNS = 7
 WORDS = 4_000
 SEED = 11
 SYLLABLES = [consonant + vowel for consonant in 'bdfgklmnpr' for vowel in 'aeiou']
@@ -70,6 +72,12 @@ def told(name, seconds, memory, ours=None):
     return line if ours is None else line + '   %.2f of its time, %.2f of its memory' % (ours[0] / max(seconds, 0.005), ours[1] / max(memory, 1))
 
 
+def least(*commands):
+    """The processor seconds and the peak memory of each command with its input: those of its shortest run, where all take turns."""
+    turns = [[spent(command, given, SECONDS) for command, given in commands] for _ in range(RUNS)]
+    return [min(runs) for runs in zip(*turns)]
+
+
 def main():
     morph, foma = program(sys.argv[1:]), has_foma()
     sources = [('20,000 entries', *plain(20_000)), ('100,000 entries', *plain(100_000)), ('16,700 with flags', *flagged(16_700))]
@@ -83,12 +91,13 @@ def main():
             # a third of the words isn't there, since they are read from their ends
             words = [word(dice)[::1 if number % 3 else -1] for number in range(WORDS)]
             print(name)
-            ours = spent([morph, 'up', folder, 'Lex'], b'', SECONDS)
+            network = os.path.join(folder, 'n.foma')
+            script = 'read lexc %s\nsave stack %s\n' % (path, network)
+            commands = [([morph, 'up', folder, 'Lex'], b''), (['foma', '-p'], script.encode())]
+            ours, *others = least(*commands[:1 + foma])
             print(told('morph', *ours), flush=True)
-            if foma:
-                network = os.path.join(folder, 'n.foma')
-                script = 'read lexc %s\nsave stack %s\n' % (path, network)
-                print(told('foma', *spent(['foma', '-p'], script.encode(), SECONDS), ours), flush=True)
+            for other in others:
+                print(told('foma', *other, ours), flush=True)
             if shutil.which('hfst-lexc'):
                 print(told('hfst-lexc', *spent(['hfst-lexc', path, '-o', os.path.join(folder, 'n.hfst')], b'', SECONDS), ours), flush=True)
             print('%28s %s' % ('morph', of_a_word([morph, 'up', folder, 'Lex'], folder, words)), flush=True)
