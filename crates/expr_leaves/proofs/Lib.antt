@@ -1,3 +1,6 @@
 pub mod Behind
 mod LeafLists
 mod Sets
+mod Replaced
+pub mod Rowed
+mod MappedSets

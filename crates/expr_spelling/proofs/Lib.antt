@@ -8,3 +8,8 @@ pub mod Carrying
 pub mod Spelling
 pub mod Leaves
 pub mod Alphabets
+mod LexiconSides
+mod Paths
+pub mod LexiconSpelling
+mod Resolved
+pub mod LexiconAlphabets

@@ -9,7 +9,7 @@ use Rattle.fsa.specs.Automaton.{Automaton, UsesLetter}
 use Rattle.fsa.specs.Language.{Accepts, AcceptsFrom, stop}
 use Rattle.fsa.specs.declared.automaton.Edge.{Edge}
 use Rattle.fsa_rational.proofs.Walks.{AcceptsFrom-least, AcceptsFrom-step}
-use Rattle.fst_relation.specs.Relation.{IsRelated, uppers, lowers}
+use Rattle.fst_algebra.specs.Relation.{IsRelated, uppers, lowers}
 use Rattle.regex_ast.specs.declared.lexc.FlagOp.{FlagOp}
 use Rattle.flag_diacritics.specs.declared.tape.Tape.{Tape}
 use Rattle.flag_diacritics.specs.declared.tape.Tape.TheVariants.{Pair as OfPair, UpFlag, LowFlag}

@@ -3,7 +3,7 @@ ghost use Rattle.word_relations.specs.Relations.{AreSame};
 ghost use Rattle.fsm_base.specs.declared.letters.Pair.{Pair};
 ghost use Rattle.fsa.specs.Automaton.{UsesLetter};
 ghost use Rattle.fsa.specs.Language.{Accepts};
-ghost use Rattle.fst_relation.specs.Relation.{IsRelated};
+ghost use Rattle.fst_algebra.specs.Relation.{IsRelated};
 ghost use Rattle.flag_diacritics.specs.Tapes.{HasPairs, TapesRelate, UsesPair};
 
 use crate::actions::actions_of;
@@ -11,7 +11,7 @@ use crate::idle::idle_features;
 use crate::search::explore;
 use crate::tape::Tape;
 use fsa::Fsa;
-use fsa_trim::trim;
+use fsa_reduce::trim;
 use fsm_base::Pair;
 use regex_ast::FlagOp;
 use std::alloc::{AllocError, Global};

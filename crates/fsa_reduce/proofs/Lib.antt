@@ -8,3 +8,5 @@ pub mod SameEdges
 pub mod Cut
 pub mod Ordering
 pub mod Owned
+pub mod Gaining
+pub mod Trims

@@ -5,9 +5,9 @@ use Rattle.fsm_io.specs.Folders.{Told, IsTold}
 use Rattle.generated_report.specs.Reports.{IsReport}
 use Rattle.interlinear.specs.Glosses.{Entry}
 use Rattle.interlinear.specs.Replies.{GlossesLine}
-use Rattle.lane_threads.specs.Lanes.{IsServed, LaneView}
-use Rattle.live_session.specs.Endings.{worse, worst}
-use Rattle.live_session.specs.Live.{AreServed, HasCauses, IsLive}
+use Rattle.lane_session.specs.Lanes.{IsServed, LaneView}
+use Rattle.editor_session.specs.Endings.{worse, worst}
+use Rattle.editor_session.specs.Live.{AreServed, HasCauses, IsLive}
 use Rattle.lookup_answers.specs.declared.direction.Direction.{Direction}
 use Rattle.project_meaning.specs.Projects.{Project}
 use Rattle.project_sources.specs.Edits.{Version}

@@ -8,7 +8,7 @@ use Rattle.std.proofs.lemmas.Bool.Decides.{Decides-and}
 use Rattle.std.proofs.lemmas.Fmt.{decimal-digits_value, decimal_is_IsNumeral, first_decimal, parse-decimal}
 use Rattle.std.proofs.lemmas.Slice.Eq.{bytes_eq-Decides}
 use Rattle.std.proofs.lemmas.Str.Parse.{IsNumeralModel, numerals_by_value, parse_plain, tells_digits}
-use Rattle.generated_project.specs.Generated.{most_stems}
+use Rattle.generated_report.specs.Generated.{most_stems}
 use Rattle.fsm_program.specs.Ends.{is_made, stems_of}
 
 -- a project is made of so many stems

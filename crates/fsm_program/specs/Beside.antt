@@ -2,9 +2,9 @@
 use Rattle.std.specs.Prelude.{◌≡◌, ◌⊎◌, ℕ, List, ◌∷◌, Option, Some, Ok, slice_get}
 use Rattle.fsm_io.specs.Causes.{Rose}
 use Rattle.fsm_io.specs.Folders.{Told}
-use Rattle.lane_threads.specs.Lanes.{LaneView}
-use Rattle.live_session.specs.Endings.{worst}
-use Rattle.live_session.specs.Live.{HasCauses, IsLive}
+use Rattle.lane_session.specs.Lanes.{LaneView}
+use Rattle.editor_session.specs.Endings.{worst}
+use Rattle.editor_session.specs.Live.{HasCauses, IsLive}
 use Rattle.project_sources.specs.Edits.{Version}
 use Rattle.project_store.specs.Projects.{Reads}
 use Rattle.project_versions.specs.Versions.{VersionView}

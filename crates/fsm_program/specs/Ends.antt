@@ -9,7 +9,7 @@ use Rattle.reply_meaning.specs.declared.ending.Ending.{Ending}
 use Rattle.reply_meaning.specs.declared.ending.Ending.TheVariants.{Finished, WriteFailed, ReadFailed, Spent}
 use Rattle.fsm_base.specs.Normal.{nfc_of}
 use Rattle.project_meaning.specs.Projects.{Project}
-use Rattle.generated_project.specs.Generated.{most_stems}
+use Rattle.generated_report.specs.Generated.{most_stems}
 use Rattle.generated_report.specs.Reports.{IsReport}
 use Rattle.interlinear.specs.Glosses.{Entry}
 use Rattle.lookup_answers.specs.declared.direction.Direction.{Direction}

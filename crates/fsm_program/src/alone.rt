@@ -3,7 +3,7 @@ ghost use Rattle.std.specs.String.{string_bytes};
 ghost use Rattle.fsm_io.specs.Causes.{Rose};
 ghost use Rattle.fsm_io.specs.Folders.{IsTold, Told};
 ghost use Rattle.fsm_io.specs.Reading.{at_start};
-ghost use Rattle.generated_project.specs.Generated.{most_stems};
+ghost use Rattle.generated_report.specs.Generated.{most_stems};
 ghost use Rattle.generated_report.specs.Reports.{IsReport};
 ghost use Rattle.interlinear.specs.Glosses.{Entry};
 ghost use Rattle.interlinear.specs.Replies.{GlossesLine};

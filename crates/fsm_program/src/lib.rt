@@ -17,6 +17,6 @@ mod session;
 mod words;
 
 pub use alone::run_alone;
-pub use live_session::Lane;
+pub use editor_session::Lane;
 pub use program::run;
 pub use words::{Command, WordsError, read_words};

@@ -14,8 +14,8 @@ ghost use Rattle.word_relations.specs.Words.{IsDistinct};
 
 use fsm_base::Text;
 use fsm_io::{Folder, FolderError, Found, rose};
-use project_files::{PlanError, Sources};
 use project_model::{Manifest, manifest_of};
+use project_sources::{PlanError, Sources};
 use project_store::{Ready, StoreError, project_of};
 use project_versions::Version;
 use regex_ast::Fault;

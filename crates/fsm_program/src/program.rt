@@ -5,8 +5,8 @@ ghost use Rattle.fsm_io.specs.Folders.{IsTold, Told};
 ghost use Rattle.generated_report.specs.Reports.{IsReport};
 ghost use Rattle.interlinear.specs.Glosses.{Entry};
 ghost use Rattle.interlinear.specs.Replies.{GlossesLine};
-ghost use Rattle.live_session.specs.Endings.{worst};
-ghost use Rattle.live_session.specs.Live.{HasCauses, IsLive};
+ghost use Rattle.editor_session.specs.Endings.{worst};
+ghost use Rattle.editor_session.specs.Live.{HasCauses, IsLive};
 ghost use Rattle.lookup_answers.specs.declared.direction.Direction.{Direction};
 ghost use Rattle.project_meaning.specs.Projects.{Project as Meant};
 ghost use Rattle.project_sources.specs.Edits.{Version as MeantVersion};
@@ -29,8 +29,8 @@ use crate::alone::{MOST_READ, MOST_TAKEN, run_alone};
 use crate::load::load_version;
 use crate::saying::{not_loaded, status};
 use crate::words::is_serve;
+use editor_session::Lane;
 use fsm_io::{Folder, Sink, Source};
-use live_session::Lane;
 use project_versions::Version;
 use std::alloc::Global;
 use std::sync::Wait;
@@ -61,7 +61,7 @@ fn served<
     ensures none { result ≡ 5 → (input.new ≡ input.old) × (output.new ≡ output.old) × (lanes.new ≡ lanes.old) }
     ensures count { length lanes.new ≡ length lanes.old }
 {
-    match live_session::serve(rt, alloc, MOST_TAKEN, version, input, output, lanes) {
+    match editor_session::serve(rt, alloc, MOST_TAKEN, version, input, output, lanes) {
         Ok(ending) => status(ending),
         Err(_) => 5,
     }

@@ -6,7 +6,7 @@ ghost use Rattle.fsm_program.specs.Ends.{IsWhyUnread, asked_by, asked_of, for_lo
 
 use crate::look_up::Task;
 use fsm_base::{Text, nfc};
-use generated_project::MOST_STEMS;
+use generated_report::MOST_STEMS;
 use lookup_answers::Direction;
 use std::alloc::{AllocError, Global};
 use thiserror::Error;

@@ -1,3 +1,5 @@
 pub mod SubstitutedWords
 pub mod Relabelled
 pub mod Sides
+pub mod Languages
+pub mod Used

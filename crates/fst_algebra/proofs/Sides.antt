@@ -8,8 +8,8 @@ use Rattle.word_relations.specs.Relations.{AreSame, IsIdentity, IsCross, IsInver
 use Rattle.word_relations.specs.Words.{IsConcatenation}
 use Rattle.fsa.specs.Automaton.{Automaton, UsesLetter}
 use Rattle.fsa.specs.Language.{Accepts}
-use Rattle.fst_relation.specs.Relation.{uppers, lowers, IsRelated}
-use Rattle.fst_relation.proofs.Languages.{uppers-append, lowers-append}
+use Rattle.fst_algebra.specs.Relation.{uppers, lowers, IsRelated}
+use Rattle.fst_algebra.proofs.Languages.{uppers-append, lowers-append}
 use Rattle.fst_algebra.specs.Relations.{UsesUpper, UsesLower}
 use Rattle.fst_algebra.proofs.Relabelled.{relabelled, IsRelabelled}
 

@@ -3,7 +3,7 @@ ghost use Rattle.word_relations.specs.Relations.{AreSame, IsIdentity, IsCross, I
 ghost use Rattle.fsm_base.specs.declared.letters.Sym.{Sym};
 ghost use Rattle.fsa.specs.Automaton.{UsesLetter};
 ghost use Rattle.fsa.specs.Language.{Accepts};
-ghost use Rattle.fst_relation.specs.Relation.{IsRelated};
+ghost use Rattle.fst_algebra.specs.Relation.{IsRelated};
 ghost use Rattle.fst_algebra.specs.Relations.{UsesUpper, UsesLower};
 ghost use Rattle.fst_algebra.specs.Substituted.{letter_or_epsilon};
 ghost use Rattle.fst_algebra.specs.declared.substitution.Image.TheVariants.{Letter};

@@ -9,7 +9,7 @@ use Rattle.std.proofs.lemmas.List.Elements.{All-weaker}
 use Rattle.std.proofs.lemmas.Bool.Decides.{nat_tests}
 use Rattle.std.proofs.lemmas.Str.{IsAscii-append, IsUtf8-from_ascii}
 use Rattle.std.proofs.lemmas.Str.Ascii.{IsAscii-cons, IsAscii-from_all, IsAscii-nil}
-use Rattle.generated_project.specs.Generated.{behind, by_turn, ends_in_o, most_stems, plural, stem, syllable, text, word, words}
+use Rattle.generated_report.specs.Generated.{behind, by_turn, ends_in_o, most_stems, plural, stem, syllable, text, word, words}
 
 -- a list whose bytes pass the test is of ASCII
 abbrev is_low : ℕ → Bool

@@ -7,7 +7,7 @@ use Rattle.fsa.specs.Automaton.{Automaton}
 use Rattle.fsa.specs.Language.{AcceptsFrom, read, skip, stop}
 use Rattle.fsm_base.specs.declared.letters.Pair.{Pair}
 use Rattle.fsm_base.specs.declared.letters.Sym.{Sym}
-use Rattle.fst_relation.specs.Relation.{IsRelated}
+use Rattle.fst_algebra.specs.Relation.{IsRelated}
 use Rattle.lookup.specs.Answering.{IsOverAlphabet}
 use Rattle.lookup_answers.specs.declared.direction.Direction.TheVariants.{Up}
 use Rattle.network_algebra.specs.Networks.{IsNetwork, PairsOf}

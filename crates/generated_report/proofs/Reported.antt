@@ -3,7 +3,7 @@ use Rattle.std.proofs.Common.{◌≡◌, ℕ, List, Result, Ok, Err, IfErr, sym,
 use Rattle.std.specs.Prelude.{codes}
 use Rattle.std.specs.Result.{IsErrAnd}
 use Rattle.fsm_io.specs.Folders.{Files}
-use Rattle.generated_project.specs.Generated.{generated, text}
+use Rattle.generated_report.specs.Generated.{generated, text}
 use Rattle.project_sources.specs.Faults.{rows}
 use Rattle.project_sources.specs.Laws.{all_readers}
 use Rattle.project_sources.specs.Sources.{Said, project_in}

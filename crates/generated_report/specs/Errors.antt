@@ -1,6 +1,6 @@
 -- Why there is no report.
 use Rattle.std.specs.Prelude.{ℕ, Err}
-use Rattle.generated_project.specs.Generated.{generated}
+use Rattle.generated_report.specs.Generated.{generated}
 use Rattle.project_store.specs.Projects.{Reads}
 use Rattle.project_store.specs.declared.store_error.StoreError.{StoreError}
 use Rattle.project_store.specs.declared.store_error.StoreError.TheVariants.{Refused, Memory}

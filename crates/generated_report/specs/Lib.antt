@@ -3,3 +3,4 @@ pub mod Errors
 pub mod Reports
 pub mod Told
 pub mod Words
+pub mod Generated

@@ -1,7 +1,7 @@
 -- The report of a generated project: the counts of the project that its files are, and of the words of its text, a line each. The
 -- text is of ASCII, so it is in Normalization Form C.
 use Rattle.std.specs.Prelude.{◌≡◌, ◌++◌, ◌∷◌, [], ℕ, List, Ok, codes, decimal}
-use Rattle.generated_project.specs.Generated.{generated, text}
+use Rattle.generated_report.specs.Generated.{generated, text}
 use Rattle.interlinear.specs.Glosses.{Entry}
 use Rattle.project_meaning.specs.Projects.{Project}
 use Rattle.project_store.specs.Projects.{HasTable, Reads}

@@ -1,6 +1,6 @@
 ghost use Rattle.std.specs.Prelude.{◌≡◌, ◌≤◌, ◌<◌, ◌-◌, ◌^◌, codes, length, IfErr, IfOk};
 ghost use Rattle.std.specs.Str.{IsUtf8};
-ghost use Rattle.generated_project.specs.Generated.{most_stems};
+ghost use Rattle.generated_report.specs.Generated.{most_stems};
 ghost use Rattle.project_sources.specs.Sources.{Said, project_in};
 ghost use Rattle.project_store.specs.Loaded.{IsLoadedFrom};
 ghost use Rattle.generated_report.specs.Counts.{AreCounts};
@@ -10,9 +10,10 @@ ghost use Rattle.generated_report.specs.Words.{words_in};
 
 use crate::counts::Counts;
 use crate::networks::net_of;
+use crate::project::made_project;
+use crate::text::made_text;
 use crate::told::told_of_words;
 use crate::words::words_in;
-use generated_project::{made_project, made_text};
 use project_store::{Ready, StoreError, project_of};
 use std::alloc::{AllocError, Global};
 use std::str;
@@ -49,7 +50,7 @@ fn counts_of(alloc: Global, ready: Ready, text: &str) -> Result<Counts, AllocErr
     Ok(Counts::of(project.plan().definitions().len(), &told))
 }
 
-/// The report of the project of so many stems, from 1 to [`generated_project::MOST_STEMS`], and of its text: six lines, each a key, a space and a
+/// The report of the project of so many stems, from 1 to [`crate::project::MOST_STEMS`], and of its text: six lines, each a key, a space and a
 /// number. They are `names`, how many networks the project has; `words`, how many words the text has; `one`, `many` and `none`, of
 /// how many of these one string is found in `Net`, or more, or none; and `columns`, how many columns their analyses take. Each
 /// word is looked up once.

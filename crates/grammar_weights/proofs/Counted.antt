@@ -16,7 +16,7 @@ use Rattle.regex_ast.specs.declared.expr.Atom.TheVariants.{Sym, Name}
 use Rattle.grammar_pairs.proofs.Growing.{HasMore, inserted, more_twice, nothing_more, one_more}
 use Rattle.word_relations.proofs.Members.{Contains-nil_cases}
 use Rattle.project_meaning.specs.Trees.{Grammar, Pair}
-use Rattle.grammar_resolution.specs.Leaves.{pairs_below}
+use Rattle.name_resolution.specs.Leaves.{pairs_below}
 use Rattle.grammar_weights.specs.Counting.{all_added, is_one, kept}
 use Rattle.grammar_weights.specs.Weights.{Letter, count_once, feasible, is_same_letter, is_same_side, is_same_symbol, written_pair}
 use Rattle.grammar_weights.specs.contracts.counting.WrittenPartialEq.TheImpl as written_eq

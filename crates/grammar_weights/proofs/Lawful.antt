@@ -12,7 +12,7 @@ use Rattle.project_meaning.specs.Grammars.{count_once as count_texts, feasible a
 use Rattle.project_meaning.specs.Leaves.{Leaf}
 use Rattle.project_meaning.specs.Trees.{Part, pair, called, PairDefinition, Rule, Grammar, Set}
 use Rattle.grammar_pairs.specs.Mapped.{mapped_definition, mapped_grammar, mapped_pair, mapped_part, mapped_rule}
-use Rattle.grammar_resolution.specs.Leaves.{leaves_in_pair, pairs_below}
+use Rattle.name_resolution.specs.Leaves.{leaves_in_pair, pairs_below}
 use Rattle.grammar_weights.specs.Laws.{AlikeWeighs, MappedWeighs, MeantWeighs}
 use Rattle.grammar_weights.specs.Weights.{Letter, count_once, feasible, part_weight, rule_weight, written_pair, written_part}
 use Rattle.grammar_weights.proofs.Letters.{All-back, All-front, LetterHas, count_alike, count_meant, count_pulled, letter_by, pairs_have, text_letter, written_mapped, written_meant}

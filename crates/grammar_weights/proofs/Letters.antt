@@ -10,7 +10,7 @@ use Rattle.project_meaning.specs.Leaves.{Leaf}
 use Rattle.project_meaning.specs.Lexicons.{text_in}
 use Rattle.project_meaning.specs.Trees.{Side, nothing, anything, one, member, Pair}
 use Rattle.grammar_pairs.specs.Mapped.{mapped_pair, mapped_side}
-use Rattle.grammar_resolution.specs.Leaves.{leaves_in_pair, leaves_in_side}
+use Rattle.name_resolution.specs.Leaves.{leaves_in_pair, leaves_in_side}
 use Rattle.grammar_weights.specs.Weights.{Letter, count_once, is_same_letter, is_same_side, written_pair}
 
 counted_alike : (a b : Bool) (n m : ℕ) → a ≡ b → n ≡ m → cond a n (n + 1) ≡ cond b m (m + 1)

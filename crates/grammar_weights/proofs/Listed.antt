@@ -5,7 +5,7 @@ use Rattle.std.proofs.lemmas.List.{map-append}
 use Rattle.std.specs.List.{flat_map}
 use Rattle.expr_leaves.specs.Leaves.{leaf_alone, listed, listed_contexts}
 use Rattle.expr_leaves.specs.Mapped.{mapped, mapped_contexts}
-use Rattle.grammar_resolution.specs.Leaves.{pairs_below, pairs_in_definition, pairs_in_part, pairs_in_rule}
+use Rattle.name_resolution.specs.Leaves.{pairs_below, pairs_in_definition, pairs_in_part, pairs_in_rule}
 use Rattle.grammar_weights.specs.Weights.{Letter, feasible, written_pair, written_part}
 use Rattle.name_resolution.proofs.Listed.{contexts_is, listed_is}
 use Rattle.name_resolution.proofs.Mapped.{contexts_listed, mapped_listed}

@@ -6,7 +6,7 @@ use Rattle.project_meaning.specs.Leaves.{Leaf}
 use Rattle.project_meaning.specs.Lexicons.{text_in}
 use Rattle.project_meaning.specs.Trees.{Grammar}
 use Rattle.grammar_pairs.specs.Mapped.{mapped_grammar}
-use Rattle.grammar_resolution.specs.Leaves.{leaves_in}
+use Rattle.name_resolution.specs.Leaves.{leaves_in}
 use Rattle.grammar_weights.specs.Weights.{grammar_weight}
 
 -- leaves that are replaced count as the same where what they are replaced by is

@@ -2,12 +2,12 @@ ghost use Rattle.std.specs.Prelude.{◌≡◌, IfOk, OnOk, map};
 ghost use Rattle.std.specs.Option.{option_to_list};
 ghost use Rattle.std.specs.List.{flat_map};
 ghost use Rattle.grammar_pairs.specs.Plain.{grammar_of, pair_of, side_of};
-ghost use Rattle.grammar_resolution.specs.Leaves.{pairs_behind};
+ghost use Rattle.name_resolution.specs.Leaves.{pairs_behind};
 ghost use Rattle.grammar_weights.specs.Counting.{all_added, kept};
 ghost use Rattle.grammar_weights.specs.Weights.{count_once, feasible, is_same_symbol, named_side, written_pair};
 
-use grammar_resolution::pairs_below;
 use indexmap::IndexSet;
+use name_resolution::pairs_below;
 use regex_ast::{Atom, Grammar, PairAtom, PairSide};
 use std::alloc::{AllocError, Global};
 

@@ -8,7 +8,7 @@ ghost use Rattle.grammar_weights.specs.Weighed.{IsWeighed, leaf_at, stands_for};
 ghost use Rattle.grammar_weights.specs.Weights.{part_weight};
 
 use expr_kinds::{Form, form_of};
-use expr_mapping::{LeafMap, map_leaves};
+use expr_leaves::{LeafMap, map_leaves};
 use fsm_base::Sym;
 use grammar_pairs::NameTable;
 use regex_ast::{Atom, Expr, PairDefine, PairPart};

@@ -1,2 +1,3 @@
 mod Sent
 pub mod Runs
+pub mod Serving

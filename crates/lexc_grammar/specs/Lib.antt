@@ -2,3 +2,4 @@ pub mod Limits
 pub mod Lexicons
 pub mod Entries
 pub mod Files
+pub mod Laws

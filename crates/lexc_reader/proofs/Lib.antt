@@ -4,3 +4,5 @@ pub mod Features
 pub mod Closings
 pub mod Reading
 pub mod Sound
+pub mod Saying
+pub mod Gathered

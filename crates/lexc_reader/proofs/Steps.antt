@@ -30,9 +30,9 @@ use Rattle.lexc_grammar.specs.declared.statements.Keyword.{Keyword}
 use Rattle.lexc_grammar.specs.declared.statements.Keyword.TheVariants as keyword
 use Rattle.lexc_grammar.specs.declared.statements.Stage.{Stage}
 use Rattle.lexc_grammar.specs.declared.statements.Stage.TheVariants.{Beginning, InSymbols, InLexicon}
-use Rattle.lexc_entries.specs.Answers.{IsEntryRead, MayBeEntry}
-use Rattle.lexc_entries.specs.Gathering.{AreEntryTokens}
-use Rattle.lexc_entries.specs.declared.gathering.EntryTokens.{EntryTokens}
+use Rattle.lexc_reader.specs.EntryAnswers.{IsEntryRead, MayBeEntry}
+use Rattle.lexc_reader.specs.Gathering.{AreEntryTokens}
+use Rattle.lexc_reader.specs.declared.gathering.EntryTokens.{EntryTokens}
 use Rattle.lexc_reader.specs.Answers.{IsFound, IsStatementRead, IsStep, lines_of}
 use Rattle.lexc_reader.proofs.Newlines.{newlines_encoded, newlines_front, other_first}
 

@@ -10,9 +10,11 @@ ghost use Rattle.regex_ast.specs.declared.fault.ReadError.TheVariants as errors;
 ghost use Rattle.regex_ast.specs.declared.fault.Why.TheVariants as whys;
 ghost use Rattle.lexc_reader.specs.Answers.{IsFound, IsKeywordOf, IsStatementRead, known_of, lines_of};
 
+use crate::entries::read_entry;
+use crate::gathering::entry_tokens;
 use crate::state::State;
+use crate::words::{is_name, keyword};
 use flag_texts::read_flag;
-use lexc_entries::{entry_tokens, is_name, keyword, read_entry};
 use lexc_forms::{characters, text_of};
 use lexc_grammar::{Keyword, Stage};
 use lexc_tokens::{Found, Next, Token, scan};

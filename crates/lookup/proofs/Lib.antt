@@ -3,3 +3,16 @@ pub mod Stepping
 pub mod Exploring
 pub mod Paths
 pub mod Rounds
+pub mod GraphPaths
+pub mod Growing
+pub mod KeptPaths
+pub mod Turning
+pub mod Finite
+pub mod Fronts
+pub mod Least
+pub mod OrderOfBytes
+pub mod ListingSteps
+pub mod Spelled
+pub mod Whole
+pub mod Moves
+pub mod Trails

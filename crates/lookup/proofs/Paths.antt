@@ -11,11 +11,11 @@ use Rattle.word_relations.proofs.Places.{same_at}
 use Rattle.fsa.specs.declared.automaton.Edge.{Edge}
 use Rattle.fsa.specs.Automaton.{Automaton}
 use Rattle.fsa.specs.Language.{AcceptsFrom, stop, read, skip}
-use Rattle.lookup_graph.specs.Graph.{Connects, IsPath, IsWithin, Writes, end, letters_of, start}
+use Rattle.lookup.specs.Graph.{Connects, IsPath, IsWithin, Writes, end, letters_of, start}
 use Rattle.lookup.specs.declared.explored.Config.{Config}
 use Rattle.lookup_walk.specs.declared.moves.Move.{Move}
 use Rattle.lookup_answers.specs.declared.direction.Direction.{Direction}
-use Rattle.fst_relation.specs.Relation.{symbols_on}
+use Rattle.fst_algebra.specs.Relation.{symbols_on}
 use Rattle.lookup_walk.specs.Moves.{AreMoves, IsRelatedBy, IsWritten, move_of, read_on, written_on}
 use Rattle.lookup_walk.proofs.Runs.{related_by}
 use Rattle.lookup.specs.Reached.{Reached, IsNode, IsExplored}

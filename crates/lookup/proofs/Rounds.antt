@@ -13,10 +13,10 @@ use Rattle.word_relations.proofs.Laws.{joined-append}
 use Rattle.word_relations.proofs.Members.{Contains-map, Contains-map_cases}
 use Rattle.word_relations.specs.Answers.{Answers, Found, IsLoop, Texts, times}
 use Rattle.fsa.specs.declared.automaton.Edge.{Edge}
-use Rattle.lookup_graph.specs.Graph.{Connects, IsPath, Writes, letters_of}
-use Rattle.lookup_graph.specs.Turns.{IsTurn, rounds}
-use Rattle.lookup_graph.proofs.Turning.{goes_round}
-use Rattle.lookup_texts.specs.GraphTexts.{AreOf, GraphTexts}
+use Rattle.lookup.specs.Graph.{Connects, IsPath, Writes, letters_of}
+use Rattle.lookup.specs.Turns.{IsTurn, rounds}
+use Rattle.lookup.proofs.Turning.{goes_round}
+use Rattle.lookup.specs.GraphTexts.{AreOf, GraphTexts}
 use Rattle.lookup_answers.proofs.AnswerKinds.{Answers-same}
 
 -- the text of a word

@@ -2,3 +2,10 @@ pub use Rattle.lookup_walk.specs.Answering
 pub mod OneKind
 pub mod Steps
 pub mod Reached
+pub mod Graph
+pub mod Tree
+pub mod Turns
+pub mod GraphTexts
+pub mod Listings
+pub mod Spelling
+pub mod Walks

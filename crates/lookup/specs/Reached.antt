@@ -4,7 +4,7 @@
 use Rattle.std.specs.Prelude.{◌≡◌, ◌<◌, ◌+◌, ◌++◌, ◌⊎◌, ℕ, List, Option, None, Some, Contains, slice_get}
 use Rattle.fsa.specs.declared.automaton.Edge.{Edge}
 use Rattle.fsm_base.specs.declared.letters.Sym.{Sym}
-use Rattle.lookup_graph.specs.Graph.{end}
+use Rattle.lookup.specs.Graph.{end}
 use Rattle.lookup.specs.declared.explored.Config.{Config}
 
 pub record Reached : Type 0 where

@@ -2,10 +2,10 @@ ghost use Rattle.std.specs.Prelude.{◌≡◌, ◌<◌, ◌^◌, ◌++◌, ◌�
 ghost use Rattle.lookup.specs.declared.explored.Config.{Config};
 ghost use Rattle.lookup.specs.Reached.{AddsSteps, IsNode};
 
+use crate::END;
 use fsa::Edge;
 use fsm_base::Sym;
 use indexmap::IndexSet;
-use lookup_graph::END;
 use std::alloc::{AllocError, Global};
 use std::marker::Model;
 

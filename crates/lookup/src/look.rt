@@ -2,18 +2,19 @@ ghost use Rattle.std.specs.Prelude.{◌≡◌, ◌<◌, IfOk};
 ghost use Rattle.word_relations.specs.Words.{IsOver, joined};
 ghost use Rattle.fsm_base.specs.Alphabet.{spelled, symbols_of};
 ghost use Rattle.word_relations.specs.Answers.{Answers, IsLoop, loop};
-ghost use Rattle.lookup_graph.specs.Graph.{IsWithin};
-ghost use Rattle.lookup_graph.specs.Turns.{IsTurn};
-ghost use Rattle.lookup_texts.specs.GraphTexts.{AreOf, GraphTexts};
+ghost use Rattle.lookup.specs.Graph.{IsWithin};
+ghost use Rattle.lookup.specs.Turns.{IsTurn};
+ghost use Rattle.lookup.specs.GraphTexts.{AreOf, GraphTexts};
 ghost use Rattle.lookup_answers.specs.Answers.{found_of};
 ghost use Rattle.lookup_walk.specs.Answering.{IsOverAlphabet, LowerTexts, TextsBy, UpperTexts};
 
+use crate::kept::useful;
 use crate::part::part_of;
+use crate::texts::texts_of;
+use crate::turns::{Turn, find_turn};
 use fsa::Edge;
 use fsm_base::{Alphabet, Sym};
 use lookup_answers::{Answer, Direction};
-use lookup_graph::{Turn, find_turn, useful};
-use lookup_texts::texts_of;
 use lookup_walk::{Net, walked};
 use std::alloc::{AllocError, Global};
 

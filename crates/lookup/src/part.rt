@@ -1,7 +1,7 @@
 ghost use Rattle.std.specs.Prelude.{◌≡◌, ◌<◌, ◌↔◌, List, Some, true, Contains, IfOk, OnOk, IsTrue, length, slice_get};
 ghost use Rattle.fsm_base.specs.declared.letters.Sym.{Sym};
 ghost use Rattle.fsa.specs.declared.automaton.Edge.{Edge};
-ghost use Rattle.lookup_graph.specs.Graph.{IsWithin, Writes};
+ghost use Rattle.lookup.specs.Graph.{IsWithin, Writes};
 ghost use Rattle.lookup_walk.specs.Moves.{IsRelatedBy, IsWritten};
 ghost use Rattle.lookup.specs.Steps.{Ends, Follows, Steps};
 ghost use Rattle.lookup.specs.Reached.{AddsSteps, IsExplored};

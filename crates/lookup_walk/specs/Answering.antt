@@ -6,7 +6,7 @@ use Rattle.fsm_base.specs.declared.letters.Sym.{Sym}
 use Rattle.fsm_base.specs.declared.letters.Pair.{Pair}
 use Rattle.word_relations.specs.Answers.{Texts}
 use Rattle.fsa.specs.Automaton.{Automaton, UsesLetter}
-use Rattle.fst_relation.specs.Relation.{IsRelated}
+use Rattle.fst_algebra.specs.Relation.{IsRelated}
 use Rattle.lookup_walk.specs.Moves.{IsRelatedBy}
 use Rattle.lookup_answers.specs.declared.direction.Direction.{Direction}
 

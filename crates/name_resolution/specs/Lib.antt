@@ -1,3 +1,11 @@
 pub mod Names
 pub mod Numbered
 pub mod Resolved
+pub mod Bytes
+pub mod NumberedLexicons
+pub mod Plain
+pub mod Symbols
+pub mod Lines
+pub mod Parts
+pub mod Leaves
+pub mod NumberedGrammars

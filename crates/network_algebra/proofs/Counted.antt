@@ -10,8 +10,8 @@ use Rattle.word_relations.specs.Relations.{AreSame, IsRepetitionOfPairs}
 use Rattle.word_relations.proofs.Laws.{joined-append}
 use Rattle.fsa.specs.Automaton.{Automaton}
 use Rattle.fsa.specs.Language.{Accepts}
-use Rattle.fst_relation.specs.Relation.{uppers, lowers}
-use Rattle.fst_relation.proofs.Languages.{uppers-append, lowers-append, RelatedIn}
+use Rattle.fst_algebra.specs.Relation.{uppers, lowers}
+use Rattle.fst_algebra.proofs.Languages.{uppers-append, lowers-append, RelatedIn}
 use Rattle.expr_meaning.specs.Operators.{IsRepetitionOf, AnyNumber, OneOrMore, Just}
 use Rattle.network_algebra.specs.Networks.{AtMost}
 

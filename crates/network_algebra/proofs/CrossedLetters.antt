@@ -9,7 +9,7 @@ use Rattle.word_relations.specs.Relations.{AreSame, IsCross}
 use Rattle.word_relations.proofs.Members.{Contains-nil_cases, Contains-cons_cases, Contains-head, Contains-tail, Contains-map, Contains-map_cases}
 use Rattle.fsa.specs.Automaton.{Automaton, UsesLetter}
 use Rattle.fsa.specs.Language.{Accepts}
-use Rattle.fst_relation.specs.Relation.{IsRelated, uppers, lowers}
+use Rattle.fst_algebra.specs.Relation.{IsRelated, uppers, lowers}
 use Rattle.fst_algebra.specs.Relations.{UsesLower, UsesUpper}
 use Rattle.word_relations.specs.Operations.{IsOneLetter}
 use Rattle.lang_algebra.proofs.OneLetter.{ReadsOne, one_letter_language}

@@ -13,8 +13,8 @@ use Rattle.word_relations.proofs.Members.{Contains-nil_cases, Contains-cons_case
 use Rattle.word_relations.proofs.Pairs.{concatenation_same, same_trans}
 use Rattle.fsa.specs.Automaton.{Automaton, UsesLetter}
 use Rattle.fsa.specs.Language.{Accepts}
-use Rattle.fst_relation.specs.Relation.{symbols_on, IsRelated}
-use Rattle.fst_relation.proofs.Languages.{symbols_on-append, RelatedIn, related_same, related_union, related_concatenation}
+use Rattle.fst_algebra.specs.Relation.{symbols_on, IsRelated}
+use Rattle.fst_algebra.proofs.Languages.{symbols_on-append, RelatedIn, related_same, related_union, related_concatenation}
 use Rattle.fst_algebra.specs.Relations.{UsesUpper, UsesLower}
 use Rattle.expr_kinds.specs.Kinds.{both}
 use Rattle.expr_kinds.specs.declared.form.Kind.{Kind}

@@ -5,7 +5,7 @@ use Rattle.fsm_base.specs.declared.letters.Sym.{Sym}
 use Rattle.word_relations.specs.Relations.{AreSame}
 use Rattle.fsa.specs.Automaton.{Automaton, UsesLetter}
 use Rattle.fsa.specs.Language.{Accepts}
-use Rattle.fst_relation.specs.Relation.{IsRelated}
+use Rattle.fst_algebra.specs.Relation.{IsRelated}
 use Rattle.fst_algebra.specs.Relations.{UsesLower, UsesUpper}
 
 pub letters_used : {L : Type 0} (m a : Automaton L) (P : L → Type 0) → ((x : L) → UsesLetter m x → UsesLetter a x) → ((x : L) → UsesLetter a x → P x) → (x : L) → UsesLetter m x → P x

@@ -8,7 +8,7 @@ use Rattle.fsm_base.specs.declared.letters.Bound.TheVariants.{Edge}
 use Rattle.word_relations.specs.Relations.{AreSame}
 use Rattle.fsa.specs.Automaton.{Automaton, UsesLetter}
 use Rattle.fsa.specs.Language.{Accepts}
-use Rattle.fst_relation.specs.Relation.{IsRelated}
+use Rattle.fst_algebra.specs.Relation.{IsRelated}
 use Rattle.fst_algebra.specs.Relations.{UsesUpper, UsesLower}
 use Rattle.expr_kinds.specs.Kinds.{both}
 use Rattle.expr_kinds.specs.declared.form.Kind.{Kind}

@@ -4,7 +4,7 @@ ghost use Rattle.word_relations.specs.Relations.{AreSame, IsCross};
 ghost use Rattle.fsa.specs.Automaton.{UsesLetter};
 ghost use Rattle.fsa.specs.Language.{Accepts};
 ghost use Rattle.word_relations.specs.Operations.{IsOneLetter};
-ghost use Rattle.fst_relation.specs.Relation.{IsRelated};
+ghost use Rattle.fst_algebra.specs.Relation.{IsRelated};
 ghost use Rattle.fst_algebra.specs.Relations.{UsesLower, UsesUpper};
 ghost use Rattle.network_algebra.specs.Crossing.{crossed, crossed_pairs, only_step};
 

@@ -1,7 +1,7 @@
 ghost use Rattle.std.specs.Prelude.{◌≡◌, IfOk, List};
 ghost use Rattle.fsm_base.specs.declared.letters.Sym.{Sym};
 ghost use Rattle.word_relations.specs.Relations.{AreSame};
-ghost use Rattle.fst_relation.specs.Relation.{IsRelated};
+ghost use Rattle.fst_algebra.specs.Relation.{IsRelated};
 ghost use Rattle.expr_kinds.specs.declared.form.Kind.{Kind};
 ghost use Rattle.network_algebra.specs.Networks.{IsNetwork, UsesSymbols, PairsOf, kind_of_network};
 ghost use Rattle.network_algebra.specs.declared.network.Network.TheVariants.{Words};

@@ -3,7 +3,7 @@ ghost use Rattle.fsm_base.specs.declared.letters.Sym.{Sym};
 ghost use Rattle.word_relations.specs.Relations.{AreSame, IsCross, IsLower, IsUpper};
 ghost use Rattle.fsa.specs.Automaton.{UsesLetter};
 ghost use Rattle.fsa.specs.Language.{Accepts};
-ghost use Rattle.fst_relation.specs.Relation.{IsRelated};
+ghost use Rattle.fst_algebra.specs.Relation.{IsRelated};
 ghost use Rattle.fst_algebra.specs.Relations.{UsesLower, UsesUpper};
 
 use crate::crossing::{crossed_letters, has_few_pairs, letters_alone};

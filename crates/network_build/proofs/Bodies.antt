@@ -11,7 +11,7 @@ use Rattle.expr_kinds.specs.Built.{IsBuiltBy}
 use Rattle.expr_kinds.specs.Kinds.{Fits}
 use Rattle.expr_leaves.specs.Alphabet.{uses_alphabet}
 use Rattle.expr_leaves.specs.Leaves.{leaves_in}
-use Rattle.grammar_resolution.specs.Leaves.{leaves_in as leaves_in_grammar}
+use Rattle.name_resolution.specs.Leaves.{leaves_in as leaves_in_grammar}
 use Rattle.project_meaning.specs.Trees.{Piece, letter, flag, Form, sides, pairs, Entry, Lexicon, Body, xfst, lexc, twolc}
 use Rattle.project_meaning.specs.Leaves.{expressions_in, expressions_of, forms_in}
 use Rattle.project_meaning.specs.Lexicons.{letters_of}

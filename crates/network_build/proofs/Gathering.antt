@@ -13,7 +13,7 @@ use Rattle.regex_ast.specs.declared.lexc.Entry.{Entry as EntryOf}
 use Rattle.regex_ast.specs.declared.lexc.Lexicon.{Lexicon as LexiconOf}
 use Rattle.regex_ast.specs.declared.lexc.Piece.{Piece as PieceOf}
 use Rattle.expr_leaves.specs.Leaves.{seen}
-use Rattle.lexicon_resolution.specs.Plain.{entry_of, form_of, lexicon_of, piece_of}
+use Rattle.name_resolution.specs.Plain.{entry_of, form_of, lexicon_of, piece_of}
 use Rattle.project_meaning.specs.Leaves.{forms_in}
 use Rattle.project_meaning.specs.Lexicons.{letters_of}
 use Rattle.project_meaning.specs.Trees.{Entry, Form, Lexicon}

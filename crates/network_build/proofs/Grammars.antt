@@ -26,7 +26,7 @@ use Rattle.grammar_pairs.specs.Feasible.{named_side, of_atom, of_context, of_def
 use Rattle.grammar_pairs.specs.Laws.{HasLeaves, pair_passes, part_passes, side_passes}
 use Rattle.grammar_pairs.specs.Plain.{contexts_in, definition_of, grammar_of, pair_of, part_of, rule_of, symbol_in, term_of}
 use Rattle.grammar_pairs.specs.Texts.{IsPairOver}
-use Rattle.grammar_resolution.specs.Leaves.{leaves_in, leaves_in_pair, leaves_in_side, pairs_below, pairs_in_definition, pairs_in_part, pairs_in_rule}
+use Rattle.name_resolution.specs.Leaves.{leaves_in, leaves_in_pair, leaves_in_side, pairs_below, pairs_in_definition, pairs_in_part, pairs_in_rule}
 use Rattle.network_grammars.specs.Meaning.{IsOverSymbols}
 use Rattle.network_build.proofs.Built.{built_by, contexts_by, contexts_pass, leaves_pass}
 use Rattle.network_build.proofs.Lists.{all_flat, all_within}

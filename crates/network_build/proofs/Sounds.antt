@@ -21,7 +21,7 @@ use Rattle.expr_kinds.specs.declared.form.Kind.TheVariants.{Relation}
 use Rattle.expr_meaning.specs.Operators.{inner}
 use Rattle.expr_leaves.specs.Alphabet.{uses_alphabet}
 use Rattle.expr_spelling.proofs.Alphabets.{alphabet_free}
-use Rattle.lexicon_spelling.proofs.Alphabets.{lexicons_free}
+use Rattle.expr_spelling.proofs.LexiconAlphabets.{lexicons_free}
 use Rattle.grammar_pairs.specs.Laws.{HasLeaves}
 use Rattle.grammar_pairs.specs.Plain.{grammar_of}
 use Rattle.project_meaning.specs.Trees.{Lexicon, Body, xfst, lexc, twolc}
@@ -32,7 +32,7 @@ use Rattle.project_definitions.specs.Bodies.{BodyFitsBy, IsFormed}
 use Rattle.network_algebra.specs.Networks.{IsNetwork, PairsOf, UsesSymbols, all_letters, kind_of_network}
 use Rattle.network_algebra.specs.declared.network.Network.{Network}
 use Rattle.network_algebra.specs.declared.network.Network.TheVariants.{Words, Pairs}
-use Rattle.network_rules.specs.Rules.{IsFilled}
+use Rattle.network_expr.specs.Rules.{IsFilled}
 use Rattle.network_expr.specs.Built.{IsBuiltOver, IsMeant}
 use Rattle.network_expr.specs.Parts.{IsGround, is_leaf_of, kinds, stands}
 use Rattle.network_expr.specs.declared.parts.Part.{Part}

@@ -17,7 +17,7 @@ use Rattle.expr_leaves.specs.Leaves.{leaves_in}
 use Rattle.expr_spelling.specs.Laws.{IsSpelled}
 use Rattle.grammar_pairs.specs.Laws.{HasLeaves}
 use Rattle.grammar_pairs.specs.Texts.{in_texts}
-use Rattle.grammar_resolution.specs.Leaves.{leaves_in as leaves_in_grammar}
+use Rattle.name_resolution.specs.Leaves.{leaves_in as leaves_in_grammar}
 use Rattle.project_meaning.specs.Trees.{Form, sides, pairs, Grammar, Body, xfst, lexc, twolc}
 use Rattle.project_meaning.specs.Grammars.{GrammarRelates}
 use Rattle.project_meaning.specs.Leaves.{expressions_of, forms_in}

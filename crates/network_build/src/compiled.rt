@@ -1,7 +1,7 @@
 ghost use Rattle.std.specs.Prelude.{◌≡◌, ℕ, List, IfOk};
 ghost use Rattle.fsm_base.specs.Alphabet.{symbols_of};
 ghost use Rattle.fsm_base.specs.declared.letters.Sym.{Sym};
-ghost use Rattle.fst_relation.specs.Relation.{IsRelated};
+ghost use Rattle.fst_algebra.specs.Relation.{IsRelated};
 ghost use Rattle.lookup.specs.Answering.{IsOverAlphabet};
 ghost use Rattle.network_algebra.specs.Networks.{IsNetwork, PairsOf};
 ghost use Rattle.word_relations.specs.Relations.{AreSame};

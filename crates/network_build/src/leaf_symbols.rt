@@ -2,7 +2,7 @@ ghost use Rattle.std.specs.Prelude.{◌≡◌, ◌⊎◌, ◌↔◌, Contains, O
 ghost use Rattle.std.specs.List.{flat_map};
 ghost use Rattle.fsm_base.specs.declared.letters.Sym.{Sym as Symbol};
 ghost use Rattle.expr_leaves.specs.Leaves.{seen};
-ghost use Rattle.lexicon_resolution.specs.Plain.{form_of, lexicon_of, piece_of};
+ghost use Rattle.name_resolution.specs.Plain.{form_of, lexicon_of, piece_of};
 ghost use Rattle.project_meaning.specs.Leaves.{forms_in};
 ghost use Rattle.project_meaning.specs.Lexicons.{letters_of};
 ghost use Rattle.project_definitions.specs.Plain.{body_of};
@@ -11,7 +11,7 @@ ghost use Rattle.network_build.specs.Networks.{body_leaves, form_leaves};
 
 use crate::symbol_list::SymbolList;
 use expr_leaves::leaves;
-use grammar_resolution::grammar_leaves;
+use name_resolution::grammar_leaves;
 use project_definitions::Body;
 use regex_ast::{Atom, Entry, Form, Lexicon, Piece};
 use std::alloc::{AllocError, Global};

@@ -3,7 +3,7 @@ ghost use Rattle.project_meaning.specs.Leaves.{expressions_of};
 ghost use Rattle.network_centres.specs.Centres.{terms_seen};
 ghost use Rattle.project_definitions.specs.Plain.{body_of};
 
-use lexicon_resolution::expressions;
+use name_resolution::expressions;
 use project_definitions::Body;
 use regex_ast::{Atom, Expr};
 use std::alloc::{AllocError, Global};

@@ -14,7 +14,7 @@ use Rattle.expr_kinds.specs.Built.{IsBuiltWith, AnyCentre}
 use Rattle.expr_kinds.specs.Kinds.{Fits, IsLanguage}
 use Rattle.expr_meaning.specs.Meaning.{In}
 use Rattle.project_meaning.specs.Centres.{centres_in}
-use Rattle.network_rules.specs.Rules.{IsFilled}
+use Rattle.network_expr.specs.Rules.{IsFilled}
 use Rattle.network_expr.specs.Built.{IsBuiltOver}
 use Rattle.network_expr.specs.Parts.{is_leaf_of, kinds, stands}
 use Rattle.network_expr.specs.declared.parts.Part.{Part}

@@ -7,3 +7,6 @@ pub mod Named
 pub mod Searched
 pub mod Narrowed
 pub mod Ruled
+mod Inserting
+pub mod Meaning
+pub mod RuleRows

@@ -14,7 +14,7 @@ use Rattle.word_relations.proofs.Pairs.{concatenation_same, concatenation_empty_
 use Rattle.fsa.specs.Automaton.{Automaton, UsesLetter}
 use Rattle.fsa.specs.Language.{Accepts, stop, read, skip}
 use Rattle.fsa.specs.Complete.{Complete}
-use Rattle.fst_relation.specs.Relation.{IsRelated}
+use Rattle.fst_algebra.specs.Relation.{IsRelated}
 use Rattle.lang_algebra.specs.Languages.{IsLang}
 use Rattle.lang_algebra.proofs.Made.{IsLang-same}
 use Rattle.word_relations.specs.Operations.{IsOneLetter, IsIgnoring}
@@ -43,8 +43,8 @@ use Rattle.network_sets.specs.Split.{split}
 use Rattle.network_sets.specs.declared.parts.Split.{Split}
 use Rattle.network_sets.proofs.Inside.{over_all}
 use Rattle.network_expr.specs.Built.{IsMeant, IsChoice}
-use Rattle.network_affixes.proofs.Alike.{SameWords, composition_same, words_then, words_back, ignoring_same, prefixes_same, not_one_same}
-use Rattle.network_affixes.proofs.Suffixed.{for_same, for_itself}
+use Rattle.network_sets.proofs.Alike.{SameWords, composition_same, words_then, words_back, ignoring_same, prefixes_same, not_one_same}
+use Rattle.network_sets.proofs.Suffixed.{for_same, for_itself}
 use Rattle.network_expr.proofs.Rows.{each_words, each_pairs, each_kind, put_in_same, put_in_split, chain_words, chain_language, chain_pairs, chain_words_split, chain_pairs_split, chain_kind, choice_words, choice_pairs, choice_kind, steps_words, steps_language, steps_pairs, steps_words_split, steps_pairs_split, steps_kind, context_split}
 
 -- a smaller network that is the same

@@ -26,7 +26,7 @@ use Rattle.network_algebra.proofs.Meanings.{words_for}
 use Rattle.network_expr.specs.Built.{IsChoice, IsNarrowing}
 use Rattle.network_expr.specs.Parts.{kinds, stands}
 use Rattle.network_expr.specs.declared.parts.Part.{Part}
-use Rattle.network_affixes.proofs.Alike.{SameWords, words_back, words_then}
+use Rattle.network_sets.proofs.Alike.{SameWords, words_back, words_then}
 use Rattle.network_expr.proofs.Meant.{IsChained}
 use Rattle.network_expr.proofs.Rows.{chain_words, chain_words_split}
 

@@ -24,7 +24,7 @@ use Rattle.network_expr.specs.declared.parts.Part.{Part}
 use Rattle.expr_meaning.specs.Meaning.{In, InEach, InIgnoring, InChain, InContext, InSteps, Relates, RelatesEach, RelatesChain, RelatesSteps}
 use Rattle.expr_meaning.proofs.Languages.{both_languages}
 use Rattle.network_expr.specs.Built.{AreBuiltOver, LinksAreBuiltOver, ContextsAreBuiltOver, IsChoice}
-use Rattle.network_affixes.proofs.Alike.{SameWords, ignoring_same, composition_same}
+use Rattle.network_sets.proofs.Alike.{SameWords, ignoring_same, composition_same}
 
 pub both_three : (a b c : Kind) → both (both a b) c ≡ both a (both b c)
 both_three Language b c = refl

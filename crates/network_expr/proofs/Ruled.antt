@@ -5,7 +5,7 @@ use Rattle.fsm_base.specs.declared.letters.Pair.{Pair}
 use Rattle.word_relations.specs.Relations.{AreSame}
 use Rattle.word_relations.proofs.Pairs.{same_trans}
 use Rattle.fsa.specs.Automaton.{Automaton}
-use Rattle.fst_relation.specs.Relation.{IsRelated}
+use Rattle.fst_algebra.specs.Relation.{IsRelated}
 use Rattle.regex_ast.specs.declared.expr.Atom.{Atom}
 use Rattle.regex_ast.specs.declared.expr.Context.{Context}
 use Rattle.regex_ast.specs.declared.expr.Group.{Group}
@@ -22,8 +22,8 @@ use Rattle.replace_rules.specs.declared.rules.LangGroup.{LangGroup}
 use Rattle.replace_rules.specs.declared.rules.LangMap.{LangMap}
 use Rattle.replace_rules.specs.Rules.{ReplacesBy, AppliesBy}
 use Rattle.replace_insertions.specs.Insertions.{InsertsBy, AsksBy}
-use Rattle.network_rules.specs.Rules.{AreGroups}
-use Rattle.network_rules.proofs.Meaning.{rules_mean, insertion_means, insertion_rows}
+use Rattle.network_expr.specs.Rules.{AreGroups}
+use Rattle.network_expr.proofs.Meaning.{rules_mean, insertion_means, insertion_rows}
 use Rattle.network_expr.specs.Built.{IsMeant, MappingsAreBuiltOver, ContextsAreBuiltOver, GroupsAreBuiltOver}
 use Rattle.network_expr.specs.Parts.{kinds, stands}
 use Rattle.network_expr.specs.declared.parts.Part.{Part}

@@ -10,7 +10,7 @@ use Rattle.expr_kinds.specs.Kinds.{kind_of}
 use Rattle.expr_meaning.specs.Meaning.{In, Relates}
 use Rattle.network_algebra.specs.Networks.{IsFor}
 use Rattle.network_algebra.specs.declared.network.Network.{Network}
-use Rattle.network_rules.specs.Rules.{IsFilled}
+use Rattle.network_expr.specs.Rules.{IsFilled}
 use Rattle.network_expr.specs.Parts.{is_leaf_of, kinds, stands}
 use Rattle.network_expr.specs.declared.parts.Part.{Part}
 

@@ -16,18 +16,21 @@ ghost use Rattle.network_algebra.specs.Networks.{IsFor, IsNetwork, PairsOf, Uses
 ghost use Rattle.network_sets.specs.Split.{split, split_letters};
 ghost use Rattle.network_expr.specs.Built.{AreBuiltOver, ContextsAreBuiltOver, GroupsAreBuiltOver, IsBuiltOver, IsChoice, IsMeant, IsNarrowing, LinksAreBuiltOver, MappingsAreBuiltOver, StepsAreBuiltOver};
 ghost use Rattle.network_expr.specs.Parts.{IsGround, kinds, stands};
-ghost use Rattle.network_rules.specs.Rules.{AreContexts, AreMaps, IsPart};
+ghost use Rattle.network_expr.specs.Rules.{AreContexts, AreMaps, IsPart};
 
+use crate::insertions::{empty_word, insertion};
+use crate::langs::inner_language;
 use crate::leaves::{leaf, symbols};
 use crate::parts::Part;
 use expr_kinds::{are_alike, is_insertion};
 use fsa::Fsa;
 use fsm_base::{Bound, Sym};
 use lang_algebra::{Lang, one_letter};
-use network_affixes::{apply_prefixes, apply_suffixes, not_one_times};
 use network_algebra::{Network, cross, inner_letters, reduced, union, word};
-use network_rules::{empty_word, inner_language, insertion};
-use network_sets::{Split, both, compose, ignore, in_context, language, restrict};
+use network_sets::{
+    Split, apply_prefixes, apply_suffixes, both, compose, ignore, in_context, language,
+    not_one_times, restrict,
+};
 use regex_ast::{Atom, Context, Expr, Group, Link, Mapping, Step};
 use replace_rules::{LangContext, LangGroup, LangMap, replace};
 use std::alloc::{AllocError, Global};

@@ -5,9 +5,15 @@
 //! - [`language_of`]: the language of an expression that is one.
 //! - [`network_of`]: the network of an expression, of its kind.
 //! - [`Part`]: the network of what a name stands for, which an expression with that name is built of.
+//!
+//! Inside, `langs` has the parts of rules of replacement as languages, and `insertions` the network of rules that are one insertion.
+//! `specs/Rules.antt` says when rules of languages are those of an expression: where they are, `replace` (replace_rules) relates what
+//! the expression relates (`proofs/Meaning.antt`).
 #![tactic(auto)]
 
 mod build;
+mod insertions;
+mod langs;
 mod leaves;
 mod meaning;
 mod parts;

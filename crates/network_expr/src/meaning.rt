@@ -1,6 +1,6 @@
 ghost use Rattle.std.specs.Prelude.{IfOk};
 ghost use Rattle.word_relations.specs.Relations.{AreSame};
-ghost use Rattle.fst_relation.specs.Relation.{IsRelated};
+ghost use Rattle.fst_algebra.specs.Relation.{IsRelated};
 ghost use Rattle.lang_algebra.specs.Languages.{IsLang};
 ghost use Rattle.regex_ast.specs.Terms.{term};
 ghost use Rattle.expr_kinds.specs.Kinds.{Fits, IsLanguage};

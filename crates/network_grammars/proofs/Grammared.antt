@@ -17,7 +17,7 @@ use Rattle.regex_ast.specs.declared.twolc.Grammar.{Grammar as GrammarOf}
 use Rattle.regex_ast.specs.declared.twolc.PairPart.{PairPart}
 use Rattle.regex_ast.specs.declared.twolc.TwoLevelRule.{TwoLevelRule}
 use Rattle.fsa.specs.Complete.{Complete, Accepts}
-use Rattle.fst_relation.specs.Relation.{symbols_on}
+use Rattle.fst_algebra.specs.Relation.{symbols_on}
 use Rattle.expr_leaves.specs.Mapped.{mapped, mapped_contexts}
 use Rattle.expr_meaning.specs.Meaning.{In, InContext}
 use Rattle.expr_meaning.specs.Operators.{inner, HoldsLeft, HoldsRight}
@@ -33,11 +33,11 @@ use Rattle.grammar_pairs.specs.Plain.{ContextsArePairForms, IsFormed, IsFormedRu
 use Rattle.grammar_pairs.specs.Tables.{HasSymbol, IsMember}
 use Rattle.grammar_pairs.specs.Texts.{HasOwnTexts, IsPairOver, in_text, in_texts, letter_in}
 use Rattle.grammar_pairs.proofs.Spelled.{feasible_same, written_same}
-use Rattle.pair_languages.specs.Built.{IsBuilt}
-use Rattle.pair_languages.specs.Meaning.{IsScope, pair_at}
-use Rattle.pair_languages.specs.declared.scope.Scope.{Scope}
+use Rattle.network_grammars.specs.Built.{IsBuilt}
+use Rattle.network_grammars.specs.PairMeaning.{IsScope, pair_at}
+use Rattle.network_grammars.specs.declared.scope.Scope.{Scope}
 use Rattle.network_grammars.specs.Rules.{IsContextOf, IsLanguageOf, IsRuleOf, Pairwise}
-use Rattle.pair_languages.proofs.Standing.{Agree, IsOn, agree, expression_back, expression_there, letters_apart}
+use Rattle.network_grammars.proofs.Standing.{Agree, IsOn, agree, expression_back, expression_there, letters_apart}
 use Rattle.two_level.specs.Rules.{Holds, IsContextOver, IsRuleOver}
 use Rattle.two_level.specs.Spelled.{IsRuleFor, StandsFor, StandsIn}
 use Rattle.two_level.specs.declared.rule.LangRule.{LangRule}
@@ -136,7 +136,7 @@ module _ (text : Sym → List ℕ) (g : GrammarOf Atom) (formed : IsFormed (gram
   pairs_over x among = All-contains (IsPairOver symbols) (feasible g) x over ((start.0 x).0 among)
 
   abbrev Spot : Type 0
-  Spot = Rattle.pair_languages.proofs.Standing.Place text g formed symbols own P is_scope.distinct pairs_over start.0
+  Spot = Rattle.network_grammars.proofs.Standing.Place text g formed symbols own P is_scope.distinct pairs_over start.0
 
   abbrev number : Spot → Sym
   number k = k.0

@@ -2,3 +2,9 @@ pub mod Rows
 pub mod Renamed
 pub mod Grammared
 pub mod Networked
+pub mod Defined
+pub mod LeafWords
+pub mod PairRows
+pub mod Standing
+pub mod Weights
+pub mod Words

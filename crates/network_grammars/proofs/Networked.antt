@@ -10,7 +10,7 @@ use Rattle.word_relations.specs.Relations.{AreSame}
 use Rattle.regex_ast.specs.declared.expr.Atom.{Atom}
 use Rattle.regex_ast.specs.declared.twolc.Grammar.{Grammar as GrammarOf}
 use Rattle.fsa.specs.Automaton.{Automaton}
-use Rattle.fst_relation.specs.Relation.{IsRelated, symbols_on}
+use Rattle.fst_algebra.specs.Relation.{IsRelated, symbols_on}
 use Rattle.expr_kinds.specs.declared.form.Kind.TheVariants.{Relation}
 use Rattle.network_algebra.specs.Networks.{IsFor, IsNetwork, PairsOf, UsesOnly, UsesSymbols, WordsOf, kind_of_network}
 use Rattle.network_algebra.specs.declared.network.Network.{Network}
@@ -19,9 +19,9 @@ use Rattle.grammar_pairs.specs.Feasible.{feasible}
 use Rattle.grammar_pairs.specs.Plain.{IsFormed, definition_of, grammar_of}
 use Rattle.grammar_pairs.specs.Texts.{IsPairOver, in_texts}
 use Rattle.grammar_pairs.proofs.Spelled.{own_texts}
-use Rattle.pair_languages.specs.Built.{IsBuilt}
-use Rattle.pair_languages.specs.Meaning.{IsScope}
-use Rattle.pair_languages.specs.declared.scope.Scope.{Scope}
+use Rattle.network_grammars.specs.Built.{IsBuilt}
+use Rattle.network_grammars.specs.PairMeaning.{IsScope}
+use Rattle.network_grammars.specs.declared.scope.Scope.{Scope}
 use Rattle.network_grammars.specs.Meaning.{IsNetworkOf, IsOverSymbols}
 use Rattle.network_grammars.specs.Rules.{IsRuleOf, Pairwise}
 use Rattle.network_grammars.proofs.Grammared.{begun, on_side, pairs_over, stands_for}

@@ -18,7 +18,7 @@ use Rattle.lang_algebra.specs.Languages.{IsLang}
 use Rattle.network_algebra.specs.Networks.{all_letters}
 use Rattle.network_algebra.specs.Renamed.{IsRenamed}
 use Rattle.network_sets.proofs.Inside.{distinct_map, distinct_more}
-use Rattle.pair_languages.specs.Meaning.{pair_at}
+use Rattle.network_grammars.specs.PairMeaning.{pair_at}
 
 inner_apart : (x y : Letter) → Inner x ≡ Inner y → x ≡ y
 inner_apart x y e = cc

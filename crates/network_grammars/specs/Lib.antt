@@ -1,2 +1,5 @@
 pub mod Rules
 pub mod Meaning
+pub mod PairMeaning
+pub mod Built
+pub mod Rows

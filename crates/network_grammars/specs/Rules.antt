@@ -14,8 +14,8 @@ use Rattle.network_algebra.specs.Networks.{all_letters}
 use Rattle.network_algebra.specs.Renamed.{IsRenamed}
 use Rattle.grammar_pairs.specs.Feasible.{of_atom}
 use Rattle.grammar_pairs.specs.Plain.{term_of}
-use Rattle.pair_languages.specs.Meaning.{pair_at, stands}
-use Rattle.pair_languages.specs.declared.scope.Scope.{Scope}
+use Rattle.network_grammars.specs.PairMeaning.{pair_at, stands}
+use Rattle.network_grammars.specs.declared.scope.Scope.{Scope}
 use Rattle.two_level.specs.declared.rule.LangRule.{LangRule}
 use Rattle.two_level.specs.declared.rule.PairContext.{PairContext}
 

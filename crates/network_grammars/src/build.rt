@@ -5,9 +5,9 @@ ghost use Rattle.grammar_pairs.specs.Plain.{IsFormed, grammar_of};
 ghost use Rattle.network_algebra.specs.Networks.{IsNetwork, kind_of_network};
 ghost use Rattle.network_grammars.specs.Meaning.{IsNetworkOf, IsOverSymbols};
 
+use crate::definitions::scope_of;
 use crate::rules::rules_of;
 use network_algebra::{Network, reduced};
-use pair_languages::scope_of;
 use regex_ast::{Atom, Grammar};
 use std::alloc::{AllocError, Global};
 use two_level::grammar_is_spelled;

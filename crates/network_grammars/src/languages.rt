@@ -3,13 +3,14 @@ ghost use Rattle.expr_meaning.specs.Meaning.{In};
 ghost use Rattle.lang_algebra.specs.Languages.{IsLang};
 ghost use Rattle.network_algebra.specs.Networks.{all_letters};
 ghost use Rattle.network_algebra.specs.Renamed.{IsRenamed};
-ghost use Rattle.pair_languages.specs.Meaning.{IsScope, pair_at, stands};
+ghost use Rattle.network_grammars.specs.PairMeaning.{IsScope, pair_at, stands};
 ghost use Rattle.grammar_pairs.specs.Plain.{IsPairForm, term_of};
 
+use crate::scope::Scope;
+use crate::words::words_of;
 use fsm_base::{Bound, Pair, Sym};
 use lang_algebra::Lang;
 use network_algebra::{Renaming, renamed};
-use pair_languages::{Scope, words_of};
 use regex_ast::{Atom, Expr, PairPart};
 use std::alloc::{AllocError, Global};
 use two_level::every_letter;

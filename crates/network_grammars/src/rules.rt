@@ -2,12 +2,12 @@ ghost use Rattle.std.specs.Prelude.{◌≡◌, ◌∷◌, [], All, IfOk, map};
 ghost use Rattle.grammar_pairs.specs.Feasible.{of_atom};
 ghost use Rattle.grammar_pairs.specs.Plain.{ContextsArePairForms, IsFormedRule, IsNamedSide, contexts_in, pair_of, rule_of};
 ghost use Rattle.network_grammars.specs.Rules.{IsContextOf, IsRuleOf, Pairwise};
-ghost use Rattle.pair_languages.specs.Meaning.{IsScope};
+ghost use Rattle.network_grammars.specs.PairMeaning.{IsScope};
 
 use crate::languages::language_of;
+use crate::scope::Scope;
 use fsm_base::Pair;
 use grammar_pairs::written;
-use pair_languages::Scope;
 use regex_ast::{Atom, Context, PairAtom, PairPart, TwoLevelRule};
 use std::alloc::{AllocError, Global};
 use two_level::{LangRule, PairContext};

@@ -8,7 +8,7 @@ use Rattle.fsm_base.specs.declared.letters.Sym.{Sym}
 use Rattle.fsm_base.specs.declared.letters.Pair.{Pair}
 use Rattle.fsa.specs.Automaton.{Automaton, UsesLetter}
 use Rattle.fsa.specs.Language.{Accepts}
-use Rattle.fst_relation.specs.Relation.{IsRelated, uppers, lowers}
+use Rattle.fst_algebra.specs.Relation.{IsRelated, uppers, lowers}
 use Rattle.regex_ast.specs.declared.expr.Atom.{Atom}
 use Rattle.regex_ast.specs.declared.lexc.FlagOp.{FlagOp}
 use Rattle.project_meaning.specs.Trees.{Piece, letter, flag, Lexicon}

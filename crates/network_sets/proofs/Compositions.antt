@@ -7,7 +7,7 @@ use Rattle.word_relations.specs.Relations.{AreSame, IsComposition}
 use Rattle.word_relations.proofs.Pairs.{same_trans}
 use Rattle.fsa.specs.Automaton.{Automaton}
 use Rattle.fsa.specs.Language.{Accepts}
-use Rattle.fst_relation.specs.Relation.{IsRelated}
+use Rattle.fst_algebra.specs.Relation.{IsRelated}
 use Rattle.fst_algebra.specs.Relations.{UsesUpper, UsesLower}
 use Rattle.expr_kinds.specs.Kinds.{both}
 use Rattle.expr_meaning.specs.Operators.{IsItself}

@@ -1,1 +1,3 @@
 pub mod Split
+pub mod Suffixes
+pub mod Few

@@ -14,7 +14,7 @@ use Rattle.grammar_pairs.specs.Plain.{IsFormed as GrammarIsFormed}
 use Rattle.grammar_pairs.proofs.Replaced.{resolved_mapped}
 use Rattle.project_meaning.specs.Trees.{Form, sides, pairs, Entry, Lexicon, Grammar, Body, xfst, lexc, twolc}
 use Rattle.project_meaning.specs.Leaves.{Leaf, expressions_in, expressions_of, form_symbols, forms_in, leaf_of, resolved, resolved_form, resolved_grammar, resolved_lexicon, symbol_in, symbol_of, symbols_in}
-use Rattle.lexicon_spelling.specs.Mapped.{mapped_form}
+use Rattle.expr_spelling.specs.Mapped.{mapped_form}
 use Rattle.project_definitions.specs.Bodies.{AreRooted, BodyFitsBy, IsFormed, LexiconFitsBy, mapped_body}
 use Rattle.project_definitions.proofs.Built.{All-front, All-back}
 use Rattle.project_definitions.proofs.Formed.{formed_mapped}

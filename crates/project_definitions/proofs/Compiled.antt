@@ -10,7 +10,7 @@ use Rattle.expr_kinds.specs.Built.{IsBuiltBy}
 use Rattle.expr_kinds.specs.Forms.{nothing}
 use Rattle.expr_kinds.specs.declared.form.Form.{Form as Told}
 use Rattle.expr_leaves.specs.Mapped.{mapped}
-use Rattle.lexicon_spelling.specs.Mapped.{mapped_entry, mapped_form, mapped_lexicon}
+use Rattle.expr_spelling.specs.Mapped.{mapped_entry, mapped_form, mapped_lexicon}
 use Rattle.project_meaning.specs.Lexicons.{piece_by}
 use Rattle.project_meaning.specs.Trees.{Piece, letter, flag, Form, sides, pairs, Entry, Lexicon, Body, xfst, lexc, twolc}
 use Rattle.project_meaning.specs.Leaves.{Leaf, symbol, named, leaf_of, resolved, resolved_entry, resolved_form, resolved_grammar, resolved_lexicon, resolved_piece, symbol_of, written as text_of}

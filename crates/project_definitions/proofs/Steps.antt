@@ -19,9 +19,9 @@ use Rattle.project_definitions.specs.Demands.{DemandFault, DoesMeet, FormMeets, 
 use Rattle.project_definitions.specs.declared.definition.Definition.{Definition}
 use Rattle.project_definitions.specs.declared.demands.Demand.{Demand}
 use Rattle.project_definitions.specs.declared.demands.Demand.TheVariants as demand
-use Rattle.project_files.specs.declared.plan_error.PlanError.{PlanError}
-use Rattle.project_files.specs.declared.plan_error.PlanError.TheVariants.{Refused, Memory}
-use Rattle.project_files.specs.Refusals.{IsRefusal, IsRefusedBy}
+use Rattle.project_sources.specs.declared.plan_error.PlanError.{PlanError}
+use Rattle.project_sources.specs.declared.plan_error.PlanError.TheVariants.{Refused, Memory}
+use Rattle.project_sources.specs.Refusals.{IsRefusal, IsRefusedBy}
 
 -- a refusal for such a fault
 pub refused_by : (IsFault : Fault → Type 0) (found : Fault) (error : PlanError) → IsFault found → IsRefusal found error → IsRefusedBy IsFault error

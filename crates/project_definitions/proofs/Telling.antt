@@ -21,7 +21,7 @@ use Rattle.expr_kinds.specs.Weights.{most_weight, weight_of}
 use Rattle.expr_kinds.specs.declared.form.Form.{Form}
 use Rattle.expr_kinds.specs.declared.form.Kind.TheVariants.{Language}
 use Rattle.expr_kinds.proofs.FitLaws.{both_true}
-use Rattle.lexicon_resolution.specs.Plain.{entry_of, form_of, lexicon_of, piece_of}
+use Rattle.name_resolution.specs.Plain.{entry_of, form_of, lexicon_of, piece_of}
 use Rattle.project_meaning.specs.Trees.{Entry, Lexicon}
 use Rattle.project_sources.specs.Built.{FormIsBuiltBy, LexiconIsBuiltBy, PieceIsBuiltBy}
 use Rattle.project_definitions.specs.Bodies.{BodyFitsBy, FormFitsBy, LexiconFitsBy, form_weight, lexicon_weight, weighty}

@@ -10,7 +10,7 @@ use Rattle.expr_leaves.specs.Leaves.{leaf_alone, listed, listed_contexts}
 use Rattle.expr_leaves.specs.Mapped.{mapped, mapped_contexts}
 use Rattle.grammar_pairs.specs.Mapped.{mapped_grammar}
 use Rattle.grammar_pairs.proofs.Replaced.{resolved_mapped}
-use Rattle.grammar_resolution.specs.Leaves.{leaves_in, leaves_in_pair, leaves_in_side, pairs_below, pairs_in_definition, pairs_in_part, pairs_in_rule}
+use Rattle.name_resolution.specs.Leaves.{leaves_in, leaves_in_pair, leaves_in_side, pairs_below, pairs_in_definition, pairs_in_part, pairs_in_rule}
 use Rattle.grammar_weights.specs.Weights.{grammar_weight, is_same_symbol}
 use Rattle.grammar_weights.proofs.Lawful.{alike_weighs, mapped_weighs, meant_weighs}
 use Rattle.name_resolution.specs.Numbered.{numbered}

@@ -10,7 +10,7 @@ use Rattle.project_meaning.specs.Trees.{Form, sides, pairs, Entry, Lexicon}
 use Rattle.project_meaning.specs.Leaves.{Leaf}
 use Rattle.project_meaning.specs.Forms.{leaf_weight, form_weight as meant_form_weight, lexicon_weight as meant_lexicon_weight, weighty as meant_weighty}
 use Rattle.project_meaning.specs.Lexicons.{piece_by}
-use Rattle.lexicon_spelling.specs.Mapped.{mapped_entry, mapped_form, mapped_lexicon}
+use Rattle.expr_spelling.specs.Mapped.{mapped_entry, mapped_form, mapped_lexicon}
 use Rattle.project_definitions.specs.Bodies.{form_weight, lexicon_weight, weighty}
 use Rattle.grammar_weights.proofs.Replaced.{mapped_weight}
 

@@ -8,7 +8,7 @@ use Rattle.expr_kinds.specs.declared.form.Kind.TheVariants.{Relation}
 use Rattle.expr_leaves.specs.Mapped.{mapped}
 use Rattle.project_meaning.specs.Trees.{Form, sides, pairs, Entry, Lexicon, Body, xfst, lexc, twolc}
 use Rattle.project_meaning.specs.Leaves.{expressions_in, expressions_of}
-use Rattle.lexicon_spelling.specs.Mapped.{mapped_lexicon}
+use Rattle.expr_spelling.specs.Mapped.{mapped_lexicon}
 use Rattle.grammar_pairs.specs.Mapped.{mapped_grammar}
 use Rattle.grammar_pairs.specs.Plain.{IsFormed as GrammarIsFormed}
 use Rattle.grammar_weights.specs.Weights.{grammar_weight}

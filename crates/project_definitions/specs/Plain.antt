@@ -3,7 +3,7 @@ use Rattle.std.specs.Prelude.{map}
 use Rattle.regex_ast.specs.Terms.{term}
 use Rattle.project_meaning.specs.Trees.{Body, xfst, lexc, twolc}
 use Rattle.grammar_pairs.specs.Plain.{grammar_of}
-use Rattle.lexicon_resolution.specs.Plain.{lexicon_of}
+use Rattle.name_resolution.specs.Plain.{lexicon_of}
 use Rattle.project_definitions.specs.declared.definition.Body.{Body as BodyOf}
 use Rattle.project_definitions.specs.declared.definition.Body.TheVariants.{Xfst, Lexc, Twolc}
 

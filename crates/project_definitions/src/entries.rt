@@ -3,7 +3,7 @@ ghost use Rattle.expr_kinds.specs.Atoms.{is_known_at, is_symbol, leaves_at, weig
 ghost use Rattle.expr_kinds.specs.Forms.{capped};
 ghost use Rattle.project_sources.specs.Built.{FormIsBuiltBy, LexiconIsBuiltBy, PieceIsBuiltBy};
 ghost use Rattle.project_definitions.specs.Bodies.{FormFitsBy, LexiconFitsBy, form_weight, lexicon_weight};
-ghost use Rattle.lexicon_resolution.specs.Plain.{entry_of, form_of, lexicon_of, piece_of};
+ghost use Rattle.name_resolution.specs.Plain.{entry_of, form_of, lexicon_of, piece_of};
 
 use expr_kinds::{Form, form_of};
 use regex_ast::{Atom, Entry, Lexicon, Piece};

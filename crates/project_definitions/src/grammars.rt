@@ -10,7 +10,7 @@ ghost use Rattle.grammar_weights.specs.Weights.{grammar_weight, is_same_symbol};
 ghost use Rattle.project_definitions.specs.Passing.{IsBuiltContext, IsBuiltDefinition, IsBuiltRule, passing};
 
 use expr_kinds::{Form, Kind, form_of};
-use expr_mapping::{LeafMap, map_leaves};
+use expr_leaves::{LeafMap, map_leaves};
 use fsm_base::Sym;
 use grammar_weights::weight_of_grammar;
 use regex_ast::{

@@ -4,16 +4,16 @@ ghost use Rattle.regex_ast.specs.Terms.{term};
 ghost use Rattle.expr_leaves.specs.Leaves.{seen};
 ghost use Rattle.name_order.specs.Graph.{graph_of};
 ghost use Rattle.name_order.specs.Orders.{HasNoCycle, IsOrder};
-ghost use Rattle.project_files.specs.Refusals.{IsRefusedBy};
-ghost use Rattle.lexicon_resolution.specs.Symbols.{terms_behind};
+ghost use Rattle.project_sources.specs.Refusals.{IsRefusedBy};
+ghost use Rattle.name_resolution.specs.Symbols.{terms_behind};
 ghost use Rattle.project_definitions.specs.Plain.{body_of};
 ghost use Rattle.project_definitions.specs.Referring.{CycleFault, body_places, place_in, places_in, references_of};
 
 use crate::definition::{Body, Definition};
 use expr_leaves::leaves;
-use lexicon_resolution::expressions;
 use name_order::{Order, order_of};
-use project_files::{PlanError, refused};
+use name_resolution::expressions;
+use project_sources::{PlanError, refused};
 use regex_ast::{Atom, Expr, Why};
 use std::alloc::{AllocError, Global};
 

@@ -15,7 +15,7 @@ use Rattle.fsm_base.proofs.AlphabetLemmas.{IsDistinct-tail, no_repeat}
 use Rattle.fsm_io.specs.Folders.{Files, file_of}
 use Rattle.project_manifest.specs.Lines.{most_files}
 use Rattle.project_manifest.specs.Manifests.{project_name}
-use Rattle.project_files.specs.Sources.{names_in}
+use Rattle.project_sources.specs.Files.{names_in}
 use Rattle.project_sources.specs.Edits.{HoldsMost, held_in}
 
 -- ---- different texts of a list are no more than its texts

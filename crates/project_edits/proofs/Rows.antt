@@ -6,9 +6,9 @@ use Rattle.std.specs.Str.{bytes_eq}
 use Rattle.fsm_io.specs.Folders.{Files, file_of}
 use Rattle.regex_ast.specs.declared.fault.Fault.{Fault}
 use Rattle.regex_ast.specs.declared.fault.Why.TheVariants as why
-use Rattle.project_files.specs.Refusals.{IsRefusal}
-use Rattle.project_files.specs.declared.plan_error.PlanError.{PlanError}
-use Rattle.project_files.specs.declared.plan_error.PlanError.TheVariants.{Refused, Memory}
+use Rattle.project_sources.specs.Refusals.{IsRefusal}
+use Rattle.project_sources.specs.declared.plan_error.PlanError.{PlanError}
+use Rattle.project_sources.specs.declared.plan_error.PlanError.TheVariants.{Refused, Memory}
 use Rattle.project_manifest.specs.Manifests.{project_name}
 use Rattle.project_sources.specs.Edits.{Apply, Edit, Holding, HoldsMost, IsBadSplice, IsPossible, IsRefused, after, drops, held_in, put, splice, spliced}
 use Rattle.project_sources.specs.Faults.{fault}

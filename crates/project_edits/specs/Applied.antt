@@ -1,8 +1,8 @@
 -- What an edit makes of the files of a project.
 use Rattle.std.specs.Prelude.{◌∷◌, [], Result, Ok, Err}
 use Rattle.fsm_io.specs.Folders.{Files}
-use Rattle.project_files.specs.Refusals.{IsRefusedBy}
-use Rattle.project_files.specs.declared.plan_error.PlanError.{PlanError}
+use Rattle.project_sources.specs.Refusals.{IsRefusedBy}
+use Rattle.project_sources.specs.declared.plan_error.PlanError.{PlanError}
 use Rattle.project_sources.specs.Edits.{Apply, Edit, drops, held_in, put, splice}
 use Rattle.project_edits.specs.declared.edit.Edit.{Edit as EditOf}
 use Rattle.project_edits.specs.declared.edit.Edit.TheVariants as edits

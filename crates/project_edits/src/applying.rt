@@ -4,8 +4,7 @@ ghost use Rattle.project_edits.specs.Applied.{IsApplied, edit_of};
 use crate::edit::Edit;
 use crate::files::{is_one_too_many, with_file, without_file};
 use crate::lines::spliced;
-use project_files::{PlanError, Sources, refused};
-use project_sources::MOST_BYTES;
+use project_sources::{MOST_BYTES, PlanError, Sources, refused};
 use regex_ast::Why;
 use std::alloc::Global;
 

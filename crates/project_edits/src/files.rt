@@ -4,8 +4,8 @@ ghost use Rattle.fsm_io.specs.Folders.{file_of};
 ghost use Rattle.project_manifest.specs.Manifests.{project_name};
 ghost use Rattle.project_sources.specs.Edits.{HoldsMost, held_in};
 
-use project_files::Sources;
 use project_manifest::is_manifest_name;
+use project_sources::Sources;
 use std::alloc::AllocError;
 
 /// The most files besides the manifest.

@@ -7,7 +7,7 @@ use Rattle.project_meaning.specs.Leaves.{leaf_of, symbol, symbol_in, written}
 use Rattle.name_resolution.specs.Names.{is_symbol_leaf}
 use Rattle.project_sources.specs.Limits.{most_symbols}
 use Rattle.project_model.specs.Gathered.{gathered}
-use Rattle.lexicon_resolution.specs.Symbols.{symbol_beside}
+use Rattle.name_resolution.specs.Symbols.{symbol_beside}
 use Rattle.project_model.proofs.Gathering.{gathered_none, text_added, text_full}
 use Rattle.project_model.proofs.Leaves.{beside_none, beside_symbol}
 

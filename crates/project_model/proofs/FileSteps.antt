@@ -25,8 +25,8 @@ use Rattle.project_sources.specs.Sources.{FileDefines, FilesDefine, HasText, Hav
 use Rattle.project_sources.proofs.Once.{says_one, text_one, all_exact}
 use Rattle.project_model.specs.Answers.{IsRefusal, IsRefusedBy}
 use Rattle.project_model.specs.Files.{HasDefined, HasPut, IsUnread}
-use Rattle.project_files.specs.declared.plan_error.PlanError.{PlanError}
-use Rattle.project_files.specs.declared.plan_error.PlanError.TheVariants.{Refused, Memory}
+use Rattle.project_sources.specs.declared.plan_error.PlanError.{PlanError}
+use Rattle.project_sources.specs.declared.plan_error.PlanError.TheVariants.{Refused, Memory}
 use Rattle.project_model.proofs.Reading.{same_content, textless}
 
 -- A line that names this file.

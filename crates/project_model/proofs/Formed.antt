@@ -16,7 +16,7 @@ use Rattle.project_meaning.specs.Trees.{Lexicon, lexc, twolc}
 use Rattle.project_manifest.specs.Manifests.{project_name}
 use Rattle.project_sources.specs.Laws.{all_readers}
 use Rattle.project_sources.specs.Sources.{FileDefines, FilesDefine, TextSays, stated}
-use Rattle.twolc_forms.proofs.Formed.{formed}
+use Rattle.twolc_grammar.proofs.Formed.{formed}
 use Rattle.project_definitions.specs.Bodies.{AreRooted, IsFormed}
 
 pub rooted : (text : List ℕ) (lexicons : List (Lexicon Raw)) → SaysLexicons text (Ok lexicons) → AreRooted lexicons

@@ -4,7 +4,7 @@ use Rattle.regex_ast.specs.declared.expr.Raw.{Raw}
 use Rattle.project_meaning.specs.Leaves.{Leaf, symbol, named, leaf_of, symbol_in, written}
 use Rattle.name_resolution.specs.Names.{is_symbol_leaf}
 use Rattle.name_resolution.proofs.Leaves.{leaf_cases}
-use Rattle.lexicon_resolution.specs.Symbols.{symbol_beside}
+use Rattle.name_resolution.specs.Symbols.{symbol_beside}
 
 module _ (names : List (List ℕ)) (leaf : Raw) where
   abbrev text : List ℕ

@@ -12,7 +12,7 @@ use Rattle.project_manifest.specs.Rows.{At, First, HaveNone, places, places_from
 use Rattle.project_sources.specs.Faults.{fault, NameFault, name_rows, NamesFault}
 use Rattle.project_manifest.proofs.Firsts.{first_past, none_append, none_more, places_append}
 use Rattle.project_model.specs.Answers.{IsRefusal, IsRefusedBy, written_of}
-use Rattle.project_files.specs.declared.plan_error.PlanError.{PlanError}
+use Rattle.project_sources.specs.declared.plan_error.PlanError.{PlanError}
 use Rattle.project_model.specs.declared.written.WrittenDefine.{WrittenDefine}
 use Rattle.name_resolution.proofs.Texts.{has_from_any, not_had}
 use Rattle.project_definitions.proofs.Steps.{refused_by}

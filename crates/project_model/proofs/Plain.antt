@@ -10,7 +10,7 @@ use Rattle.regex_ast.specs.declared.lexc.Lexicon.{Lexicon as LexiconOf}
 use Rattle.lexc_grammar.specs.Files.{ReadsAs, SaysLexicons}
 use Rattle.lexc_grammar.specs.Lexicons.{EntryAt, without_lines, entry_of as entry_at, form_of as form_read, lexicon_of as lexicon_at, piece_of as piece_read}
 use Rattle.project_meaning.specs.Trees.{sides}
-use Rattle.lexicon_resolution.specs.Plain.{entry_of, form_of, lexicon_of, piece_of}
+use Rattle.name_resolution.specs.Plain.{entry_of, form_of, lexicon_of, piece_of}
 
 piece_is : (piece : PieceOf Raw) → piece_of piece ≡ piece_read piece
 piece_is (OfSymbol leaf) = refl

@@ -37,8 +37,8 @@ use Rattle.project_definitions.specs.Referring.{CycleFault, references_of}
 use Rattle.project_definitions.specs.Entries.{Entry, entry_in, entry_of}
 use Rattle.project_definitions.specs.declared.definition.Definition.{Definition}
 use Rattle.project_definitions.specs.declared.demands.Demand.TheVariants as demand
-use Rattle.project_files.specs.declared.plan_error.PlanError.{PlanError}
-use Rattle.project_files.specs.declared.plan_error.PlanError.TheVariants.{Refused, Memory}
+use Rattle.project_sources.specs.declared.plan_error.PlanError.{PlanError}
+use Rattle.project_sources.specs.declared.plan_error.PlanError.TheVariants.{Refused, Memory}
 use Rattle.project_model.proofs.Alphabets.{numbers_distinct, put}
 use Rattle.project_definitions.proofs.Built.{All-front}
 use Rattle.project_definitions.proofs.Demanded.{demand_fault}

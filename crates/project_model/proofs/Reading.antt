@@ -21,8 +21,8 @@ use Rattle.project_sources.specs.Laws.{all_readers as readers}
 use Rattle.project_sources.proofs.Once.{files_say_one, text_one, all_exact}
 use Rattle.project_model.specs.Answers.{IsManifestFile, IsNoManifest, IsPlanBy, IsPlanOf, IsProjectRead, IsRefusal, IsRefusedBy, IsTextFault, said_of}
 use Rattle.project_model.specs.Plans.{PlanView}
-use Rattle.project_files.specs.declared.plan_error.PlanError.{PlanError}
-use Rattle.project_files.specs.declared.plan_error.PlanError.TheVariants.{Refused, Memory}
+use Rattle.project_sources.specs.declared.plan_error.PlanError.{PlanError}
+use Rattle.project_sources.specs.declared.plan_error.PlanError.TheVariants.{Refused, Memory}
 use Rattle.project_model.proofs.Alphabets.{numbers_held, put}
 
 -- why a content has no text

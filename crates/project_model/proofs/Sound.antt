@@ -17,7 +17,7 @@ use Rattle.expr_leaves.specs.Mapped.{mapped}
 use Rattle.project_meaning.specs.Trees.{Piece, letter, flag, Form, sides, pairs, Entry, Lexicon, Body, xfst, lexc, twolc}
 use Rattle.project_meaning.specs.Leaves.{Leaf, symbol, named, form_symbols, leaf_of, piece_symbols, resolved, resolved_entry, resolved_form, resolved_grammar, resolved_lexicon, resolved_piece, symbol_in, symbol_of, symbols_in, written as text_of}
 use Rattle.project_meaning.specs.Lexicons.{piece_by}
-use Rattle.lexicon_spelling.specs.Mapped.{mapped_entry, mapped_form, mapped_lexicon}
+use Rattle.expr_spelling.specs.Mapped.{mapped_entry, mapped_form, mapped_lexicon}
 use Rattle.project_sources.specs.Built.{BodyIsBuilt, BodyIsBuiltBy, FormIsBuiltBy, LexiconIsBuiltBy, PieceIsBuiltBy}
 use Rattle.project_definitions.specs.Bodies.{BodyFitsBy, IsFormed, mapped_body}
 use Rattle.project_definitions.specs.Plain.{body_of}

@@ -15,11 +15,11 @@ use Rattle.regex_ast.specs.declared.twolc.PairPart.TheVariants.{Atom, Named}
 use Rattle.regex_ast.specs.declared.twolc.PairSide.{PairSide}
 use Rattle.regex_ast.specs.declared.twolc.PairSide.TheVariants.{Zero, Any, One, Member}
 use Rattle.regex_ast.specs.declared.twolc.TwoLevelRule.{TwoLevelRule}
-use Rattle.twolc_atoms.specs.Views.{pair_view, part_view, side_view}
+use Rattle.twolc_expressions.specs.Views.{pair_view, part_view, side_view}
 use Rattle.twolc_expressions.specs.Reading.{pair_term}
 use Rattle.twolc_reader.specs.Reading.{grammar_view}
-use Rattle.twolc_rules.specs.Reading.{context_views, rule_view}
-use Rattle.twolc_statements.specs.Reading.{definition_view}
+use Rattle.twolc_reader.specs.RuleReading.{context_views, rule_view}
+use Rattle.twolc_reader.specs.StatementReading.{definition_view}
 
 side_is : (side : PairSide Raw) → side_view side ≡ side_of side
 side_is Zero = refl

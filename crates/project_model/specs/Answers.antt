@@ -12,12 +12,12 @@ use Rattle.project_meaning.specs.Projects.{Written}
 use Rattle.project_sources.specs.Sources.{FilesGloss, HasText, Said, FilesSay}
 use Rattle.project_sources.specs.Faults.{fault, HasNoText, SaidRow, SaidFault, read_rows, FirstFault}
 use Rattle.project_sources.specs.Laws.{all_readers}
-pub use Rattle.project_files.specs.Refusals.{IsRefusedBy, IsRefusal}
+pub use Rattle.project_sources.specs.Refusals.{IsRefusedBy, IsRefusal}
 use Rattle.project_definitions.specs.Plain.{body_of}
 use Rattle.project_model.specs.Plans.{PlanView}
 use Rattle.project_model.specs.Stands.{Stands}
-use Rattle.project_files.specs.declared.plan_error.PlanError.{PlanError}
-use Rattle.project_files.specs.declared.plan_error.PlanError.TheVariants.{Refused, Memory}
+use Rattle.project_sources.specs.declared.plan_error.PlanError.{PlanError}
+use Rattle.project_sources.specs.declared.plan_error.PlanError.TheVariants.{Refused, Memory}
 use Rattle.project_model.specs.declared.written.WrittenDefine.{WrittenDefine}
 
 -- the files have no fault by the rows that are read from sources, and the plan stands for what they say, and has their glosses

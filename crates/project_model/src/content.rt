@@ -6,8 +6,7 @@ ghost use Rattle.project_sources.specs.Sources.{HasText};
 ghost use Rattle.project_model.specs.Answers.{IsRefusedBy};
 
 use fsm_base::{Text, TextError, normal};
-use project_files::{PlanError, refused};
-use project_sources::MOST_BYTES;
+use project_sources::{MOST_BYTES, PlanError, refused};
 use regex_ast::Why;
 use std::alloc::Global;
 

@@ -14,7 +14,7 @@ ghost use Rattle.project_definitions.specs.Plain.{body_of};
 ghost use Rattle.grammar_pairs.specs.Plain.{grammar_of};
 ghost use Rattle.twolc_grammar.specs.Sections.{ReadsAs as SaysGrammar};
 ghost use Rattle.project_model.specs.Files.{HasDefined, HasGlossed, HasPut, IsUnread};
-ghost use Rattle.lexicon_resolution.specs.Plain.{lexicon_of};
+ghost use Rattle.name_resolution.specs.Plain.{lexicon_of};
 ghost use Rattle.regex_ast.specs.declared.fault.Fault.{Fault};
 ghost use Rattle.regex_reader.specs.Files.{FaultAt, ReadsAs, statement_of};
 
@@ -24,8 +24,8 @@ use fsm_base::Text;
 use interlinear::GlossTable;
 use lexc_reader::read_lexc;
 use project_definitions::Body;
-use project_files::{PlanError, Sources, refused};
 use project_manifest::{Declaration, ManifestLine};
+use project_sources::{PlanError, Sources, refused};
 use regex_ast::{Define, Grammar, Lexicon, Raw, ReadError, Why};
 use regex_reader::read_xfst;
 use std::alloc::{AllocError, Global};

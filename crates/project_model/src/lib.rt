@@ -19,7 +19,7 @@ mod written;
 
 pub use plan::Plan;
 pub use project_definitions::{Body, Definition, Demand};
-pub use project_files::{PlanError, Sources};
 pub use project_manifest::{Manifest, read_manifest};
+pub use project_sources::{PlanError, Sources};
 pub use read::{manifest_of, read_project};
 pub use written::WrittenDefine;

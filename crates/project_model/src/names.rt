@@ -7,8 +7,7 @@ ghost use Rattle.project_model.specs.Answers.{IsRefusal, IsRefusedBy, written_of
 
 use crate::written::WrittenDefine;
 use name_resolution::Names;
-use project_files::{PlanError, refused};
-use project_sources::MOST_NAMES;
+use project_sources::{MOST_NAMES, PlanError, refused};
 use regex_ast::Why;
 use std::alloc::Global;
 

@@ -29,14 +29,14 @@ use crate::unknown::first_unknown;
 use crate::written::WrittenDefine;
 use expr_kinds::Form;
 use fsm_base::{Sym, SymbolTable, Text};
-use grammar_resolution::{is_resolved_by_number, resolve_grammar};
 use interlinear::GlossTable;
-use lexicon_resolution::{are_resolved_by_number, resolve_lexicons};
-use name_resolution::{Names, resolve};
+use name_resolution::{
+    Names, are_resolved_by_number, is_resolved_by_number, resolve, resolve_grammar,
+    resolve_lexicons,
+};
 use project_definitions::{Body, Definition, Demand, first_failing, forms_of, order_in};
-use project_files::{PlanError, refused};
 use project_manifest::ManifestLine;
-use project_sources::MOST_SYMBOLS;
+use project_sources::{MOST_SYMBOLS, PlanError, refused};
 use regex_ast::{Atom, Raw, Why};
 use std::alloc::{AllocError, Global};
 use std::marker::Model;

@@ -8,8 +8,8 @@ use crate::content::text_of_file;
 use crate::files::{Contents, contents_of};
 use crate::plan::{Plan, plan_of};
 use fsm_base::SymbolTable;
-use project_files::{PlanError, Sources, refused};
 use project_manifest::{Manifest, read_manifest};
+use project_sources::{PlanError, Sources, refused};
 use regex_ast::{ReadError, Why};
 use std::alloc::Global;
 

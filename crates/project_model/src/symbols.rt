@@ -3,22 +3,22 @@ ghost use Rattle.std.specs.List.{flat_map};
 ghost use Rattle.regex_ast.specs.Terms.{term};
 ghost use Rattle.expr_leaves.specs.Leaves.{listed, seen};
 ghost use Rattle.expr_leaves.specs.Mapped.{mapped};
-ghost use Rattle.lexicon_resolution.specs.Plain.{form_of, lexicon_of, piece_of};
+ghost use Rattle.name_resolution.specs.Plain.{form_of, lexicon_of, piece_of};
 ghost use Rattle.project_meaning.specs.Leaves.{forms_in, leaf_of, resolved, symbol, symbol_in, symbol_of, symbols_in};
 ghost use Rattle.project_sources.specs.Limits.{most_symbols};
 ghost use Rattle.project_model.specs.Answers.{written_of};
 ghost use Rattle.project_meaning.specs.Trees.{sides};
 ghost use Rattle.project_model.specs.Gathered.{gathered, symbols_of_all};
-ghost use Rattle.lexicon_resolution.specs.Symbols.{symbol_beside, symbols_at, symbols_in_piece};
+ghost use Rattle.name_resolution.specs.Symbols.{symbol_beside, symbols_at, symbols_in_piece};
 ghost use Rattle.project_definitions.specs.Plain.{body_of};
 
 use crate::gathered::GatheredSymbols;
 use crate::written::WrittenDefine;
 use expr_leaves::leaves;
 use fsm_base::SymbolTable;
-use grammar_resolution::{grammar_leaves, symbols_are_of_leaves};
-use lexicon_resolution::symbols_are_of_forms;
-use name_resolution::{Names, symbol_text};
+use name_resolution::{
+    Names, grammar_leaves, symbol_text, symbols_are_of_forms, symbols_are_of_leaves,
+};
 use project_definitions::Body;
 use project_sources::MOST_SYMBOLS;
 use regex_ast::{Entry, Expr, Form, Lexicon, Piece, Raw};

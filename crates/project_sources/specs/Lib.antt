@@ -4,3 +4,6 @@ pub mod Built
 pub mod Faults
 pub mod Edits
 pub mod Laws
+pub mod BuiltLaws
+pub mod Refusals
+pub mod Files

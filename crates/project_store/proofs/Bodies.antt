@@ -11,8 +11,8 @@ use Rattle.regex_ast.specs.Terms.{Term}
 use Rattle.expr_kinds.specs.Built.{IsBuilt, IsBuiltBy}
 use Rattle.expr_leaves.specs.Leaves.{leaves_in}
 use Rattle.expr_leaves.specs.Mapped.{mapped}
-use Rattle.lexicon_spelling.specs.Laws.{AreBuilt, FormIsBuilt, PieceIsBuilt}
-use Rattle.lexicon_spelling.specs.Mapped.{mapped_entry, mapped_form, mapped_lexicon}
+use Rattle.expr_spelling.specs.LexiconLaws.{AreBuilt, FormIsBuilt, PieceIsBuilt}
+use Rattle.expr_spelling.specs.Mapped.{mapped_entry, mapped_form, mapped_lexicon}
 use Rattle.name_resolution.proofs.Mapped.{mapped_twice}
 use Rattle.network_centres.proofs.Mapped.{centres_in-mapped}
 use Rattle.project_meaning.specs.Centres.{centres_in}

@@ -15,8 +15,8 @@ use Rattle.fsm_base.specs.declared.letters.Pair.{Pair}
 use Rattle.interlinear.specs.Glosses.{Entry as Glossed}
 use Rattle.project_meaning.specs.Projects.{Project}
 use Rattle.reply_meaning.specs.Replies.{RepliesToWord, answered, no_net, no_symbol, Related, answer_bytes, headed}
-use Rattle.fst_relation.specs.Relation.{IsRelated}
-use Rattle.fst_relation.proofs.Used.{upper_used, lower_used}
+use Rattle.fst_algebra.specs.Relation.{IsRelated}
+use Rattle.fst_algebra.proofs.Used.{upper_used, lower_used}
 use Rattle.lookup.specs.Answering.{UpperTexts, LowerTexts}
 use Rattle.project_store.specs.Networks.{Shows, TextsTo}
 use Rattle.project_model.proofs.Alphabets.{cases_bool}

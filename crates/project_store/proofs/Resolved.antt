@@ -4,8 +4,8 @@ use Rattle.regex_ast.specs.declared.expr.Raw.{Raw}
 use Rattle.project_meaning.specs.Trees.{Piece, letter, flag, Form, sides, pairs, Entry, Lexicon}
 use Rattle.project_meaning.specs.Leaves.{Leaf, leaf_of, resolved_entry, resolved_form, resolved_lexicon, resolved_piece, symbol_of}
 use Rattle.project_meaning.specs.Lexicons.{piece_by}
-use Rattle.lexicon_spelling.specs.Laws.{ResolvedAreMapped}
-use Rattle.lexicon_spelling.specs.Mapped.{mapped_entry, mapped_form, mapped_lexicon}
+use Rattle.expr_spelling.specs.LexiconLaws.{ResolvedAreMapped}
+use Rattle.expr_spelling.specs.Mapped.{mapped_entry, mapped_form, mapped_lexicon}
 
 -- functions that are the same on each element
 same_map : {X Y : Type 0} (f g : X → Y) → ((x : X) → f x ≡ g x) → (xs : List X) → map f xs ≡ map g xs

@@ -14,7 +14,7 @@ use Rattle.fsm_base.proofs.AlphabetLemmas.{text_of-pair}
 use Rattle.fsm_base.specs.declared.letters.Pair.{Pair}
 use Rattle.fsm_base.specs.declared.letters.Sym.{Sym}
 use Rattle.fsa.specs.Automaton.{Automaton}
-use Rattle.fst_relation.specs.Relation.{IsRelated}
+use Rattle.fst_algebra.specs.Relation.{IsRelated}
 use Rattle.regex_ast.specs.Terms.{Term}
 use Rattle.regex_ast.specs.declared.expr.Atom.{Atom}
 use Rattle.regex_ast.specs.declared.expr.Raw.{Raw}
@@ -33,9 +33,9 @@ use Rattle.network_centres.proofs.Within.{built_within}
 use Rattle.network_build.specs.Networks.{BodyHasEmptyCentre, IsRelationOf}
 use Rattle.network_build.proofs.Built.{built_both}
 use Rattle.network_lexicons.specs.Plain.{symbol_in}
-use Rattle.lexicon_spelling.specs.Mapped.{mapped_lexicon}
+use Rattle.expr_spelling.specs.Mapped.{mapped_lexicon}
 use Rattle.project_store.proofs.Resolved.{resolved_mapped}
-use Rattle.lexicon_spelling.proofs.Spelling.{lexicons_spelled}
+use Rattle.expr_spelling.proofs.LexiconSpelling.{lexicons_spelled}
 use Rattle.project_meaning.specs.Centres.{HasOwnEmptyCentre, centres_in}
 use Rattle.grammar_pairs.specs.Laws.{HasLeaves}
 use Rattle.grammar_pairs.specs.Mapped.{mapped_grammar}

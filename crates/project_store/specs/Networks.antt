@@ -4,7 +4,7 @@ use Rattle.fsm_base.specs.declared.letters.Sym.{Sym}
 use Rattle.fsm_base.specs.declared.letters.Pair.{Pair}
 use Rattle.fsm_base.specs.Alphabet.{IsAlphabet, texts_of, spelled}
 use Rattle.fsa.specs.Automaton.{Automaton}
-use Rattle.fst_relation.specs.Relation.{IsRelated}
+use Rattle.fst_algebra.specs.Relation.{IsRelated}
 use Rattle.project_meaning.specs.Projects.{Project, Defines}
 use Rattle.project_meaning.specs.Meaning.{Meaning}
 use Rattle.interlinear.specs.Glosses.{Entry}

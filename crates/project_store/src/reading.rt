@@ -10,8 +10,8 @@ use crate::ready::Ready;
 use crate::store_error::StoreError;
 use fsm_base::SymbolTable;
 use project_definitions::Definition;
-use project_files::{PlanError, Sources};
 use project_model::read_project;
+use project_sources::{PlanError, Sources};
 use regex_ast::{Fault, Why};
 use std::alloc::{AllocError, Global};
 

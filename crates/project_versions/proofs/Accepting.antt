@@ -5,9 +5,9 @@ use Rattle.editor_meaning.specs.Editing.{most_edits}
 use Rattle.fsm_io.specs.Folders.{Files}
 use Rattle.project_edits.specs.Applied.{edit_of}
 use Rattle.project_edits.specs.declared.edit.Edit.{Edit}
-use Rattle.project_files.specs.Refusals.{IsRefusedBy}
-use Rattle.project_files.specs.declared.plan_error.PlanError.{PlanError}
-use Rattle.project_files.specs.declared.plan_error.PlanError.TheVariants as plans
+use Rattle.project_sources.specs.Refusals.{IsRefusedBy}
+use Rattle.project_sources.specs.declared.plan_error.PlanError.{PlanError}
+use Rattle.project_sources.specs.declared.plan_error.PlanError.TheVariants as plans
 use Rattle.project_sources.specs.Edits.{Apply, Changes, Version, held_in}
 use Rattle.project_sources.specs.Faults.{rows}
 use Rattle.project_sources.specs.Laws.{all_readers}

@@ -3,8 +3,8 @@ use Rattle.std.specs.Prelude.{◌<◌, ◌≤◌, [], ◌∷◌, Err}
 use Rattle.editor_meaning.specs.Editing.{most_edits}
 use Rattle.project_edits.specs.Applied.{edit_of}
 use Rattle.project_edits.specs.declared.edit.Edit.{Edit}
-use Rattle.project_files.specs.declared.plan_error.PlanError.{PlanError}
-use Rattle.project_files.specs.declared.plan_error.PlanError.TheVariants as plans
+use Rattle.project_sources.specs.declared.plan_error.PlanError.{PlanError}
+use Rattle.project_sources.specs.declared.plan_error.PlanError.TheVariants as plans
 use Rattle.project_sources.specs.Edits.{Changes, Version}
 use Rattle.project_sources.specs.Faults.{rows}
 use Rattle.project_sources.specs.Laws.{all_readers}

@@ -1,4 +1,4 @@
-use project_files::PlanError;
+use project_sources::PlanError;
 use project_store::StoreError;
 use regex_ast::Fault;
 use std::alloc::AllocError;

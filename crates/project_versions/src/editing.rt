@@ -14,7 +14,7 @@ use crate::rebuilt::rebuilt_names;
 use crate::version::Version;
 use fsm_base::Text;
 use project_edits::{Edit, apply};
-use project_files::Sources;
+use project_sources::Sources;
 use project_store::{StoreError, project_of};
 use std::alloc::Global;
 

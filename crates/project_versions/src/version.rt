@@ -19,7 +19,7 @@ use fsm_base::Text;
 use lookup::Net;
 use lookup_answers::Direction;
 use network_build::Compiled;
-use project_files::Sources;
+use project_sources::Sources;
 use project_store::{Project, Ready, gloss_in, reply_in};
 use reply_text::no_net;
 use std::alloc::{AllocError, Global};

@@ -3,7 +3,7 @@ use Rattle.std.proofs.Common.{◌≡◌, ℕ, ◌≢◌, List, [], ◌∷◌, �
 use mathlib.Core.Option.{some}
 use lib.ListN.{get_elem?}
 use Rattle.atomic_table.proofs.Lists.{at_set, at_snoc}
-use Rattle.publish_history.specs.Published.{Board}
+use Rattle.publish_board.specs.Published.{Board}
 use Rattle.publish_board.specs.Rule.{Knows, AllKnow}
 
 know_set : (b : Board) (views : List (Option Board)) (seat : ℕ) (w : Option Board) → AllKnow b views → Knows b w → AllKnow b (set views seat w)

@@ -1,2 +1,4 @@
 pub mod Knowing
 pub mod Events
+pub mod Beginnings
+pub mod Adding

@@ -3,7 +3,7 @@ use Rattle.std.specs.Prelude.{◌≡◌, ℕ, ◌+◌, List, [], ◌∷◌, ◌+
 use Rattle.live_core.specs.declared.event.Event.TheVariants.{Publish, Enter, Learn}
 use Rattle.live_core.specs.declared.event.Outcome.TheVariants.{Published, Answered, Learnt}
 use Rattle.live_core.specs.Machine.{Live, after, after_all, outcome, outcomes}
-use Rattle.publish_history.specs.Published.{Board}
+use Rattle.publish_board.specs.Published.{Board}
 
 -- the list ends with x
 abbrev pub EndsWith : {X : Type 0} → List X → X → Type 0

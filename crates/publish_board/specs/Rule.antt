@@ -2,7 +2,7 @@
 use Rattle.std.specs.Prelude.{◌≡◌, ℕ, List, Option, IfSome}
 use mathlib.Core.Option.{some}
 use lib.ListN.{get_elem?}
-use Rattle.publish_history.specs.Published.{Board}
+use Rattle.publish_board.specs.Published.{Board}
 
 abbrev pub Knows : Board → Option Board → Type 0
 Knows b known = IfSome known (λ a. a ≡ b)

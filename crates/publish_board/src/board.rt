@@ -4,11 +4,12 @@ ghost use Rattle.left_right.specs.Sides.{view};
 ghost use Rattle.publish_board.specs.Boards.{seated};
 
 use crate::editor::Editor;
+use crate::history::History;
 use crate::page::Page;
+use crate::release::Release;
 use crate::rule::PageWriter;
 use crate::seat::Seat;
 use crate::steps::{again, reader_of, show, writer_of};
-use publish_history::{History, Release};
 use std::alloc::{AllocError, Global};
 use std::sync::{Arc, Wait};
 

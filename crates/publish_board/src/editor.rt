@@ -1,17 +1,18 @@
 ghost use Rattle.std.specs.Prelude.{◌≡◌, ◌+◌, ◌++◌, ◌∷◌, [], Some, IfOk, OnErr, length};
 ghost use Rattle.std.specs.Arc.{arc_value};
 ghost use Rattle.left_right.specs.Sides.{view};
-ghost use Rattle.publish_history.specs.Histories.{IsNumbered};
-ghost use Rattle.publish_history.specs.Published.{published};
+ghost use Rattle.publish_board.specs.Histories.{IsNumbered};
+ghost use Rattle.publish_board.specs.Published.{published};
 ghost use Rattle.publish_board.specs.Boards.{IsPublish};
 
+use crate::history::{History, Whole};
 use crate::page::{Page, Sheet};
+use crate::release::Release;
 use crate::rule::{Law, PageWriter};
 use crate::steps::show;
 use core::mem::replace_with;
 use crossbeam_utils::rule::Protocol;
 use left_right::writer::Writer;
-use publish_history::{History, Release, Whole};
 use std::alloc::AllocError;
 use std::marker::Model;
 use std::sync::{Arc, Wait};
@@ -30,7 +31,7 @@ pub struct EditorOf<V: Release, T: Sheet<V>, P: Protocol<T, Option<History<V>>>>
 impl<V: Release, T: Sheet<V>, P: Protocol<T, Option<History<V>>>> Model for EditorOf<V, T, P> {
     ghost use Rattle.std.specs.Prelude.{◌≡◌, Some};
     ghost use Rattle.left_right.specs.Sides.{view as place_view};
-    ghost use Rattle.publish_history.specs.Published.{Published};
+    ghost use Rattle.publish_board.specs.Published.{Published};
 
     ghost Value = { Published V };
 
@@ -52,7 +53,7 @@ pub struct ClosedOf<V: Release, T: Sheet<V>, P: Protocol<T, Option<History<V>>>>
 
 impl<V: Release, T: Sheet<V>, P: Protocol<T, Option<History<V>>>> Model for ClosedOf<V, T, P> {
     ghost use Rattle.std.specs.Prelude.{◌≡◌};
-    ghost use Rattle.publish_history.specs.Published.{Published};
+    ghost use Rattle.publish_board.specs.Published.{Published};
 
     ghost Value = { Published V };
 
@@ -70,7 +71,7 @@ pub struct Note<'a, V: Release> {
 
 impl<'a, V: Release> Model for Note<'a, V> {
     ghost use Rattle.std.specs.Prelude.{◌≡◌};
-    ghost use Rattle.publish_history.specs.Published.{Published};
+    ghost use Rattle.publish_board.specs.Published.{Published};
 
     ghost Value = { Published V };
 

@@ -7,17 +7,24 @@
 //!   them.
 //! - [`Seat::enter`]: the seat takes up what is published. [`Seat::learn`]: it takes up the last value of a closed board.
 //!   [`Seat::value`], [`Seat::seen`]: the value that it has, and its number.
-//! - [`Release`]: what can be published.
+//! - [`Release`]: what can be published: a value that has a number.
+//!
+//! Inside, `history` has what is published: values in order, and then that it is closed (`specs/Histories.antt`). Proofs alone see the
+//! values; at run time a history is one number, its length. A `History` is what adds to it, a `Beginning` has values with which it
+//! began, as they were seen at some time, and a `Whole` all values of one that was closed.
 #![tactic(auto)]
 
 mod board;
 mod editor;
+mod history;
+mod law;
 mod page;
+mod release;
 mod rule;
 mod seat;
 mod steps;
 
 pub use board::open;
 pub use editor::{Closed, ClosedOf, Editor, EditorOf, Note};
-pub use publish_history::Release;
+pub use release::Release;
 pub use seat::Seat;

@@ -2,8 +2,9 @@ ghost use Rattle.std.specs.Prelude.{◌≡◌, ◌<◌, IfOk, length};
 ghost use Rattle.std.specs.Arc.{arc_value};
 ghost use Rattle.publish_board.specs.Boards.{EndsWith};
 
+use crate::history::Beginning;
+use crate::release::Release;
 use left_right::Absorb;
-use publish_history::{Beginning, Release};
 use std::alloc::AllocError;
 use std::marker::Model;
 use std::sync::Arc;
@@ -18,7 +19,7 @@ pub struct Page<V: Release> {
 impl<V: Release> Model for Page<V> {
     ghost use Rattle.std.specs.Prelude.{◌≡◌, length};
     ghost use Rattle.std.specs.Arc.{arc_value};
-    ghost use Rattle.publish_history.specs.Published.{Published};
+    ghost use Rattle.publish_board.specs.Published.{Published};
     ghost use Rattle.publish_board.specs.Boards.{EndsWith};
 
     ghost Value = { Published V };
@@ -84,7 +85,7 @@ impl<V: Release> Absorb<Page<V>> for Page<V> {
 
 /// What a board of values `V` shows: a page. A struct with a writer of pages as a field has to be generic in what is shown.
 pub trait Sheet<V>: Absorb<Self> + Drop {
-    ghost use Rattle.publish_history.specs.Published.{Published};
+    ghost use Rattle.publish_board.specs.Published.{Published};
 
     ghost shows: { Self → Published V };
 }

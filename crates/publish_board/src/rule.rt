@@ -1,11 +1,12 @@
 //! The rule under which left_right is used: whoever knows which board's values are shown is right. A view is that board, or
 //! nothing yet.
+use crate::history::History;
 use crate::page::Page;
+use crate::release::Release;
 use atomic_table::{Join, Split};
 use crossbeam_utils::rule::{Outcome, Protocol};
 use left_right::reader::Reader;
 use left_right::writer::Writer;
-use publish_history::{History, Release};
 
 /// The rule.
 pub struct Law;

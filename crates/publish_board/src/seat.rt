@@ -1,15 +1,15 @@
 ghost use Rattle.std.specs.Prelude.{◌≡◌, ◌+◌, ◌-◌, ◌^◌, ◌<◌, Some, length, min};
 ghost use Rattle.left_right.specs.Sides.{view};
 ghost use mathlib.Core.List.{IsPrefix};
-ghost use Rattle.publish_history.specs.Histories.{IsNumbered};
+ghost use Rattle.publish_board.specs.Histories.{IsNumbered};
 ghost use Rattle.publish_board.specs.Boards.{EndsWith, IsEnter, IsLearn, seated};
 
 use crate::editor::Note;
 use crate::page::Page;
+use crate::release::Release;
 use crate::rule::PageReader;
 use crate::steps::{again, look};
 use core::mem::replace_with;
-use publish_history::Release;
 use std::marker::Model;
 use std::sync::Wait;
 

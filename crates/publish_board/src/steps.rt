@@ -4,9 +4,9 @@ ghost use Rattle.left_right.specs.Sides.{view};
 ghost use Rattle.publish_board.specs.Rule.{Knows};
 
 use crate::page::Page;
+use crate::release::Release;
 use crate::rule::{Finds, Learns, PageReader, PageWriter, Shows, Tells};
 use left_right::writer::Writer;
-use publish_history::Release;
 use std::alloc::{AllocError, Global};
 use std::sync::Wait;
 

@@ -17,7 +17,7 @@ use Rattle.lang_algebra.proofs.Made.{IsLang-same}
 use Rattle.replace_words.specs.declared.marks.Mark.{Mark}
 use Rattle.replace_words.specs.declared.marks.Mark.TheVariants.{Open, Close}
 use Rattle.replace_words.specs.Filled.{LeavesNoGap, NoTwo}
-use Rattle.replace_langs.proofs.Sets.{accepted_by, accepted_letters, over_front, over_back}
+use Rattle.replace_rules.proofs.Sets.{accepted_by, accepted_letters, over_front, over_back}
 use Rattle.replace_rules.specs.declared.rules.LangContext.{LangContext}
 use Rattle.replace_insertions.specs.Marked.{LeftAt, RightAt, IsBetween, IsAskedAt, AreAskedIn}
 

@@ -19,7 +19,7 @@ use Rattle.replace_words.specs.Filled.{IsFree, NoTwo, LeavesNoGap}
 use Rattle.replace_insertions.specs.declared.kinds.MarkKind.{MarkKind}
 use Rattle.replace_insertions.specs.declared.kinds.MarkKind.TheVariants.{Free, Opening, Closing}
 use Rattle.replace_insertions.specs.Kinds.{is_free, opens, closes, is_of, EndsIn, BeginsWith, MeetsNowhere}
-use Rattle.replace_langs.proofs.Sets.{accepted_letters, over_front, over_back}
+use Rattle.replace_rules.proofs.Sets.{accepted_letters, over_front, over_back}
 
 -- those of a list that have a property, one after another
 module _ (P : Bound Mark → Type 0) where

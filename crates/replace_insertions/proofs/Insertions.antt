@@ -23,8 +23,8 @@ use Rattle.replace_words.specs.Filled.{InsertsOnly, IsFilledWord}
 use Rattle.replace_words.specs.Places.{HoldsBetween, ReplacesAt, AppliesAt, IsRewrittenAt}
 use Rattle.replace_words.specs.Marked.{upper_of, lower_of, symbol_of, bracket, ups, lows, IsBlock}
 use Rattle.replace_words.proofs.Inserted.{insertions_are_marked}
-use Rattle.replace_langs.specs.Letters.{IsMarkOf}
-use Rattle.replace_langs.proofs.Sets.{accepted_letters}
+use Rattle.replace_rules.specs.Letters.{IsMarkOf}
+use Rattle.replace_rules.proofs.Sets.{accepted_letters}
 use Rattle.replace_rules.specs.declared.rules.LangContext.{LangContext}
 use Rattle.replace_insertions.specs.Insertions.{AllowsAt, InsertsBy, AsksBy}
 use Rattle.replace_insertions.specs.Marked.{inserting, AreAskedIn, IsBlockOf, AreBlocksOf, HoldsEverywhere}

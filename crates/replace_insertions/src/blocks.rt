@@ -12,7 +12,7 @@ use fsa_rational::{concat, star, union};
 use fsm_base::{Bound, Sym};
 use lang_algebra::{Lang, one_letter};
 use network_algebra::word;
-use replace_langs::{Written, in_marks};
+use replace_rules::{Written, in_marks};
 use replace_words::Mark;
 use std::alloc::{AllocError, Global};
 

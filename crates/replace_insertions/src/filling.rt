@@ -10,8 +10,7 @@ use crate::gaps::{leaves_no_gap, leaves_no_two};
 use fsa::Fsa;
 use fsm_base::Bound;
 use lang_algebra::Lang;
-use replace_langs::{any, kept_between, left_words, over, right_words};
-use replace_rules::{LangContext, Side};
+use replace_rules::{LangContext, Side, any, kept_between, left_words, over, right_words};
 use replace_words::Mark;
 use std::alloc::{AllocError, Global};
 

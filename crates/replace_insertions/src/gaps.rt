@@ -9,7 +9,7 @@ use crate::kinds::{MarkKind, marks_of};
 use fsa_rational::concat;
 use fsm_base::Bound;
 use lang_algebra::{Lang, one_letter};
-use replace_langs::{any, over};
+use replace_rules::{any, over};
 use replace_words::Mark;
 use std::alloc::{AllocError, Global};
 

@@ -1,7 +1,7 @@
 ghost use Rattle.std.specs.Prelude.{IfOk};
 ghost use Rattle.word_relations.specs.Relations.{AreSame};
 ghost use Rattle.word_relations.specs.Words.{IsDistinct, IsOver};
-ghost use Rattle.fst_relation.specs.Relation.{IsRelated};
+ghost use Rattle.fst_algebra.specs.Relation.{IsRelated};
 ghost use Rattle.network_algebra.specs.Networks.{UsesSymbols};
 ghost use Rattle.expr_meaning.specs.Replacement.{IsRewritten};
 ghost use Rattle.replace_words.specs.Places.{IsRewrittenAt};
@@ -14,8 +14,7 @@ use fsa::Fsa;
 use fsm_base::{Bound, Pair, Sym};
 use lang_algebra::Lang;
 use network_algebra::word;
-use replace_langs::{every_mark, network_of};
-use replace_rules::{LangContext, Side};
+use replace_rules::{LangContext, Side, every_mark, network_of};
 use std::alloc::{AllocError, Global};
 
 /// The network of an insertion, over these symbols: it relates an upper word to each lower word with a word of the language put in at

@@ -2,3 +2,7 @@ mod Unions
 mod BlockWords
 mod KeptWords
 mod Relations
+mod Listing
+mod Tables
+pub mod Sets
+mod Paired

@@ -20,8 +20,8 @@ use Rattle.replace_words.specs.declared.marks.Mark.TheVariants.{Copy, Up, Low, S
 use Rattle.replace_words.specs.Places.{HasNoEmptyCentre, HoldsBetween, ReplacesAt, AppliesAt, IsRewrittenAt}
 use Rattle.replace_words.specs.Marked.{ups, lows, sames, bracket, upper_of, lower_of, symbol_of, IsReplacement, IsBlock, IsWellMarked, IsKept}
 use Rattle.replace_words.proofs.Claimed.{rewritings_are_marked}
-use Rattle.replace_langs.specs.Letters.{IsMarkOf}
-use Rattle.replace_langs.proofs.Sets.{accepted_letters}
+use Rattle.replace_rules.specs.Letters.{IsMarkOf}
+use Rattle.replace_rules.proofs.Sets.{accepted_letters}
 use Rattle.replace_rules.specs.declared.rules.LangMap.{LangMap}
 use Rattle.replace_rules.specs.declared.rules.LangContext.{LangContext}
 use Rattle.replace_rules.specs.declared.rules.LangGroup.{LangGroup}

@@ -8,6 +8,7 @@ ghost use Rattle.replace_words.specs.Claims.{At};
 ghost use Rattle.replace_words.specs.Marked.{IsReplacement, IsWellMarked, bracket, ups, lows, sames};
 ghost use Rattle.replace_rules.specs.Places.{IsBody, IsBodyOf, rules_by};
 
+use crate::langs::{Written, in_marks};
 use crate::places::Place;
 use crate::rules::LangMap;
 use fsa::Fsa;
@@ -15,7 +16,6 @@ use fsa_rational::{concat, star, union};
 use fsm_base::{Bound, Sym};
 use lang_algebra::{Lang, one_letter};
 use network_algebra::word;
-use replace_langs::{Written, in_marks};
 use replace_words::Mark;
 use std::alloc::{AllocError, Global};
 

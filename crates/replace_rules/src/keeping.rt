@@ -7,13 +7,14 @@ ghost use Rattle.lang_algebra.specs.Languages.{IsLang};
 ghost use Rattle.replace_words.specs.Marked.{IsKept, LeavesNone};
 ghost use Rattle.replace_rules.specs.Places.{HasCentreIn, Place, rules_by};
 
+use crate::constraints::{kept_between, leaves_none};
+use crate::langs::over;
 use crate::places::Place;
 use crate::rules::LangMap;
 use fsa::Fsa;
 use fsa_rational::union;
 use fsm_base::{Bound, Sym};
 use lang_algebra::Lang;
-use replace_langs::{kept_between, leaves_none, over};
 use replace_words::Mark;
 use std::alloc::{AllocError, Global};
 

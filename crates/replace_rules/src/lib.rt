@@ -3,17 +3,36 @@
 //! expr_meaning (`IsRewritten`, specs/Replacement.antt).
 //!
 //! The construction goes by words of marks (replace_words): first all well-formed ones, and then for each place those that keep what
-//! the rules ask there, made small each time.
+//! the rules ask there, made small each time (Kaplan and Kay, Regular Models of Phonological Rule Systems, 1994).
 //!
 //! - [`LangMap`], [`LangContext`], [`LangGroup`], [`Side`]: rules.
 //! - [`replace`]: the network of groups of rules.
+//!
+//! Languages of words of marks, of which replace_insertions is built, too:
+//!
+//! - [`every_mark`]: all marks of some symbols and so many places, and the edge of the word.
+//! - [`over`]: a language over these letters. [`any`]: all words. [`in_marks`]: the words of a language, each symbol in one mark.
+//! - [`left_words`], [`right_words`]: the words before which, or behind which, a context holds.
+//! - [`kept_between`]: the words that keep what rules ask of a place.
+//! - [`network_of`]: the network of the two sides of the words.
 #![tactic(auto)]
 
 mod blocks;
+mod constraints;
+mod contexts;
 mod keeping;
+mod langs;
+mod letters;
+mod network;
 mod places;
 mod replacing;
+mod rows;
 mod rules;
 
+pub use constraints::kept_between;
+pub use contexts::{left_words, right_words};
+pub use langs::{Written, any, in_marks, over};
+pub use letters::every_mark;
+pub use network::network_of;
 pub use replacing::replace;
 pub use rules::{LangContext, LangGroup, LangMap, Side};

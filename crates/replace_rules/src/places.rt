@@ -4,10 +4,11 @@ ghost use Rattle.lang_algebra.specs.Languages.{IsLang};
 ghost use Rattle.replace_words.specs.Marked.{LeftHolds, RightHolds};
 ghost use Rattle.replace_rules.specs.Places.{choices, place_with, places_of, rules_by};
 
+use crate::contexts::{left_words, right_words};
+use crate::langs::{any, over};
 use crate::rules::{LangContext, LangGroup, LangMap, Side};
 use fsm_base::Bound;
 use lang_algebra::Lang;
-use replace_langs::{any, left_words, over, right_words};
 use replace_words::Mark;
 use std::alloc::{AllocError, Global};
 use std::marker::Model;

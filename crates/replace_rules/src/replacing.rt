@@ -1,23 +1,24 @@
 ghost use Rattle.std.specs.Prelude.{◌≡◌, ◌↔◌, IfOk, List, Contains, length};
 ghost use Rattle.fsm_base.specs.declared.letters.Bound.{Bound};
 ghost use Rattle.replace_words.specs.declared.marks.Mark.{Mark};
-ghost use Rattle.replace_langs.specs.Letters.{IsMarkOf};
+ghost use Rattle.replace_rules.specs.Letters.{IsMarkOf};
 ghost use Rattle.replace_rules.specs.declared.rules.LangGroup.{LangGroup};
 ghost use Rattle.replace_rules.specs.Places.{places_of};
 ghost use Rattle.word_relations.specs.Relations.{AreSame};
 ghost use Rattle.word_relations.specs.Words.{IsDistinct};
-ghost use Rattle.fst_relation.specs.Relation.{IsRelated};
+ghost use Rattle.fst_algebra.specs.Relation.{IsRelated};
 ghost use Rattle.network_algebra.specs.Networks.{UsesSymbols};
 ghost use Rattle.expr_meaning.specs.Replacement.{IsRewritten};
 ghost use Rattle.replace_rules.specs.Rules.{AppliesBy, AreMapsOver, ReplacesBy};
 
 use crate::blocks::well_marked;
 use crate::keeping::kept_words;
+use crate::letters::every_mark;
+use crate::network::network_of;
 use crate::places::{Place, places_of};
 use crate::rules::LangGroup;
 use fsa::Fsa;
 use fsm_base::{Bound, Pair, Sym};
-use replace_langs::{every_mark, network_of};
 use replace_words::Mark;
 use std::alloc::{AllocError, Global};
 

@@ -2,7 +2,7 @@
 -- each as it is.
 use Rattle.std.proofs.Common.{◌≡◌, ◌&&◌, Bool, true, false, IsTrue, All, refl, sym, ap, subst, ◌∙◌}
 use Rattle.std.proofs.lemmas.Simd.{map-map}
-use Rattle.expr_equality.proofs.Alike.{alike, same}
+use Rattle.body_equality.proofs.Alike.{alike, same}
 use Rattle.expr_kinds.specs.Built.{ContextsAreBuilt, IsBuilt}
 use Rattle.expr_leaves.specs.Mapped.{mapped, mapped_contexts}
 use Rattle.grammar_pairs.specs.Laws.{HasLeaves, pair_passes, part_passes, side_passes}

@@ -16,8 +16,8 @@ use Rattle.fsm_base.specs.declared.letters.Sym.{Sym as Symbol}
 use Rattle.regex_ast.specs.declared.expr.Atom.{Atom}
 use Rattle.regex_ast.specs.declared.expr.Atom.TheVariants.{Sym, Name}
 use Rattle.expr_kinds.specs.Atoms.{is_leaf_at, is_symbol_of}
-use Rattle.expr_equality.specs.Renumbered.{number_at, renumbered}
-use Rattle.expr_equality.specs.declared.renumbering.Renumbering.{Renumbering}
+use Rattle.body_equality.specs.Renumbered.{number_at, renumbered}
+use Rattle.body_equality.specs.declared.renumbering.Renumbering.{Renumbering}
 use Rattle.project_meaning.specs.Leaves.{Leaf, symbol, named, resolved, body_uses_alphabet}
 use Rattle.project_meaning.specs.Projects.{Definition as Meant, Written, definition_in, names_of}
 use Rattle.project_meaning.specs.Trees.{Body}

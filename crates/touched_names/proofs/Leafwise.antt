@@ -4,21 +4,21 @@ use Rattle.std.proofs.Common.{◌≡◌, ◌↔◌, ◌||◌, Bool, List, [], �
 use Rattle.std.specs.List.{list_any}
 use Rattle.expr_leaves.specs.Alphabet.{uses_alphabet}
 use Rattle.expr_leaves.specs.Mapped.{mapped}
-use Rattle.expr_equality.proofs.Alike.{alike, same}
-use Rattle.expr_equality.proofs.Uses.{uses_mapped}
+use Rattle.body_equality.proofs.Alike.{alike, same}
+use Rattle.body_equality.proofs.Uses.{uses_mapped}
 use Rattle.regex_ast.specs.Terms.{Term}
 use Rattle.regex_ast.specs.declared.expr.Atom.{Atom}
 use Rattle.regex_ast.specs.declared.lexc.Lexicon.{Lexicon as LexiconOf}
-use Rattle.expr_equality.specs.Renumbered.{renumbered}
-use Rattle.expr_equality.specs.declared.renumbering.Renumbering.{Renumbering}
-use Rattle.lexicon_equality.specs.Renumbered.{renumbered_lexicon}
-use Rattle.lexicon_resolution.specs.Plain.{lexicon_of}
+use Rattle.body_equality.specs.Renumbered.{renumbered}
+use Rattle.body_equality.specs.declared.renumbering.Renumbering.{Renumbering}
+use Rattle.body_equality.specs.RenumberedLexicons.{renumbered_lexicon}
+use Rattle.name_resolution.specs.Plain.{lexicon_of}
 use Rattle.name_resolution.proofs.Mapped.{mapped_twice}
 use Rattle.project_meaning.specs.Leaves.{expressions_of}
 use Rattle.project_meaning.specs.Lexicons.{piece_by}
 use Rattle.project_meaning.specs.Trees.{Piece, letter, flag, Form, sides, pairs, Entry, Lexicon, Grammar, Body, xfst, lexc, twolc}
 use Rattle.project_sources.specs.Built.{PieceIsBuiltBy, FormIsBuiltBy, LexiconIsBuiltBy, BodyIsBuiltBy}
-use Rattle.lexicon_spelling.specs.Mapped.{mapped_form, mapped_entry, mapped_lexicon}
+use Rattle.expr_spelling.specs.Mapped.{mapped_form, mapped_entry, mapped_lexicon}
 use Rattle.grammar_pairs.specs.Mapped.{mapped_grammar}
 use Rattle.project_definitions.specs.Bodies.{mapped_body}
 use Rattle.project_definitions.proofs.Bodies.{expressions_mapped}

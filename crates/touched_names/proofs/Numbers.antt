@@ -15,7 +15,7 @@ use Rattle.word_relations.specs.Words.{IsDistinct}
 use Rattle.word_relations.proofs.Members.{Contains-map}
 use Rattle.word_relations.proofs.Places.{Contains-from_slice_get, slice_get_from_Contains, take_more-slice_get}
 use Rattle.name_resolution.proofs.Texts.{has_from_any, with_text-new}
-use Rattle.expr_equality.specs.Renumbered.{number_at}
+use Rattle.body_equality.specs.Renumbered.{number_at}
 use Rattle.project_definitions.proofs.Numbers.{at_number, number_within}
 use Rattle.project_model.proofs.Alphabets.{cases_bool}
 use Rattle.project_meaning.specs.Touched.{AreSameSymbols}

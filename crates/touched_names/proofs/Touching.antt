@@ -7,7 +7,7 @@ use Rattle.word_relations.proofs.Places.{Contains-from_slice_get, slice_get_from
 use Rattle.fsm_base.specs.Alphabet.{texts_of}
 use Rattle.fsm_base.specs.Symbols.{number_of}
 use Rattle.fsm_base.specs.declared.letters.Sym.{Sym as Symbol}
-use Rattle.expr_equality.specs.declared.renumbering.Renumbering.{Renumbering}
+use Rattle.body_equality.specs.declared.renumbering.Renumbering.{Renumbering}
 use Rattle.project_manifest.specs.Lines.{symbols_of}
 use Rattle.project_meaning.specs.Leaves.{body_uses_alphabet, symbols_in}
 use Rattle.project_meaning.specs.Projects.{Definition as Meant, Project, Written, definition_in, names_of}

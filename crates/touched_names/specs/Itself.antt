@@ -1,8 +1,8 @@
 -- The definitions of a project that a change touches by themselves, over numbers.
 use Rattle.std.specs.Prelude.{◌≡◌, ◌⊎◌, ℕ, List, IsTrue, Some, length, map, slice_get}
 use Rattle.fsm_base.specs.Symbols.{number_of}
-use Rattle.expr_equality.specs.Renumbered.{number_at, renumbered}
-use Rattle.expr_equality.specs.declared.renumbering.Renumbering.{Renumbering}
+use Rattle.body_equality.specs.Renumbered.{number_at, renumbered}
+use Rattle.body_equality.specs.declared.renumbering.Renumbering.{Renumbering}
 use Rattle.word_relations.specs.Words.{IsDistinct}
 use Rattle.project_definitions.specs.Bodies.{mapped_body}
 use Rattle.project_definitions.specs.Plain.{body_of}

@@ -14,7 +14,7 @@ use crate::bodies::{body_uses, same_body};
 use crate::places::touched_places;
 use crate::stand::Stand;
 use crate::texts::{are_below, names_in, places_among, texts_in};
-use expr_equality::Renumbering;
+use body_equality::Renumbering;
 use fsm_base::Text;
 use project_definitions::Definition;
 use std::alloc::{AllocError, Global};

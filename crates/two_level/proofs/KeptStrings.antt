@@ -15,7 +15,7 @@ use Rattle.fsa.specs.Automaton.{Automaton, UsesLetter}
 use Rattle.fsa.specs.Language as language
 use Rattle.fsa.specs.Complete.{Complete, Accepts}
 use Rattle.fsa_product.proofs.Turned.{accepts_or_not, accepted_over}
-use Rattle.fst_relation.specs.Relation.{IsRelated}
+use Rattle.fst_algebra.specs.Relation.{IsRelated}
 use Rattle.lang_algebra.specs.Languages.{IsLang}
 use Rattle.regex_ast.specs.declared.twolc.RuleKind.{RuleKind}
 use Rattle.regex_ast.specs.declared.twolc.RuleKind.TheVariants.{Only, Must, Both, Never}

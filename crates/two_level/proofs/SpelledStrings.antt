@@ -9,7 +9,7 @@ use Rattle.fsm_base.specs.declared.letters.Sym.{Sym}
 use Rattle.fsm_base.specs.declared.letters.Pair.{Pair}
 use Rattle.word_relations.specs.Words.{IsOver}
 use Rattle.word_relations.proofs.Members.{Contains-head, Contains-cons_cases, Contains-nil_cases, Contains-map, Contains-map_cases}
-use Rattle.fst_relation.specs.Relation.{uppers, lowers}
+use Rattle.fst_algebra.specs.Relation.{uppers, lowers}
 use Rattle.regex_ast.specs.declared.twolc.RuleKind.{RuleKind}
 use Rattle.regex_ast.specs.declared.twolc.RuleKind.TheVariants.{Only, Must, Both, Never}
 use Rattle.network_sets.proofs.Inside.{over_left, over_right}

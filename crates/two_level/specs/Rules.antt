@@ -5,7 +5,7 @@ use Rattle.fsm_base.specs.declared.letters.Sym.{Sym}
 use Rattle.fsm_base.specs.declared.letters.Pair.{Pair}
 use Rattle.word_relations.specs.Words.{IsOver}
 use Rattle.fsa.specs.Complete.{Accepts}
-use Rattle.fst_relation.specs.Relation.{uppers, lowers}
+use Rattle.fst_algebra.specs.Relation.{uppers, lowers}
 use Rattle.regex_ast.specs.declared.twolc.RuleKind.{RuleKind}
 use Rattle.expr_meaning.specs.Operators.{inner, HoldsLeft, HoldsRight}
 use Rattle.network_algebra.specs.Networks.{all_letters}

@@ -3,7 +3,7 @@ ghost use Rattle.fsm_base.specs.declared.letters.Pair.{Pair};
 ghost use Rattle.word_relations.specs.Words.{IsDistinct, IsOver};
 ghost use Rattle.word_relations.specs.Relations.{AreSame};
 ghost use Rattle.fsa.specs.Language.{Accepts};
-ghost use Rattle.fst_relation.specs.Relation.{IsRelated};
+ghost use Rattle.fst_algebra.specs.Relation.{IsRelated};
 ghost use Rattle.lang_algebra.specs.Languages.{IsLang};
 ghost use Rattle.network_algebra.specs.Networks.{UsesOnly};
 ghost use Rattle.two_level.specs.Rules.{GrammarRelates, IsRuleOver, KeepsAll};

@@ -3,3 +3,4 @@ pub mod Nodes
 pub mod Numbers
 pub mod Tokens
 pub mod Whole
+pub mod KnownTexts

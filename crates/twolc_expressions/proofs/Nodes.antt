@@ -9,7 +9,7 @@ use Rattle.regex_ast.specs.declared.twolc.PairPart.{PairPart}
 use Rattle.regex_ast.proofs.Rows.{term-Ignore, term-Concat, term-Chain}
 use Rattle.expr_leaves.specs.Mapped.{mapped}
 use Rattle.project_meaning.specs.Trees.{Part}
-use Rattle.twolc_atoms.specs.Views.{part_view}
+use Rattle.twolc_expressions.specs.Views.{part_view}
 use Rattle.twolc_grammar.specs.Atoms.{Names}
 use Rattle.twolc_grammar.specs.Expressions.{over_pairs, each_over_pairs, links_over_pairs}
 use Rattle.twolc_expressions.specs.Reading.{pair_term, pair_terms, pair_links}

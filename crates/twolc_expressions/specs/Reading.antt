@@ -10,7 +10,7 @@ use Rattle.regex_grammar.specs.Reading.{whole_at}
 use Rattle.expr_leaves.specs.Mapped.{mapped, mapped_each, mapped_links}
 use Rattle.project_meaning.specs.Trees.{Part}
 use Rattle.twolc_tokens.specs.declared.token.Token.{Token}
-use Rattle.twolc_atoms.specs.Views.{part_view}
+use Rattle.twolc_expressions.specs.Views.{part_view}
 use Rattle.twolc_grammar.specs.Atoms.{Names}
 use Rattle.twolc_grammar.specs.Expressions.{as_xfst, over_pairs, links_over_pairs}
 

@@ -5,9 +5,10 @@ ghost use Rattle.project_meaning.specs.Leaves.{written};
 ghost use Rattle.twolc_expressions.specs.Reading.{IsLink, pair_links, pair_term, pair_terms};
 ghost use Rattle.twolc_grammar.specs.Expressions.{each_over_pairs, links_over_pairs, over_pairs};
 
+use crate::atom::part_in;
+use crate::names::KnownNames;
 use regex_ast::{Expr, Link, PairPart, Raw};
 use std::alloc::{AllocError, Global};
-use twolc_atoms::{KnownNames, part_in};
 
 /// The text of a leaf.
 fn written(leaf: &Raw) -> &str

@@ -4,12 +4,12 @@ ghost use Rattle.twolc_expressions.specs.Reading.{IsFound, expression_in, pair_t
 ghost use Rattle.twolc_grammar.specs.Expressions.{IsExpression, IsPart};
 ghost use Rattle.twolc_grammar.specs.Sections.{tokens_of};
 
+use crate::names::KnownNames;
 use crate::operand::as_xfst;
 use crate::over_pairs::over_pairs;
 use regex_ast::{Expr, PairPart, Raw};
 use regex_parser::read_tokens;
 use std::alloc::{AllocError, Global};
-use twolc_atoms::KnownNames;
 use twolc_tokens::Placed;
 
 /// The expression over pairs that the tokens are where these names are known; `None` where they are none.

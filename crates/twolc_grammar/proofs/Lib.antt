@@ -1,3 +1,4 @@
 mod Examples
 pub mod Once
 mod WholeText
+pub mod Formed

@@ -7,12 +7,12 @@ use Rattle.regex_ast.specs.declared.fault.ReadError.TheVariants.{Fault, Memory}
 use Rattle.regex_ast.specs.declared.twolc.Grammar.{Grammar}
 use Rattle.regex_tokens.specs.declared.token.Ending.{Ending}
 use Rattle.twolc_tokens.specs.declared.token.Placed.{Placed}
-use Rattle.twolc_atoms.specs.Views.{pair_view}
+use Rattle.twolc_expressions.specs.Views.{pair_view}
 use Rattle.twolc_grammar.specs.Atoms.{Names, no_names}
 use Rattle.twolc_grammar.specs.Sections.{within, Says, ended, IsOne, at_end, leads, names_of, nothing_read, tokens_of}
 use Rattle.twolc_grammar.specs.Statements.{Section}
-use Rattle.twolc_statements.specs.Reading.{definition_view, set_view}
-use Rattle.twolc_rules.specs.Reading.{rule_view}
+use Rattle.twolc_reader.specs.StatementReading.{definition_view, set_view}
+use Rattle.twolc_reader.specs.RuleReading.{rule_view}
 use Rattle.twolc_reader.specs.declared.stage.Stage.{Stage as Reached}
 use Rattle.twolc_reader.specs.declared.stage.Stage.TheVariants.{Beginning}
 use Rattle.twolc_reader.specs.Reading.{IsAnswer, IsStep, IsVerdict, LeadsTo, broken_at, grammar_view, may_begin_in, name_of, names_at, names_with, stage_view, state}

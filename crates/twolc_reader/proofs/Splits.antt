@@ -10,7 +10,7 @@ use Rattle.twolc_tokens.specs.declared.token.Placed.{Placed}
 use Rattle.twolc_tokens.specs.declared.token.Token.{Token}
 use Rattle.twolc_tokens.specs.declared.token.Token.TheVariants.{Operator as operator}
 use Rattle.twolc_grammar.specs.Sections.{IsEnded, begins_rule, is_quoted, is_semicolon, tokens_of}
-use Rattle.twolc_statements.proofs.Fronts.{semicolon_is}
+use Rattle.twolc_reader.proofs.Fronts.{semicolon_is}
 use Rattle.twolc_reader.specs.Reading.{IsEndedSplit, IsEndOfRule}
 
 some_place : Placed

@@ -13,13 +13,13 @@ use Rattle.regex_ast.specs.declared.twolc.SetOf.{SetOf}
 use Rattle.regex_ast.specs.declared.twolc.TwoLevelRule.{TwoLevelRule}
 use Rattle.project_meaning.specs.Trees.{Pair}
 use Rattle.twolc_tokens.specs.declared.token.Token.{Token}
-use Rattle.twolc_atoms.specs.Views.{pair_view}
+use Rattle.twolc_expressions.specs.Views.{pair_view}
 use Rattle.twolc_grammar.specs.Atoms.{Names, no_names}
 use Rattle.twolc_grammar.specs.Expressions.{has_high_power}
 use Rattle.twolc_grammar.specs.Statements.{Section as Part, in_alphabet, in_sets, in_definitions, in_rules, Statement as Said, alphabet, set, definition, rule, IsStatement, Verdict, unread, power, large, again, fine, count, is_again, is_large, is_too_deep}
 use Rattle.twolc_expressions.specs.Reading.{IsFound}
-use Rattle.twolc_statements.specs.Reading.{definition_view, set_view}
-use Rattle.twolc_rules.specs.Reading.{context_views, rule_view}
+use Rattle.twolc_reader.specs.StatementReading.{definition_view, set_view}
+use Rattle.twolc_reader.specs.RuleReading.{context_views, rule_view}
 use Rattle.twolc_reader.specs.declared.stage.Section.{Section}
 use Rattle.twolc_reader.specs.declared.stage.Section.TheVariants.{Alphabet, Sets, Definitions, Rules}
 use Rattle.twolc_reader.specs.declared.statement.Statement.{Statement}

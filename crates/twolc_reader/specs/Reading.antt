@@ -17,13 +17,13 @@ use Rattle.twolc_tokens.specs.Cuts.{Cuts}
 use Rattle.twolc_tokens.specs.declared.token.Placed.{Placed}
 use Rattle.twolc_tokens.specs.declared.token.Token.{Token}
 use Rattle.twolc_tokens.specs.declared.token.Token.TheVariants.{Quoted as quoted}
-use Rattle.twolc_atoms.specs.Views.{pair_view}
+use Rattle.twolc_expressions.specs.Views.{pair_view}
 use Rattle.twolc_grammar.specs.Atoms.{Names}
 use Rattle.twolc_grammar.specs.Expressions.{has_high_power}
 use Rattle.twolc_grammar.specs.Sections.{Stage, beginning, listed, within, State, Says, ReadsAs, IsOne, is_semicolon, may_begin, names_of, tokens_of}
 use Rattle.twolc_grammar.specs.Statements.{Section as Part, in_alphabet, in_sets, in_definitions, in_rules, Statement as Said, alphabet, set, definition, rule, Verdict, is_again, is_large, is_too_deep}
-use Rattle.twolc_statements.specs.Reading.{set_view, definition_view}
-use Rattle.twolc_rules.specs.Reading.{rule_view}
+use Rattle.twolc_reader.specs.StatementReading.{set_view, definition_view}
+use Rattle.twolc_reader.specs.RuleReading.{rule_view}
 use Rattle.twolc_reader.specs.declared.stage.Section.{Section}
 use Rattle.twolc_reader.specs.declared.stage.Section.TheVariants.{Alphabet, Sets, Definitions, Rules}
 use Rattle.twolc_reader.specs.declared.stage.Stage.{Stage as Reached}

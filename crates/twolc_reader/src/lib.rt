@@ -3,10 +3,21 @@
 //! twolc_grammar, and that it says one thing only is a law there.
 //!
 //! - [`read_twolc`]: the grammar of a text.
+//!
+//! Inside, `list` has the pairs of the alphabet and of a set, `definition` a definition, `rule` a rule with its `head` and its `contexts`,
+//! each from the tokens of its statement, and `brackets` what is tried on the tokens of each.
 #![tactic(auto)]
 
+mod brackets;
+mod contexts;
+mod definition;
+mod head;
+mod list;
 mod one;
 mod reader;
+mod rule;
+mod separator;
+mod split;
 mod stage;
 mod statement;
 

@@ -4,14 +4,14 @@ ghost use Rattle.regex_tokens.specs.Cuts.{newlines};
 ghost use Rattle.twolc_grammar.specs.Sections.{Says, at_end, names_of, nothing_read, tokens_of, whole};
 ghost use Rattle.twolc_reader.specs.Reading.{HaveLines, IsAnswer, IsRead, IsStep, broken_at, grammar_view, name_of, names_at, names_with, open_fault, section_view, stage_view};
 
+use crate::brackets::is_too_deep;
 use crate::one::split_one;
 use crate::stage::{Section, Stage, begun, leads};
 use crate::statement::{put, verdict};
 use regex_ast::{Grammar, Raw, ReadError, Why};
 use regex_tokens::Ending;
 use std::alloc::Global;
-use twolc_atoms::KnownNames;
-use twolc_statements::is_too_deep;
+use twolc_expressions::KnownNames;
 use twolc_tokens::{Placed, tokens};
 
 /// Reads the grammar of a text: `Alphabet` and its list of pairs, `Sets` and `Definitions` and their statements, each of which

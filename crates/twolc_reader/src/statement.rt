@@ -5,13 +5,14 @@ ghost use Rattle.twolc_grammar.specs.Sections.{names_of, tokens_of, with_stateme
 ghost use Rattle.twolc_grammar.specs.Statements.{IsStatement, is_again, is_large};
 ghost use Rattle.twolc_reader.specs.Reading.{HasLine, IsVerdict, grammar_view, name_of, names_of_statement, refusal, section_view, statement_view, unless};
 
+use crate::brackets::is_too_deep;
+use crate::definition::definition_in;
+use crate::list::{alphabet_in, set_in};
+use crate::rule::rule_in;
 use crate::stage::Section;
 use regex_ast::{Grammar, PairAtom, PairDefine, Raw, ReadError, SetOf, TwoLevelRule, Why};
 use std::alloc::{AllocError, Global};
-use twolc_atoms::KnownNames;
-use twolc_expressions::has_high_power;
-use twolc_rules::rule_in;
-use twolc_statements::{alphabet_in, definition_in, is_too_deep, set_in};
+use twolc_expressions::{KnownNames, has_high_power};
 use twolc_tokens::Placed;
 
 /// The most contexts of a rule.

@@ -1,6 +1,6 @@
 use regex_ast::{PairAtom, PairPart, PairSide, Raw};
 use std::alloc::{AllocError, Global};
-use twolc_atoms::{KnownNames, centre_in, one_symbol_in, part_in, symbols_in};
+use twolc_expressions::{KnownNames, centre_in, one_symbol_in, part_in, symbols_in};
 
 /// The names that atoms are read by: `V` is a set, and `D` a definition.
 fn names(alloc: Global) -> Result<KnownNames, AllocError> {

@@ -4,7 +4,7 @@ use Rattle.fsm_base.specs.declared.letters.Pair.{Pair}
 use Rattle.word_relations.specs.Relations.{AreSame}
 use Rattle.fsa.specs.Automaton.{UsesLetter}
 use Rattle.fsa.specs.Language.{Accepts}
-use Rattle.fst_relation.specs.Relation.{IsRelated}
+use Rattle.fst_algebra.specs.Relation.{IsRelated}
 use Rattle.flag_diacritics.specs.Tapes.{HasPairs, TapesRelate, UsesPair}
 use Rattle.flag_diacritics.specs.Idle.{live_behind}
 use Rattle.flag_diacritics.specs.Search.{IsResolved}

@@ -1,5 +1,5 @@
 use Rattle.std.proofs.Common.{ℕ, ap, inl, subst, ◌∙◌}
-use Rattle.live_session.specs.Live.{IsLive}
+use Rattle.editor_session.specs.Live.{IsLive}
 use Rattle.fsm_program.specs.Ends.{status_of}
 use Rattle.fsm_program.proofs.Endings.{most_taken_is}
 use Rattle.fsm_program.proofs.program.served.Goals as goal

@@ -1,6 +1,6 @@
 use Rattle.std.proofs.Common.{◌≡◌, drop, map}
 use Rattle.std.specs.List.{flat_map}
-use Rattle.grammar_resolution.specs.Leaves.{pairs_behind}
+use Rattle.name_resolution.specs.Leaves.{pairs_behind}
 use Rattle.grammar_weights.specs.Counting.{all_added, kept}
 use Rattle.grammar_weights.specs.Weights.{written_pair}
 use Rattle.grammar_weights.proofs.counting.add_each.Given as goal

@@ -1,5 +1,5 @@
 use Rattle.std.proofs.Common.{List, Err, subst}
-use Rattle.lexc_entries.specs.Answers.{IsEntryRead}
+use Rattle.lexc_reader.specs.EntryAnswers.{IsEntryRead}
 use Rattle.lexc_tokens.specs.declared.token.Token.{Token}
 use Rattle.lexc_grammar.specs.Lexicons.{form_of}
 use Rattle.lexc_grammar.specs.declared.statements.Stage.TheVariants.{InLexicon}

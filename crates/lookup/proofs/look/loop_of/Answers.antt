@@ -1,5 +1,5 @@
 use Rattle.std.proofs.Common.{ap, ◌∙◌}
-use Rattle.lookup_graph.specs.Graph.{end, start}
+use Rattle.lookup.specs.Graph.{end, start}
 use Rattle.lookup.proofs.Rounds.{connects_over, text, turn_loops}
 use Rattle.lookup.proofs.look.loop_of.Goals as goal
 

@@ -1,6 +1,6 @@
 use Rattle.std.proofs.Common.{refl, sym, subst}
 use Rattle.word_relations.specs.Relations.{IsRepetitionOfPairs}
-use Rattle.fst_relation.specs.Relation.{IsRelated}
+use Rattle.fst_algebra.specs.Relation.{IsRelated}
 use Rattle.expr_kinds.specs.declared.form.Kind.TheVariants.{Relation}
 use Rattle.expr_meaning.specs.Operators.{IsRepetitionOf}
 use Rattle.network_algebra.specs.Networks.{Counts, IsFor, IsNetwork, WordsOf, PairsOf, kind_of_network}

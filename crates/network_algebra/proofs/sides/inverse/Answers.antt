@@ -1,5 +1,5 @@
 use Rattle.std.proofs.Common.{refl, sym, subst}
-use Rattle.fst_relation.specs.Relation.{IsRelated}
+use Rattle.fst_algebra.specs.Relation.{IsRelated}
 use Rattle.word_relations.specs.Relations.{IsInverse}
 use Rattle.expr_kinds.specs.declared.form.Kind.TheVariants.{Relation}
 use Rattle.network_algebra.specs.Networks.{IsFor, WordsOf, PairsOf, kind_of_network}

@@ -1,5 +1,5 @@
 use Rattle.std.proofs.Common.{refl, sym, subst, reverse}
-use Rattle.fst_relation.specs.Relation.{IsRelated}
+use Rattle.fst_algebra.specs.Relation.{IsRelated}
 use Rattle.expr_kinds.specs.declared.form.Kind.TheVariants.{Relation}
 use Rattle.network_algebra.specs.Networks.{IsFor, WordsOf, PairsOf, kind_of_network}
 use Rattle.network_algebra.specs.declared.network.Network.TheVariants.{Words, Pairs}

@@ -1,4 +1,4 @@
-use Rattle.fst_relation.specs.Relation.{IsRelated}
+use Rattle.fst_algebra.specs.Relation.{IsRelated}
 use Rattle.word_relations.specs.Relations.{IsUpper}
 use Rattle.network_algebra.specs.Networks.{PairsOf}
 use Rattle.network_algebra.proofs.Meanings.{side_words, side_letters, upper_same}

@@ -1,6 +1,6 @@
 use Rattle.std.proofs.Common.{map}
 use Rattle.regex_ast.specs.Terms.{term}
-use Rattle.lexicon_resolution.specs.Plain.{lexicon_of}
+use Rattle.name_resolution.specs.Plain.{lexicon_of}
 use Rattle.network_build.proofs.Sounds.{expression_made, grammar_made, lexicons_made}
 use Rattle.network_build.proofs.body.network_of_ready.Goals as goal
 

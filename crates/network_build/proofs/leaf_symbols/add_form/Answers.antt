@@ -3,7 +3,7 @@ use Rattle.std.proofs.lemmas.Result.{on_ok_weaker}
 use Rattle.regex_ast.specs.declared.expr.Atom.{Atom}
 use Rattle.regex_ast.specs.declared.lexc.Form.{Form}
 use Rattle.expr_leaves.specs.Leaves.{seen}
-use Rattle.lexicon_resolution.specs.Plain.{form_of}
+use Rattle.name_resolution.specs.Plain.{form_of}
 use Rattle.network_build.specs.Gathered.{AddsLeaves}
 use Rattle.network_build.specs.Networks.{form_leaves}
 use Rattle.network_build.proofs.Gathering.{adds_both, side_leaves}

@@ -2,7 +2,7 @@ use Rattle.std.proofs.Common.{subst, sym}
 use Rattle.std.proofs.lemmas.Result.{on_ok_weaker}
 use Rattle.regex_ast.specs.declared.expr.Atom.{Atom}
 use Rattle.regex_ast.specs.declared.lexc.Piece.{Piece}
-use Rattle.lexicon_resolution.specs.Plain.{piece_of}
+use Rattle.name_resolution.specs.Plain.{piece_of}
 use Rattle.project_meaning.specs.Lexicons.{letters_of}
 use Rattle.network_build.specs.Gathered.{AddsLeaves}
 use Rattle.network_build.proofs.Gathering.{adds_none, adds_one}

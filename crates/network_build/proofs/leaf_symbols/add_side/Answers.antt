@@ -1,6 +1,6 @@
 use Rattle.std.proofs.Common.{◌≡◌, ◌+◌, ◌++◌, ◌∷◌, [], arith, subst, sym, take}
 use Rattle.std.proofs.lemmas.List.{take_all, take_more}
-use Rattle.lexicon_resolution.specs.Plain.{piece_of}
+use Rattle.name_resolution.specs.Plain.{piece_of}
 use Rattle.project_meaning.specs.Lexicons.{letters_of}
 use Rattle.network_build.specs.Gathered.{AddsLeaves}
 use Rattle.network_build.proofs.Gathering.{adds_more, adds_none, listed_joined, one_piece, side_leaves}

@@ -26,18 +26,18 @@ use Rattle.network_expr.specs.Built.{AreBuiltOver, ContextsAreBuiltOver, IsBuilt
 use Rattle.network_expr.proofs.Weights.{weight, weight_contexts, weight_mappings, weight_groups, each_halves, links_halves, contexts_halves, weight_each, weight_steps}
 use Rattle.network_expr.proofs.Rows.{each_built, each_fits, chain_built, chain_fits, choice_fits, contexts_built, contexts_fit, no_item, one_item, halves_joined, terms_joined, one_more}
 use Rattle.network_expr.proofs.Meant.{IsChosen, IsStepped, AreIn, reduced_for, alone_chosen, chain_for, chain_halves, chain_choice, choice_halves, none_chosen, none_accepted, steps_for, steps_halves, then_stepped, context_one, context_halves, no_contexts, only_meant, words_meant, meant_words, letters_meant, colon_language, maybe_meant, same_meant, turn_alone, turns_meant, prefixed_meant, not_one_meant, ignore_row, ignore_one, ignore_halves, each_kind_language, language_meant, empty_only, given_one, given_two}
-use Rattle.network_affixes.proofs.Suffixed.{suffixed_for, for_itself}
+use Rattle.network_sets.proofs.Suffixed.{suffixed_for, for_itself}
 use Rattle.network_expr.proofs.Narrowed.{fails, two_links, before_narrowing, halves_fit, narrowed_halves, narrowed_meant, narrowed_only}
 use Rattle.expr_kinds.proofs.Sets.{term_rules, maps_of_is, contexts_in_is}
 use Rattle.network_expr.proofs.Ruled.{MapsReady, ContextsReady, GroupsReady, map_ready, context_ready, group_ready, side_of_is, take_whole, rules_meant, insertion_meant, else_second}
-use Rattle.network_rules.specs.Rules.{AreMaps, AreContexts, AreGroups}
-use Rattle.network_rules.proofs.Rows.{maps_more, contexts_more, groups_more}
-use Rattle.network_rules.proofs.Meaning.{groups_over, insertion_rows}
+use Rattle.network_expr.specs.Rules.{AreMaps, AreContexts, AreGroups}
+use Rattle.network_expr.proofs.RuleRows.{maps_more, contexts_more, groups_more}
+use Rattle.network_expr.proofs.Meaning.{groups_over, insertion_rows}
 use Rattle.replace_rules.specs.declared.rules.LangMap.{LangMap}
 use Rattle.replace_rules.specs.declared.rules.LangContext.{LangContext}
 use Rattle.replace_rules.specs.declared.rules.LangGroup.{LangGroup}
 use Rattle.network_expr.proofs.Ready.{OperandReady, StepReady, operand_ready, step_ready}
-use Rattle.network_affixes.proofs.Alike.{SameWords}
+use Rattle.network_sets.proofs.Alike.{SameWords}
 use Rattle.network_expr.proofs.build.+build.Goals as goal
 
 pub union_operands-union_operands-requires : goal.union_operands-union_operands-requires

@@ -2,12 +2,12 @@ use Rattle.std.proofs.Common.{◌+◌, [], ◌∷◌, map, take}
 use Rattle.fsa.specs.Language.{Accepts}
 use Rattle.regex_ast.specs.Terms.{term, terms_of, links_of, contexts_of, steps_by, mappings_of, groups_of}
 use Rattle.expr_meaning.specs.Meaning.{InIgnoring}
-use Rattle.network_affixes.proofs.Alike.{SameWords}
+use Rattle.network_sets.proofs.Alike.{SameWords}
 use Rattle.network_algebra.specs.Networks.{IsNetwork, UsesOnly, all_letters}
 use Rattle.network_expr.specs.Parts.{stands}
 use Rattle.network_expr.proofs.Meant.{IsStepped}
 use Rattle.network_expr.proofs.Weights.{weight, weight_each, weight_links, weight_contexts, weight_steps, weight_mappings, weight_groups, link_weight, step_weight}
-use Rattle.network_rules.specs.Rules.{AreMaps, AreContexts, AreGroups}
+use Rattle.network_expr.specs.Rules.{AreMaps, AreContexts, AreGroups}
 use Rattle.network_expr.proofs.build.+build.Given as goal
 
 abbrev pub decreases-network_of : goal.decreases-network_of

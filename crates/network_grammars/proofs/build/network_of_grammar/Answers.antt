@@ -5,7 +5,7 @@ use Rattle.fsm_base.specs.declared.letters.Pair.{Pair}
 use Rattle.word_relations.specs.Relations.{AreSame}
 use Rattle.regex_ast.specs.declared.expr.Atom.{Atom}
 use Rattle.regex_ast.specs.declared.twolc.TwoLevelRule.{TwoLevelRule}
-use Rattle.fst_relation.specs.Relation.{IsRelated}
+use Rattle.fst_algebra.specs.Relation.{IsRelated}
 use Rattle.network_algebra.specs.Networks.{UsesOnly}
 use Rattle.two_level.specs.Rules.{GrammarRelates, IsRuleOver}
 use Rattle.two_level.specs.declared.rule.LangRule.{LangRule}

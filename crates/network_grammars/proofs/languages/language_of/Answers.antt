@@ -7,7 +7,7 @@ use Rattle.word_relations.specs.Words.{IsDistinct}
 use Rattle.expr_meaning.specs.Meaning.{In}
 use Rattle.network_algebra.specs.Networks.{all_letters}
 use Rattle.grammar_pairs.specs.Plain.{term_of}
-use Rattle.pair_languages.specs.Meaning.{stands}
+use Rattle.network_grammars.specs.PairMeaning.{stands}
 use Rattle.network_grammars.proofs.Renamed.{letters_distinct, pair_known, renamed_language}
 use Rattle.network_grammars.proofs.languages.language_of.Goals as goal
 

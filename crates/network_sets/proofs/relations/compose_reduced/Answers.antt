@@ -1,5 +1,5 @@
 use Rattle.std.proofs.lemmas.Result.{IfOk-weaker}
-use Rattle.fst_relation.specs.Relation.{IsRelated}
+use Rattle.fst_algebra.specs.Relation.{IsRelated}
 use Rattle.fst_algebra.specs.Relations.{UsesLower, UsesUpper}
 use Rattle.word_relations.specs.Relations.{IsComposition}
 use Rattle.network_algebra.proofs.Smaller.{lower_used, same_relation, upper_used}

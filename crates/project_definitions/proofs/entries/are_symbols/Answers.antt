@@ -1,7 +1,7 @@
 use Rattle.std.proofs.Common.{All, map, refl, subst, sym, true≢false, ◌∙◌, arith}
 use Rattle.std.proofs.lemmas.List.{take_all}
 use Rattle.expr_kinds.specs.Atoms.{is_symbol}
-use Rattle.lexicon_resolution.specs.Plain.{piece_of}
+use Rattle.name_resolution.specs.Plain.{piece_of}
 use Rattle.project_sources.specs.Built.{PieceIsBuiltBy}
 use Rattle.project_definitions.proofs.Telling.{never, piece_here, pieces_more}
 use Rattle.project_definitions.proofs.entries.are_symbols.Goals as goal

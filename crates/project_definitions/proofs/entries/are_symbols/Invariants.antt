@@ -1,6 +1,6 @@
 use Rattle.std.proofs.Common.{All, map, take}
 use Rattle.expr_kinds.specs.Atoms.{is_symbol}
-use Rattle.lexicon_resolution.specs.Plain.{piece_of}
+use Rattle.name_resolution.specs.Plain.{piece_of}
 use Rattle.project_sources.specs.Built.{PieceIsBuiltBy}
 use Rattle.project_definitions.proofs.entries.are_symbols.Given as goal
 

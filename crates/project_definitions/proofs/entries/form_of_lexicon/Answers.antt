@@ -1,6 +1,6 @@
 use Rattle.std.proofs.Common.{List, ℕ, ◌==◌, length, ap, sym, ◌∙◌}
 use Rattle.expr_kinds.specs.Atoms.{weights_at}
-use Rattle.lexicon_resolution.specs.Plain.{lexicon_of}
+use Rattle.name_resolution.specs.Plain.{lexicon_of}
 use Rattle.project_definitions.proofs.Telling.{nameless}
 use Rattle.project_definitions.proofs.entries.form_of_lexicon.Goals as goal
 

@@ -3,7 +3,7 @@ use Rattle.std.proofs.lemmas.List.{drop_all}
 use Rattle.word_relations.proofs.Behind.{left_behind}
 use Rattle.std.specs.List.{flat_map}
 use Rattle.expr_leaves.proofs.Behind.{go_on}
-use Rattle.lexicon_resolution.specs.Symbols.{terms_behind}
+use Rattle.name_resolution.specs.Symbols.{terms_behind}
 use Rattle.project_definitions.specs.Referring.{places_in}
 use Rattle.project_definitions.proofs.references.add_places_of_each.Goals as goal
 

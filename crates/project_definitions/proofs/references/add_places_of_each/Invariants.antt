@@ -1,6 +1,6 @@
 use Rattle.std.proofs.Common.{◌≡◌, ◌++◌, drop}
 use Rattle.std.specs.List.{flat_map}
-use Rattle.lexicon_resolution.specs.Symbols.{terms_behind}
+use Rattle.name_resolution.specs.Symbols.{terms_behind}
 use Rattle.project_definitions.specs.Referring.{places_in}
 use Rattle.project_definitions.proofs.references.add_places_of_each.Given as goal
 

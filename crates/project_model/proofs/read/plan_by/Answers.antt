@@ -1,6 +1,6 @@
 use Rattle.std.proofs.Common.{map}
 use Rattle.project_meaning.specs.Projects.{names_of}
-use Rattle.built_bodies.proofs.Bodies.{files_built}
+use Rattle.project_sources.proofs.Bodies.{files_built}
 use Rattle.project_model.specs.Answers.{written_of}
 use Rattle.project_model.proofs.Formed.{formed_files}
 use Rattle.project_model.proofs.Reading.{planned_files}

@@ -3,13 +3,13 @@ use Rattle.std.proofs.lemmas.Result.{on_ok_weaker}
 use Rattle.std.specs.List.{flat_map}
 use Rattle.regex_ast.specs.declared.expr.Raw.{Raw}
 use Rattle.expr_leaves.specs.Leaves.{seen}
-use Rattle.lexicon_resolution.specs.Plain.{lexicon_of}
+use Rattle.name_resolution.specs.Plain.{lexicon_of}
 use Rattle.grammar_pairs.specs.Plain.{grammar_of}
 use Rattle.project_meaning.specs.Leaves.{forms_in, resolved, symbol_in, symbol_of, symbols_in}
 use Rattle.project_definitions.specs.Plain.{body_of}
 use Rattle.project_definitions.specs.declared.definition.Body.{Body}
 use Rattle.project_model.specs.Gathered.{gathered}
-use Rattle.lexicon_resolution.specs.Symbols.{symbols_at}
+use Rattle.name_resolution.specs.Symbols.{symbols_at}
 use Rattle.project_model.proofs.symbols.add_body.Goals as goal
 
 pub returns-in-Lexc : goal.returns-in-Lexc

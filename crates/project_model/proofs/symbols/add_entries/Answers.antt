@@ -1,8 +1,8 @@
 use Rattle.std.proofs.Common.{◌+◌, ap, arith, drop, map}
 use Rattle.std.specs.List.{flat_map}
 use Rattle.word_relations.proofs.Behind.{left_behind}
-use Rattle.lexicon_resolution.specs.Plain.{form_of}
-use Rattle.lexicon_resolution.specs.Symbols.{symbols_at}
+use Rattle.name_resolution.specs.Plain.{form_of}
+use Rattle.name_resolution.specs.Symbols.{symbols_at}
 use Rattle.project_model.proofs.Gathering.{gather_more, still_short}
 use Rattle.project_model.proofs.symbols.add_entries.Goals as goal
 

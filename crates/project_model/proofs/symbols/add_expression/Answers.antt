@@ -4,7 +4,7 @@ use Rattle.regex_ast.specs.Terms.{term}
 use Rattle.expr_leaves.specs.Leaves.{seen}
 use Rattle.project_meaning.specs.Leaves.{leaf_of, symbol_in}
 use Rattle.project_model.specs.Gathered.{gathered}
-use Rattle.lexicon_resolution.specs.Symbols.{symbol_beside}
+use Rattle.name_resolution.specs.Symbols.{symbol_beside}
 use Rattle.name_resolution.proofs.Listed.{listed_is}
 use Rattle.name_resolution.proofs.Mapped.{mapped_listed}
 use Rattle.project_model.proofs.symbols.add_expression.Goals as goal

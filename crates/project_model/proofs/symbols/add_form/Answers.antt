@@ -2,10 +2,10 @@ use Rattle.std.proofs.Common.{ap, ap₂, map, sym, ◌∙◌}
 use Rattle.std.specs.List.{flat_map}
 use Rattle.std.proofs.lemmas.Result.{on_ok_weaker}
 use Rattle.expr_leaves.specs.Leaves.{seen}
-use Rattle.lexicon_resolution.specs.Plain.{form_of, piece_of}
+use Rattle.name_resolution.specs.Plain.{form_of, piece_of}
 use Rattle.project_meaning.specs.Trees.{sides}
 use Rattle.project_model.specs.Gathered.{gathered}
-use Rattle.lexicon_resolution.specs.Symbols.{symbol_beside, symbols_at}
+use Rattle.name_resolution.specs.Symbols.{symbol_beside, symbols_at}
 use Rattle.project_model.proofs.symbols.add_form.Goals as goal
 
 pub returns-in_ok-leaves-in-Pairs : goal.returns-in_ok-leaves-in-Pairs

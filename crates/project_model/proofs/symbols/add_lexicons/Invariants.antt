@@ -1,9 +1,9 @@
 use Rattle.std.proofs.Common.{◌≡◌, ◌+◌, ◌≤◌, length, drop, map}
 use Rattle.std.specs.List.{flat_map}
-use Rattle.lexicon_resolution.specs.Plain.{lexicon_of}
+use Rattle.name_resolution.specs.Plain.{lexicon_of}
 use Rattle.project_meaning.specs.Leaves.{forms_in}
 use Rattle.project_model.specs.Gathered.{gathered}
-use Rattle.lexicon_resolution.specs.Symbols.{symbols_at}
+use Rattle.name_resolution.specs.Symbols.{symbols_at}
 use Rattle.project_sources.specs.Limits.{most_symbols}
 use Rattle.project_model.proofs.symbols.add_lexicons.Given as goal
 

@@ -1,7 +1,7 @@
 use Rattle.std.proofs.Common.{◌≡◌, subst, sym}
-use Rattle.lexicon_resolution.specs.Plain.{piece_of}
+use Rattle.name_resolution.specs.Plain.{piece_of}
 use Rattle.project_model.specs.Gathered.{gathered}
-use Rattle.lexicon_resolution.specs.Symbols.{symbols_in_piece}
+use Rattle.name_resolution.specs.Symbols.{symbols_in_piece}
 use Rattle.project_model.proofs.Gathering.{gathered_none}
 use Rattle.project_model.proofs.symbols.add_piece.Goals as goal
 

@@ -1,9 +1,9 @@
 use Rattle.std.proofs.Common.{List, ℕ, ap, map, sym, ◌∙◌}
 use Rattle.std.specs.List.{flat_map}
 use Rattle.std.proofs.lemmas.Result.{on_ok_weaker}
-use Rattle.lexicon_resolution.specs.Plain.{piece_of}
+use Rattle.name_resolution.specs.Plain.{piece_of}
 use Rattle.project_model.specs.Gathered.{gathered}
-use Rattle.lexicon_resolution.specs.Symbols.{symbols_in_piece}
+use Rattle.name_resolution.specs.Symbols.{symbols_in_piece}
 use Rattle.project_model.proofs.Gathering.{gathered-append, still_short}
 use Rattle.project_model.proofs.symbols.add_sides.Goals as goal
 

@@ -1,7 +1,7 @@
 use Rattle.std.proofs.Common.{◌+◌, ap, arith, drop}
 use Rattle.std.specs.List.{flat_map}
 use Rattle.word_relations.proofs.Behind.{left_behind}
-use Rattle.lexicon_resolution.specs.Symbols.{symbol_beside}
+use Rattle.name_resolution.specs.Symbols.{symbol_beside}
 use Rattle.expr_leaves.specs.Leaves.{seen}
 use Rattle.project_model.proofs.Gathering.{gather_more, still_short}
 use Rattle.project_model.proofs.symbols.add_symbols.Goals as goal

@@ -1,7 +1,7 @@
 use Rattle.std.proofs.Common.{◌≡◌, ◌+◌, ◌≤◌, length, drop}
 use Rattle.std.specs.List.{flat_map}
 use Rattle.project_model.specs.Gathered.{gathered}
-use Rattle.lexicon_resolution.specs.Symbols.{symbol_beside}
+use Rattle.name_resolution.specs.Symbols.{symbol_beside}
 use Rattle.expr_leaves.specs.Leaves.{seen}
 use Rattle.project_sources.specs.Limits.{most_symbols}
 use Rattle.project_model.proofs.symbols.add_symbols.Given as goal

@@ -2,7 +2,7 @@ use Rattle.std.proofs.Common.{◌∙◌, ◌≤◌, ◌+◌, ◌∷◌, [], ℕ,
 use Rattle.editor_meaning.specs.Editing.{AreNames, most_edits}
 use Rattle.fsm_io.specs.Folders.{Files}
 use Rattle.project_edits.specs.Applied.{edit_of}
-use Rattle.project_files.specs.Refusals.{IsRefusedBy}
+use Rattle.project_sources.specs.Refusals.{IsRefusedBy}
 use Rattle.project_meaning.specs.Projects.{Project}
 use Rattle.project_meaning.specs.Touched.{Touched}
 use Rattle.project_sources.specs.Edits.{Apply, held_in}

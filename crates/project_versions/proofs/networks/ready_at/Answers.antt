@@ -1,5 +1,5 @@
 use Rattle.std.proofs.Common.{sym, subst}
-use Rattle.fst_relation.specs.Relation.{IsRelated}
+use Rattle.fst_algebra.specs.Relation.{IsRelated}
 use Rattle.lookup.specs.Answering.{IsOverAlphabet}
 use Rattle.network_algebra.specs.Networks.{PairsOf}
 use Rattle.network_build.specs.Networks.{CompiledView}

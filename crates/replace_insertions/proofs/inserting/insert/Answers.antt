@@ -2,7 +2,7 @@ use Rattle.std.proofs.Common.{◌≡◌, [], ◌∷◌, ◌∙◌, ap, ◌++◌}
 use Rattle.std.proofs.lemmas.Result.{IfOk-weaker}
 use Rattle.word_relations.specs.Relations.{AreSame}
 use Rattle.word_relations.proofs.Pairs.{same_trans}
-use Rattle.fst_relation.specs.Relation.{IsRelated}
+use Rattle.fst_algebra.specs.Relation.{IsRelated}
 use Rattle.expr_meaning.specs.Replacement.{IsRewritten}
 use Rattle.replace_words.specs.Places.{IsRewrittenAt}
 use Rattle.replace_insertions.specs.Insertions.{AsksBy, InsertsBy}

@@ -1,8 +1,8 @@
 use Rattle.std.proofs.Common.{◌≡◌, ◌∙◌, List, length, arith, subst}
 use Rattle.std.specs.List.{Contains}
-use Rattle.replace_langs.specs.Letters.{IsMarkOf}
+use Rattle.replace_rules.specs.Letters.{IsMarkOf}
 use Rattle.std.proofs.lemmas.Result.{IfOk-weaker}
-use Rattle.fst_relation.specs.Relation.{IsRelated}
+use Rattle.fst_algebra.specs.Relation.{IsRelated}
 use Rattle.word_relations.specs.Relations.{AreSame}
 use Rattle.expr_meaning.specs.Replacement.{IsRewritten}
 use Rattle.replace_rules.specs.declared.rules.LangGroup.{LangGroup}

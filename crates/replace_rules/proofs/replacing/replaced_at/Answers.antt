@@ -4,13 +4,13 @@ use Rattle.std.proofs.lemmas.Result.{IfOk-weaker}
 use Rattle.fsm_base.specs.declared.letters.Bound.{Bound}
 use Rattle.fsm_base.specs.declared.letters.Sym.{Sym}
 use Rattle.fsa.specs.Complete.{Accepts}
-use Rattle.fst_relation.specs.Relation.{IsRelated}
+use Rattle.fst_algebra.specs.Relation.{IsRelated}
 use Rattle.word_relations.specs.Relations.{AreSame}
 use Rattle.network_algebra.specs.Networks.{UsesSymbols}
 use Rattle.expr_meaning.specs.Replacement.{IsRewritten}
 use Rattle.replace_words.specs.declared.marks.Mark.{Mark}
 use Rattle.replace_words.specs.Marked.{upper_of, lower_of, symbol_of}
-use Rattle.replace_langs.specs.Letters.{AreMarksOf}
+use Rattle.replace_rules.specs.Letters.{AreMarksOf}
 use Rattle.replace_rules.specs.declared.rules.LangGroup.{LangGroup}
 use Rattle.replace_rules.specs.Rules.{AppliesBy, AreMapsOver, ReplacesBy}
 use Rattle.replace_rules.specs.Places.{places_of}

@@ -5,7 +5,7 @@ use Rattle.word_relations.proofs.Behind.{left_behind}
 use Rattle.regex_ast.specs.Terms.{term}
 use Rattle.regex_ast.specs.declared.expr.Atom.{Atom}
 use Rattle.regex_ast.specs.declared.expr.Expr.{Expr}
-use Rattle.lexicon_resolution.specs.Symbols.{terms_behind}
+use Rattle.name_resolution.specs.Symbols.{terms_behind}
 use Rattle.project_definitions.specs.Referring.{places_in}
 use Rattle.touched_names.proofs.Found.{found, none_here}
 use Rattle.touched_names.proofs.bodies.one_refers.Goals as goal

@@ -1,6 +1,6 @@
 use Rattle.std.proofs.Common.{◌↔◌, drop, length}
 use Rattle.std.specs.List.{flat_map}
-use Rattle.lexicon_resolution.specs.Symbols.{terms_behind}
+use Rattle.name_resolution.specs.Symbols.{terms_behind}
 use Rattle.project_definitions.specs.Referring.{places_in}
 use Rattle.touched_names.specs.Places.{HasMarked}
 use Rattle.touched_names.proofs.bodies.one_refers.Given as goal

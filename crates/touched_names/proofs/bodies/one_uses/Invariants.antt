@@ -1,7 +1,7 @@
 use Rattle.std.proofs.Common.{◌≡◌, drop}
 use Rattle.std.specs.List.{list_any}
 use Rattle.expr_leaves.specs.Alphabet.{uses_alphabet}
-use Rattle.lexicon_resolution.specs.Symbols.{terms_behind}
+use Rattle.name_resolution.specs.Symbols.{terms_behind}
 use Rattle.touched_names.proofs.bodies.one_uses.Given as goal
 
 -- none so far does, so it turns on the others

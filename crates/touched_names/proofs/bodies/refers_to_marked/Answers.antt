@@ -1,7 +1,7 @@
 use Rattle.std.proofs.Common.{◌↔◌, IfOk, IsTrue, length, map, sym, ap, subst, ◌∙◌}
 use Rattle.std.specs.List.{flat_map}
-use Rattle.lexicon_resolution.specs.Symbols.{terms_behind}
-use Rattle.lexicon_resolution.specs.Plain.{lexicon_of}
+use Rattle.name_resolution.specs.Symbols.{terms_behind}
+use Rattle.name_resolution.specs.Plain.{lexicon_of}
 use Rattle.project_meaning.specs.Leaves.{expressions_of}
 use Rattle.project_meaning.specs.Trees.{lexc}
 use Rattle.project_definitions.specs.Plain.{body_of}

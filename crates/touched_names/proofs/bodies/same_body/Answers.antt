@@ -1,9 +1,9 @@
 use Rattle.std.proofs.Common.{◌≡◌, ◌↔◌, IsTrue, map, ap}
-use Rattle.expr_equality.specs.Renumbered.{renumbered}
+use Rattle.body_equality.specs.Renumbered.{renumbered}
 use Rattle.grammar_pairs.specs.Mapped.{mapped_grammar}
 use Rattle.grammar_pairs.specs.Plain.{grammar_of}
-use Rattle.lexicon_equality.specs.Renumbered.{renumbered_lexicon}
-use Rattle.lexicon_resolution.specs.Plain.{lexicon_of}
+use Rattle.body_equality.specs.RenumberedLexicons.{renumbered_lexicon}
+use Rattle.name_resolution.specs.Plain.{lexicon_of}
 use Rattle.project_definitions.specs.Bodies.{mapped_body}
 use Rattle.project_definitions.specs.Plain.{body_of}
 use Rattle.touched_names.proofs.Leafwise.{lexc_same, ok_follows, twolc_same}

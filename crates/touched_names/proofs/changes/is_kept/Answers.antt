@@ -1,6 +1,6 @@
 use Rattle.std.proofs.Common.{◌≡◌, ◌↔◌, IsTrue, length, refl}
 use Rattle.std.proofs.lemmas.Option.{slice_get_read}
-use Rattle.expr_equality.specs.Renumbered.{renumbered}
+use Rattle.body_equality.specs.Renumbered.{renumbered}
 use Rattle.project_definitions.specs.Bodies.{mapped_body}
 use Rattle.project_definitions.specs.Plain.{body_of}
 use Rattle.touched_names.specs.Itself.{IsKept}

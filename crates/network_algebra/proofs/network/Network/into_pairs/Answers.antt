@@ -2,7 +2,7 @@ use Rattle.std.proofs.Common.{List, IfOk, sym, subst}
 use Rattle.std.proofs.lemmas.Result.{IfOk-weaker}
 use Rattle.fsm_base.specs.declared.letters.Sym.{Sym}
 use Rattle.word_relations.specs.Relations.{AreSame}
-use Rattle.fst_relation.specs.Relation.{IsRelated}
+use Rattle.fst_algebra.specs.Relation.{IsRelated}
 use Rattle.network_algebra.specs.Networks.{IsNetwork, UsesSymbols, PairsOf}
 use Rattle.network_algebra.proofs.Meanings.{itself_related, itself_symbols, IfOk-both}
 use Rattle.network_algebra.proofs.network.Network.into_pairs.Goals as goal

@@ -1,0 +1,9 @@
+pub mod Alike
+pub mod Reading
+pub mod Rewriting
+pub mod Same
+pub mod Uses
+pub mod Walking
+pub mod Shapes
+pub mod Together
+pub mod LexiconTogether

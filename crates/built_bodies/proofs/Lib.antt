@@ -1,6 +1,0 @@
-pub mod Spelled
-pub mod Expressions
-pub mod Lexicons
-pub mod Atoms
-pub mod Grammars
-pub mod Bodies

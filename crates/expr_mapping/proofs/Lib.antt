@@ -1,3 +1,0 @@
-mod Replaced
-pub mod Rowed
-mod Sets

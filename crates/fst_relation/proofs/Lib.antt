@@ -1,2 +1,0 @@
-pub mod Languages
-pub mod Used

@@ -1,7 +1,0 @@
-use Rattle.expr_equality.proofs.Same.{Goes}
-use Rattle.grammar_equality.specs.Renumbered.{context_alone, renumbered_alone}
-use Rattle.grammar_equality.proofs.exprs.same_contexts.Given as goal
-
--- whether these are the same turns on what is left of both
-abbrev pub invariant-places : goal.invariant-places
-invariant-places l = Goes context_alone (renumbered_alone l.numbers) l.others l.contexts l.place

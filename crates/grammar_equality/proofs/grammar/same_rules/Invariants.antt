@@ -1,8 +1,0 @@
-use Rattle.expr_equality.proofs.Same.{Goes}
-use Rattle.grammar_equality.specs.Renumbered.{renumbered_rule}
-use Rattle.grammar_pairs.specs.Plain.{rule_of}
-use Rattle.grammar_equality.proofs.grammar.same_rules.Given as goal
-
--- whether these are the same turns on what is left of both
-abbrev pub invariant-places : goal.invariant-places
-invariant-places l = Goes rule_of (renumbered_rule l.numbers) l.others l.rules l.place

@@ -1,7 +1,0 @@
-use Rattle.expr_equality.proofs.Same.{Goes}
-use Rattle.grammar_equality.specs.Renumbered.{part_behind, renumbered_behind}
-use Rattle.grammar_equality.proofs.parts.same_parts.Given as goal
-
--- whether these are the same turns on what is left of both
-abbrev pub invariant-places : goal.invariant-places
-invariant-places l = Goes part_behind (renumbered_behind l.numbers) l.others l.parts l.place

@@ -1,4 +1,0 @@
-mod Listing
-mod Numbering
-mod Parts
-mod Symbols

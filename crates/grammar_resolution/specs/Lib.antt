@@ -1,4 +1,0 @@
-pub mod Lines
-pub mod Parts
-pub mod Leaves
-pub mod Numbered

@@ -1,6 +1,0 @@
-ghost use Rattle.lexc_laws.specs.Laws.{OneReading};
-
-/// The law that a text says one thing only: its lexicons, or one fault. It does nothing when it runs.
-pub fn one_reading()
-    ensures { OneReading }
-{}

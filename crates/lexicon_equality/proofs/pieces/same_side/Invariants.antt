@@ -1,8 +1,0 @@
-use Rattle.expr_equality.proofs.Same.{Goes}
-use Rattle.lexicon_equality.specs.Renumbered.{renumbered_piece}
-use Rattle.lexicon_resolution.specs.Plain.{piece_of}
-use Rattle.lexicon_equality.proofs.pieces.same_side.Given as goal
-
--- whether the sides are the same turns on what is left of both
-abbrev pub invariant-places : goal.invariant-places
-invariant-places l = Goes piece_of (renumbered_piece l.numbers) l.others l.side l.place

@@ -1,4 +1,0 @@
-pub mod Lexicons
-mod Bytes
-mod Numbering
-mod Symbols

@@ -1,5 +1,0 @@
-use Rattle.lexicon_resolution.proofs.Symbols.{symbols_of_forms}
-use Rattle.lexicon_resolution.proofs.laws.symbols_are_of_forms.Goals as goal
-
-pub returns : goal.returns
-returns c = symbols_of_forms

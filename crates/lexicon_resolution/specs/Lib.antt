@@ -1,4 +1,0 @@
-pub mod Bytes
-pub mod Numbered
-pub mod Plain
-pub mod Symbols

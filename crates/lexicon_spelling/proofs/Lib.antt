@@ -1,5 +1,0 @@
-mod Sides
-mod Paths
-pub mod Spelling
-mod Resolved
-pub mod Alphabets

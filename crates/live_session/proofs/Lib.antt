@@ -1,4 +1,0 @@
-mod Crossing
-pub mod Living
-pub mod Sitting
-pub mod Worst

@@ -1,5 +1,0 @@
-pub mod Paths
-pub mod Growing
-pub mod KeptPaths
-pub mod Turning
-pub mod Finite

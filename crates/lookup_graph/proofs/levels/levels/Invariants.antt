@@ -1,5 +1,0 @@
-use Rattle.std.proofs.Common.{◌≡◌, vec_len}
-use Rattle.lookup_graph.proofs.levels.levels.Given as goal
-
-abbrev pub invariant-steps : goal.invariant-steps
-invariant-steps g l = vec_len l.search.levels ≡ l.count

@@ -1,6 +1,0 @@
-use Rattle.std.proofs.Common.{◌≡◌, take, map}
-use Rattle.lookup_graph.specs.Tree.{reversed}
-use Rattle.lookup_graph.proofs.tree.reversed_rows.Given as goal
-
-abbrev pub invariant-loop-edge : goal.invariant-loop-edge
-invariant-loop-edge g l = l.others.items ≡ map reversed (take l.edge-index l.edges)

@@ -1,5 +1,0 @@
-use Rattle.lookup_graph.proofs.Turning.{AreFree}
-use Rattle.lookup_graph.proofs.turns.find_turn.Given as goal
-
-abbrev pub invariant-loop-edge : goal.invariant-loop-edge
-invariant-loop-edge g l = AreFree l.edges l.edge-index

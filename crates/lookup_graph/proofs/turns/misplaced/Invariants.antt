@@ -1,6 +1,0 @@
-use Rattle.std.proofs.Common.{take}
-use Rattle.lookup_graph.specs.Turns.{AreLevels}
-use Rattle.lookup_graph.proofs.turns.misplaced.Given as goal
-
-abbrev pub invariant-loop-edge : goal.invariant-loop-edge
-invariant-loop-edge g l = AreLevels (take l.edge-index l.edges) l.levels

@@ -1,4 +1,0 @@
-pub mod GraphTexts
-pub mod Listings
-pub mod Spelling
-pub mod Walks

@@ -1,2 +1,0 @@
-pub mod Suffixes
-pub mod Few

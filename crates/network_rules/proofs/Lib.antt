@@ -1,3 +1,0 @@
-mod Inserting
-pub mod Meaning
-pub mod Rows

@@ -1,7 +1,0 @@
-use Rattle.std.proofs.Common.{subst}
-use Rattle.publish_history.specs.Histories.{IsLegal}
-use Rattle.publish_history.proofs.Beginnings.{numbered_of}
-use Rattle.publish_history.proofs.history.Beginning.len.Goals as goal
-
-pub returns-clause-numbered : goal.returns-clause-numbered
-returns-clause-numbered g c = rw (← c.self.view_is) (numbered_of _ 1 _ (subst (IsLegal g.V.Release.number_of) c.self.invariant.1 c.self.invariant.2))

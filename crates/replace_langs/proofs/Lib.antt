@@ -1,4 +1,0 @@
-mod Listing
-mod Tables
-pub mod Sets
-mod Paired

@@ -1,6 +1,0 @@
-use Rattle.std.proofs.Common.{◌≡◌, take}
-use Rattle.replace_langs.specs.Letters.{pair_table}
-use Rattle.replace_langs.proofs.rows.pair_rows.Given as goal
-
-abbrev pub invariant-loop-mark : goal.invariant-loop-mark
-invariant-loop-mark l = l.rows.items ≡ pair_table (take l.mark-index l.marks)

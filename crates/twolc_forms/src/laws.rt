@@ -1,7 +1,0 @@
-ghost use Rattle.twolc_forms.specs.Forms.{GrammarsAreFormed};
-
-/// The law that the expressions and the rules of a grammar that a text says have the forms that stand in a text. It does nothing
-/// when it runs.
-pub fn grammars_are_formed()
-    ensures { GrammarsAreFormed }
-{}

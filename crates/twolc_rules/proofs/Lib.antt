@@ -1,4 +1,0 @@
-pub mod Fronts
-pub mod Heads
-pub mod Rest
-pub mod Splits
