@@ -1,6 +1,7 @@
 """Runs the gate from nothing and prints what it takes, crate by crate: processor seconds of the proof, of the tests and of the
-edits, and the peak memory of a check. Usage: bench/gate.py [WORDS OF rt ci ..], by default --anew where the kit keeps what it proved;
-`bench/gate.py kept` proves only what no earlier run on this machine has proved.
+edits, and the peak memory of a check; and the chain of crates, each of which stands on the one before, whose proofs take longest.
+Usage: bench/gate.py [WORDS OF rt ci ..], by default --anew where the kit keeps what it proved; `bench/gate.py kept` proves only what
+no earlier run on this machine has proved.
 
 The time of each prover is read while it runs, a few times a second, so a line may lack as much; the sum at the end is the
 system's own count."""
@@ -80,6 +81,25 @@ def keeps():
     return 'rt ci --anew' in said or '[--anew]' in said
 
 
+def stands_on():
+    """What each crate stands on."""
+    lines = (line for line in read(os.path.join(ROOT, 'crates.txt')).splitlines() if ':' in line and not line.startswith('#'))
+    return {head.split()[0]: deps.split() for head, deps in (line.split(':', 1) for line in lines)}
+
+
+def longest_chain(rows):
+    """The chain of crates whose proofs take longest, lowest first, and their seconds."""
+    deps, known = stands_on(), {}
+
+    def chain(crate):
+        if crate not in known:
+            below = max((chain(dep) for dep in deps[crate] if dep in deps), key=lambda it: it[0], default=(0, []))
+            known[crate] = below[0] + rows.get(crate, {}).get('proof', 0), below[1] + [crate]
+        return known[crate]
+
+    return max(map(chain, deps), key=lambda it: it[0])
+
+
 def main(words):
     start = time.monotonic()
     gate = subprocess.Popen(['rt', 'ci', *words], cwd=ROOT)
@@ -95,7 +115,9 @@ def main(words):
         print('%-20s %7.0f %7.0f %7.0f %7.0f %8.0f' % (crate, *seconds, sum(seconds), row['peak'] / 2**20))
     sums = [sum(row[kind] for row in rows.values()) for kind in KINDS]
     print('%-20s %7.0f %7.0f %7.0f %7.0f' % ('sum', *sums, sum(sums)))
-    print('processor seconds in all: %.0f; seconds: %.0f' % (spent.ru_utime + spent.ru_stime, time.monotonic() - start))
+    print('processor seconds in all: %.0f; seconds: %.0f, on %d processors' % (spent.ru_utime + spent.ru_stime, time.monotonic() - start, os.cpu_count()))
+    seconds, chain = longest_chain(rows)
+    print('longest chain: %d crates of %d, %.0f processor seconds: %s' % (len(chain), len(stands_on()), seconds, ', '.join(chain)))
     return gate.returncode
 
 
