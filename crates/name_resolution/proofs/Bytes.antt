@@ -6,7 +6,7 @@ use Rattle.std.proofs.lemmas.Option.{same_Some, slice_get_within}
 use Rattle.fsm_base.specs.Symbols.{number_of}
 use Rattle.fsm_base.specs.declared.letters.Sym.{Sym as Symbol}
 use Rattle.name_resolution.specs.Bytes.{AreOfBytes}
-use Rattle.name_resolution.proofs.Leaves.{letter_with_text}
+use Rattle.name_resolution.proofs.GrammarLeaves.{letter_with_text}
 use Rattle.name_resolution.specs.Resolved.{letter_of}
 use Rattle.project_meaning.specs.Leaves.{written}
 use Rattle.regex_ast.specs.declared.expr.Atom.TheVariants.{Sym}

@@ -1,13 +1,13 @@
 pub mod Texts
-pub mod Leaves
+pub mod GrammarLeaves
 pub mod Listed
 pub mod Mapped
 pub mod Rows
-pub mod Lexicons
+pub mod ResolvedLexicons
 mod Bytes
 mod Numbering
-mod Symbols
-mod Listing
+mod TableSymbols
+mod FormListing
 mod GrammarNumbering
 mod Parts
 mod GrammarSymbols

@@ -8,5 +8,5 @@ pub mod Searched
 pub mod Narrowed
 pub mod Ruled
 mod Inserting
-pub mod Meaning
+pub mod RuleMeaning
 pub mod RuleRows

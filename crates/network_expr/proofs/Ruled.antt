@@ -23,7 +23,7 @@ use Rattle.replace_rules.specs.declared.rules.LangMap.{LangMap}
 use Rattle.replace_rules.specs.Rules.{ReplacesBy, AppliesBy}
 use Rattle.replace_insertions.specs.Insertions.{InsertsBy, AsksBy}
 use Rattle.network_expr.specs.Rules.{AreGroups}
-use Rattle.network_expr.proofs.Meaning.{rules_mean, insertion_means, insertion_rows}
+use Rattle.network_expr.proofs.RuleMeaning.{rules_mean, insertion_means, insertion_rows}
 use Rattle.network_expr.specs.Built.{IsMeant, MappingsAreBuiltOver, ContextsAreBuiltOver, GroupsAreBuiltOver}
 use Rattle.network_expr.specs.Parts.{kinds, stands}
 use Rattle.network_expr.specs.declared.parts.Part.{Part}

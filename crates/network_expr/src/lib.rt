@@ -8,7 +8,7 @@
 //!
 //! Inside, `langs` has the parts of rules of replacement as languages, and `insertions` the network of rules that are one insertion.
 //! `specs/Rules.antt` says when rules of languages are those of an expression: where they are, `replace` (replace_rules) relates what
-//! the expression relates (`proofs/Meaning.antt`).
+//! the expression relates (`proofs/RuleMeaning.antt`).
 #![tactic(auto)]
 
 mod build;

@@ -7,4 +7,4 @@ pub mod LeafWords
 pub mod PairRows
 pub mod Standing
 pub mod Weights
-pub mod Words
+pub mod PairWords

@@ -21,7 +21,7 @@ use Rattle.project_definitions.specs.Bodies.{mapped_body}
 use Rattle.project_definitions.proofs.Numbers.{number_within}
 use Rattle.project_definitions.proofs.Bodies.{all_on}
 use Rattle.project_definitions.proofs.Replaced.{leaves_there}
-use Rattle.name_resolution.proofs.Leaves.{leaf_cases}
+use Rattle.name_resolution.proofs.GrammarLeaves.{leaf_cases}
 use Rattle.name_resolution.proofs.Mapped.{mapped_twice}
 use Rattle.project_definitions.proofs.Mapped.{mapped_built}
 

@@ -39,7 +39,7 @@ use Rattle.project_definitions.specs.declared.definition.Definition.{Definition}
 use Rattle.project_definitions.proofs.Numbers.{at_number, number_within}
 use Rattle.project_definitions.proofs.Bodies.{expressions_mapped, expressions_resolved}
 use Rattle.name_resolution.proofs.Listed.{listed_is}
-use Rattle.name_resolution.proofs.Leaves.{leaf_cases}
+use Rattle.name_resolution.proofs.GrammarLeaves.{leaf_cases}
 use Rattle.name_resolution.proofs.Mapped.{mapped_listed, mapped_twice}
 
 below : (n m : ℕ) → n < m → nat_lt n m ≡ true

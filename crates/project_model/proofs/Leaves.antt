@@ -3,7 +3,7 @@ use Rattle.std.proofs.Common.{◌≡◌, ℕ, true, false, List, [], ◌∷◌, 
 use Rattle.regex_ast.specs.declared.expr.Raw.{Raw}
 use Rattle.project_meaning.specs.Leaves.{Leaf, symbol, named, leaf_of, symbol_in, written}
 use Rattle.name_resolution.specs.Names.{is_symbol_leaf}
-use Rattle.name_resolution.proofs.Leaves.{leaf_cases}
+use Rattle.name_resolution.proofs.GrammarLeaves.{leaf_cases}
 use Rattle.name_resolution.specs.Symbols.{symbol_beside}
 
 module _ (names : List (List ℕ)) (leaf : Raw) where

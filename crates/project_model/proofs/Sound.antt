@@ -37,7 +37,7 @@ use Rattle.project_definitions.proofs.Replaced.{leaves_here, leaves_there}
 use Rattle.project_definitions.proofs.Numbers.{number_within}
 use Rattle.project_definitions.proofs.Compiled.{body_built}
 use Rattle.project_definitions.proofs.Built.{All-front, All-back, built_here, built_there}
-use Rattle.name_resolution.proofs.Leaves.{leaf_cases}
+use Rattle.name_resolution.proofs.GrammarLeaves.{leaf_cases}
 use Rattle.name_resolution.proofs.Mapped.{mapped_twice}
 use Rattle.project_definitions.proofs.Mapped.{mapped_built}
 use Rattle.name_resolution.proofs.Texts.{any_from_has}

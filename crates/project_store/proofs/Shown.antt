@@ -63,7 +63,7 @@ use Rattle.project_definitions.specs.Entries.{Entry, entry_in, entry_of}
 use Rattle.project_definitions.proofs.Numbers.{at_number}
 use Rattle.project_definitions.proofs.Bodies.{expressions_mapped, expressions_resolved}
 use Rattle.project_definitions.proofs.Expressions.{names_said}
-use Rattle.name_resolution.proofs.Leaves.{leaf_cases}
+use Rattle.name_resolution.proofs.GrammarLeaves.{leaf_cases}
 use Rattle.name_resolution.proofs.Mapped.{mapped_twice}
 use Rattle.project_definitions.proofs.Mapped.{mapped_built}
 use Rattle.project_definitions.proofs.Referring.{at_map}

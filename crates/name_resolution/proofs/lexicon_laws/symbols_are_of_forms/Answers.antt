@@ -1,4 +1,4 @@
-use Rattle.name_resolution.proofs.Symbols.{symbols_of_forms}
+use Rattle.name_resolution.proofs.TableSymbols.{symbols_of_forms}
 use Rattle.name_resolution.proofs.lexicon_laws.symbols_are_of_forms.Goals as goal
 
 pub returns : goal.returns

@@ -6,7 +6,7 @@ use Rattle.name_resolution.specs.Symbols.{terms_behind}
 use Rattle.name_resolution.specs.Plain.{form_of, lexicon_of}
 use Rattle.project_meaning.specs.Leaves.{expressions_in, expressions_of}
 use Rattle.project_meaning.specs.Trees.{lexc}
-use Rattle.name_resolution.proofs.Lexicons.{one_lexicon}
+use Rattle.name_resolution.proofs.ResolvedLexicons.{one_lexicon}
 use Rattle.name_resolution.proofs.listing.expressions.Goals as goal
 
 pub lexicons-preserved : goal.lexicons-preserved

@@ -1,7 +1,7 @@
 use Rattle.std.proofs.Common.{◌++◌, ◌∙◌, ap, map}
 use Rattle.std.specs.List.{flat_map}
 use Rattle.expr_leaves.specs.Leaves.{seen}
-use Rattle.name_resolution.proofs.Listing.{parts_listed}
+use Rattle.name_resolution.proofs.FormListing.{parts_listed}
 use Rattle.name_resolution.proofs.pairs.add_expression.Goals as goal
 use Rattle.name_resolution.specs.Leaves.{pairs_behind, pairs_in_part}
 use Rattle.grammar_pairs.specs.Plain.{part_of}

@@ -2,7 +2,7 @@ use Rattle.std.proofs.Common.{[], ◌∷◌}
 use Rattle.expr_leaves.proofs.Behind.{add_both_ok}
 use Rattle.expr_leaves.specs.Leaves.{listed_contexts}
 use Rattle.expr_leaves.specs.Mapped.{mapped_contexts}
-use Rattle.name_resolution.proofs.Listing.{pushed}
+use Rattle.name_resolution.proofs.FormListing.{pushed}
 use Rattle.name_resolution.proofs.pairs.add_rule.Goals as goal
 use Rattle.name_resolution.specs.Leaves.{pairs_behind, pairs_in_part}
 use Rattle.grammar_pairs.specs.Plain.{pair_of, part_of}

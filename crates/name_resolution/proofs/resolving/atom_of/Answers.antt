@@ -1,6 +1,6 @@
 use Rattle.std.proofs.Common.{sym, ap, ◌∙◌}
 use Rattle.regex_ast.specs.declared.expr.Atom.TheVariants.{Sym, Name}
-use Rattle.name_resolution.proofs.Leaves.{atom_symbol, atom_name, atom_behind}
+use Rattle.name_resolution.proofs.GrammarLeaves.{atom_symbol, atom_name, atom_behind}
 use Rattle.name_resolution.proofs.resolving.atom_of.Goals as goal
 
 pub returns-then-is_symbol : goal.returns-then-is_symbol

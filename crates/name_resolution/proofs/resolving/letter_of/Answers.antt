@@ -1,5 +1,5 @@
 use Rattle.std.proofs.Common.{sym, ap, ◌∙◌}
-use Rattle.name_resolution.proofs.Leaves.{letter_with_text, letter_without_text}
+use Rattle.name_resolution.proofs.GrammarLeaves.{letter_with_text, letter_without_text}
 use Rattle.name_resolution.proofs.resolving.letter_of.Goals as goal
 use Rattle.regex_ast.specs.declared.expr.Atom.TheVariants.{Sym, Name}
 

@@ -32,7 +32,7 @@ use Rattle.expr_kinds.proofs.Sets.{term_rules, maps_of_is, contexts_in_is}
 use Rattle.network_expr.proofs.Ruled.{MapsReady, ContextsReady, GroupsReady, map_ready, context_ready, group_ready, side_of_is, take_whole, rules_meant, insertion_meant, else_second}
 use Rattle.network_expr.specs.Rules.{AreMaps, AreContexts, AreGroups}
 use Rattle.network_expr.proofs.RuleRows.{maps_more, contexts_more, groups_more}
-use Rattle.network_expr.proofs.Meaning.{groups_over, insertion_rows}
+use Rattle.network_expr.proofs.RuleMeaning.{groups_over, insertion_rows}
 use Rattle.replace_rules.specs.declared.rules.LangMap.{LangMap}
 use Rattle.replace_rules.specs.declared.rules.LangContext.{LangContext}
 use Rattle.replace_rules.specs.declared.rules.LangGroup.{LangGroup}

@@ -1,4 +1,4 @@
-use Rattle.network_expr.proofs.Meaning.{inside_over}
+use Rattle.network_expr.proofs.RuleMeaning.{inside_over}
 use Rattle.network_expr.proofs.langs.inner_language.Goals as goal
 
 pub of-requires-clause-all : goal.of-requires-clause-all

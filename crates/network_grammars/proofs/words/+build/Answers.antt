@@ -21,7 +21,7 @@ use Rattle.network_grammars.specs.Rows.{IsChoice}
 use Rattle.network_grammars.proofs.LeafWords.{numbers_distinct}
 use Rattle.network_grammars.proofs.PairRows.{HasWords, before_same, chain_choice, chain_two, choice_two, concat_one, concat_two, each_forms, empty_only, halves_joined, ignore_one, ignore_row, ignore_two, less_only, linked_and, linked_less, linked_or, links_forms, no_item, none_words, one_item, two_only, one_more, operand_form}
 use Rattle.network_grammars.proofs.Weights.{each_halves, links_halves, link_lighter, link_weight, weight, weight_links, weight_each, operand_lighter}
-use Rattle.network_grammars.proofs.Words.{maybe_words, not_one_words, prefixed_words, suffixed_words}
+use Rattle.network_grammars.proofs.PairWords.{maybe_words, not_one_words, prefixed_words, suffixed_words}
 use Rattle.std.proofs.lemmas.List.{take_all}
 use Rattle.network_grammars.proofs.words.+build.Goals as goal
 

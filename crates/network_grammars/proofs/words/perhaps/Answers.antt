@@ -1,5 +1,5 @@
 use Rattle.std.proofs.lemmas.Result.{IfOk-weaker}
-use Rattle.network_grammars.proofs.Words.{perhaps_only, perhaps_words}
+use Rattle.network_grammars.proofs.PairWords.{perhaps_only, perhaps_words}
 use Rattle.network_grammars.proofs.words.perhaps.Goals as goal
 
 pub returns-clause-letters : goal.returns-clause-letters

@@ -3,7 +3,7 @@ use Rattle.fsa.specs.Language.{Accepts}
 use Rattle.expr_meaning.specs.Operators.{AreSuffixed, IsItself}
 use Rattle.network_algebra.specs.Networks.{WordsOf}
 use Rattle.network_algebra.specs.declared.network.Network.{Network}
-use Rattle.network_grammars.proofs.Words.{language_suffixes}
+use Rattle.network_grammars.proofs.PairWords.{language_suffixes}
 use Rattle.network_grammars.proofs.words.with_suffixes.Goals as goal
 
 pub into_words-requires : goal.into_words-requires

@@ -2,7 +2,7 @@ use Rattle.std.proofs.Common.{◌+◌, ◌∙◌, ap, arith, drop, map}
 use Rattle.std.specs.List.{flat_map}
 use Rattle.word_relations.proofs.Behind.{left_behind}
 use Rattle.name_resolution.specs.Plain.{form_of, lexicon_of}
-use Rattle.name_resolution.proofs.Lexicons.{one_lexicon}
+use Rattle.name_resolution.proofs.ResolvedLexicons.{one_lexicon}
 use Rattle.project_meaning.specs.Leaves.{forms_in}
 use Rattle.project_model.specs.Gathered.{gathered}
 use Rattle.name_resolution.specs.Symbols.{symbols_at}

@@ -1,7 +1,7 @@
 use Rattle.std.proofs.Common.{◌≡◌, sym, subst, ◌∙◌}
 use Rattle.project_meaning.specs.Leaves.{leaf_of}
 use Rattle.name_resolution.specs.Names.{is_named}
-use Rattle.name_resolution.proofs.Leaves.{run_test}
+use Rattle.name_resolution.proofs.GrammarLeaves.{run_test}
 use Rattle.name_resolution.proofs.names.Names.is_name.Goals as goal
 
 pub returns-in-Run : goal.returns-in-Run

@@ -1,6 +1,6 @@
 use Rattle.std.proofs.Common.{◌==◌, ◌&&◌, not, length, sym, ap, ◌∙◌}
 use Rattle.project_meaning.specs.Leaves.{written}
-use Rattle.name_resolution.proofs.Leaves.{name_is_no_symbol, symbol_test}
+use Rattle.name_resolution.proofs.GrammarLeaves.{name_is_no_symbol, symbol_test}
 use Rattle.name_resolution.proofs.names.Names.is_symbol.Goals as goal
 
 pub returns-then-not-is_name : goal.returns-then-not-is_name
