@@ -1,6 +1,7 @@
 pub mod Weights
 pub mod Ready
 pub mod Rows
+pub mod Cascades
 pub mod Meant
 pub mod LeafWords
 pub mod Named

@@ -7,7 +7,7 @@ use Rattle.fsm_base.specs.declared.letters.Bound.TheVariants.{Edge}
 use Rattle.fsm_base.specs.declared.letters.Pair.{Pair}
 use Rattle.fsm_base.specs.declared.letters.Sym.{Sym}
 use Rattle.word_relations.specs.Words.{IsOver, IsConcatenation}
-use Rattle.word_relations.specs.Relations.{AreSame, IsConcatenationOfPairs, IsComposition}
+use Rattle.word_relations.specs.Relations.{AreSame, IsConcatenationOfPairs}
 use Rattle.word_relations.proofs.Laws.{IsConcatenation-more, IsConcatenation-empty_right}
 use Rattle.word_relations.proofs.Members.{Contains-nil_cases, Contains-head}
 use Rattle.word_relations.proofs.Pairs.{concatenation_same, concatenation_empty_right, same_trans, same_back}
@@ -22,9 +22,8 @@ use Rattle.regex_ast.specs.declared.expr.Prefix.{Prefix}
 use Rattle.regex_ast.specs.declared.expr.Atom.{Atom}
 use Rattle.regex_ast.specs.declared.expr.Atom.TheVariants.{Sym as Symbol}
 use Rattle.regex_ast.specs.declared.expr.Link.{Link}
-use Rattle.regex_ast.specs.declared.expr.Step.{Step}
 use Rattle.regex_ast.specs.declared.expr.Context.{Context}
-use Rattle.regex_ast.specs.Terms.{Term, Terms, Links, Contexts, Steps, empty, any, atom, letters, maybe, cross, prefixed, not_one, ignore, concat, only, no_term, then_term, no_link, or, no_context, between, no_step, cross_with, then, terms_of, links_of, contexts_of, steps_by}
+use Rattle.regex_ast.specs.Terms.{Term, Terms, Links, Contexts, Steps, empty, any, atom, letters, maybe, cross, prefixed, not_one, ignore, concat, only, no_term, then_term, no_link, or, no_context, between, terms_of, links_of, contexts_of}
 use Rattle.expr_kinds.specs.Atoms.{are_one_symbol}
 use Rattle.expr_kinds.specs.Kinds.{are_alike, both, half, kind_of, kind_of_each, kind_of_chain, kind_of_steps, kind_of_contexts, ChainFits, StepsFit, ContextsFit, EachFitsAsLanguage}
 use Rattle.expr_kinds.specs.declared.form.Kind.{Kind}
@@ -43,9 +42,9 @@ use Rattle.network_sets.specs.Split.{split}
 use Rattle.network_sets.specs.declared.parts.Split.{Split}
 use Rattle.network_sets.proofs.Inside.{over_all}
 use Rattle.network_expr.specs.Built.{IsMeant, IsChoice}
-use Rattle.network_sets.proofs.Alike.{SameWords, composition_same, words_then, words_back, ignoring_same, prefixes_same, not_one_same}
+use Rattle.network_sets.proofs.Alike.{SameWords, words_then, words_back, ignoring_same, prefixes_same, not_one_same}
 use Rattle.network_sets.proofs.Suffixed.{for_same, for_itself}
-use Rattle.network_expr.proofs.Rows.{each_words, each_pairs, each_kind, put_in_same, put_in_split, chain_words, chain_language, chain_pairs, chain_words_split, chain_pairs_split, chain_kind, choice_words, choice_pairs, choice_kind, steps_words, steps_language, steps_pairs, steps_words_split, steps_pairs_split, steps_kind, context_split}
+use Rattle.network_expr.proofs.Rows.{each_words, each_pairs, each_kind, put_in_same, put_in_split, chain_words, chain_language, chain_pairs, chain_words_split, chain_pairs_split, chain_kind, choice_words, choice_pairs, choice_kind, steps_words, steps_language, steps_pairs, context_split}
 
 -- a smaller network that is the same
 pub reduced_for : (K : Kind) (P : List (Bound Sym) → Type 0) (R : List Sym → List Sym → Type 0) (n r : Network) → IsFor K P R n → IsFor (kind_of_network n) (WordsOf n) (PairsOf n) r → IsFor K P R r
@@ -76,12 +75,6 @@ module _ (K J : Kind) (P Q : List (Bound Sym) → Type 0) (R S : List Sym → Li
         λ x. elim x as (λ _. R u w ⊎ S u w) [ inl p ↦ inl ((f.pairs u w).0 p) | inr q ↦ inr ((g.pairs u w).0 q) ],
         λ x. elim x as (λ _. PairsOf a u w ⊎ PairsOf b u w) [ inl p ↦ inl ((f.pairs u w).1 p) | inr q ↦ inr ((g.pairs u w).1 q) ],
       )) h
-
-  pub composed_for : IsFor (both (kind_of_network a) (kind_of_network b)) (λ w. WordsOf a w × WordsOf b w) (IsComposition (PairsOf a) (PairsOf b)) r → IsFor (both K J) (λ w. P w × Q w) (IsComposition R S) r
-  composed_for h =
-      for_same (both (kind_of_network a) (kind_of_network b)) (both K J) (λ w. WordsOf a w × WordsOf b w) (λ w. P w × Q w) (IsComposition (PairsOf a) (PairsOf b)) (IsComposition R S) r both_kinds
-      (λ is w. let two = both_languages K J is in (λ x. ((f.words two.0 w).0 x.0, (g.words two.1 w).0 x.1), λ x. ((f.words two.0 w).1 x.0, (g.words two.1 w).1 x.1)))
-      (composition_same (PairsOf a) R (PairsOf b) S f.pairs g.pairs) h
 
 module _ (parts : List Part) (alphabet : List Sym) where
   -- a language by its words
@@ -258,30 +251,6 @@ module _ (parts : List Part) (alphabet : List Sym) where
   steps_for K P R n r more fits f h =
       for_same (kind_of_steps (kinds parts) (kind_of_network n) more) (kind_of_steps (kinds parts) K more) (InSteps (stands parts) alphabet (WordsOf n) more) (InSteps (stands parts) alphabet P more) (RelatesSteps (stands parts) alphabet (WordsOf n) (PairsOf n) more) (RelatesSteps (stands parts) alphabet P R more) r
       (ap (λ k. kind_of_steps (kinds parts) k more) f.kind_is) (λ is. steps_words parts alphabet more (WordsOf n) P (f.words (steps_language parts alphabet more K is))) (steps_pairs parts alphabet more (WordsOf n) P (PairsOf n) R K fits f.words f.pairs) h
-
-  abbrev pub IsStepped : Network → List (Step Atom) → Network → Type 0
-  IsStepped n more r = IsFor (kind_of_steps (kinds parts) (kind_of_network n) (steps_by more)) (InSteps (stands parts) alphabet (WordsOf n) (steps_by more)) (RelatesSteps (stands parts) alphabet (WordsOf n) (PairsOf n) (steps_by more)) r
-
-  pub steps_halves : (n inner r : Network) (xs ys whole : List (Step Atom)) → xs ++ ys ≡ whole → StepsFit (kinds parts) (kind_of_steps (kinds parts) (kind_of_network n) (steps_by xs)) (steps_by ys) → IsStepped n xs inner → IsStepped inner ys r → IsStepped n whole r
-  steps_halves n inner r xs ys whole is fits f g =
-      let K = kind_of_steps (kinds parts) (kind_of_network n) (steps_by xs) in
-      let P = InSteps (stands parts) alphabet (WordsOf n) (steps_by xs) in
-      let R = RelatesSteps (stands parts) alphabet (WordsOf n) (PairsOf n) (steps_by xs) in
-      subst (λ (z : List (Step Atom)). IsStepped n z r) is
-      (for_same (kind_of_steps (kinds parts) K (steps_by ys)) (kind_of_steps (kinds parts) (kind_of_network n) (steps_by (xs ++ ys))) (InSteps (stands parts) alphabet P (steps_by ys)) (InSteps (stands parts) alphabet (WordsOf n) (steps_by (xs ++ ys))) (RelatesSteps (stands parts) alphabet P R (steps_by ys)) (RelatesSteps (stands parts) alphabet (WordsOf n) (PairsOf n) (steps_by (xs ++ ys))) r
-      (sym (steps_kind parts xs ys (kind_of_network n))) (λ language w. let s = steps_words_split parts alphabet xs ys (WordsOf n) w in (s.1, s.0))
-      (same_back (RelatesSteps (stands parts) alphabet (WordsOf n) (PairsOf n) (steps_by (xs ++ ys))) (RelatesSteps (stands parts) alphabet P R (steps_by ys)) (steps_pairs_split parts alphabet xs ys (WordsOf n) (PairsOf n))) (steps_for K P R inner r (steps_by ys) fits f g))
-
-  pub crossed_stepped : (n : Network) (x y : Automaton (Bound Sym)) (r : Network) (e : Term Atom) → n ≡ Words x → ((w : List (Bound Sym)) → Accepts y w ↔ In (stands parts) alphabet e w) → IsFor Relation (λ w. Accepts x w × Accepts y w) (λ u w. Accepts x (inner u) × Accepts y (inner w)) r
-      → IsFor (kind_of_steps (kinds parts) (kind_of_network n) (cross_with e no_step)) (InSteps (stands parts) alphabet (WordsOf n) (cross_with e no_step)) (RelatesSteps (stands parts) alphabet (WordsOf n) (PairsOf n) (cross_with e no_step)) r
-  crossed_stepped n x y r e is second h =
-      subst (λ (z : Network). IsFor (kind_of_steps (kinds parts) (kind_of_network z) (cross_with e no_step)) (InSteps (stands parts) alphabet (WordsOf z) (cross_with e no_step)) (RelatesSteps (stands parts) alphabet (WordsOf z) (PairsOf z) (cross_with e no_step)) r) (sym is)
-      (for_same Relation Relation (λ w. Accepts x w × Accepts y w) (λ v. Accepts x v × In (stands parts) alphabet e v) (λ u w. Accepts x (inner u) × Accepts y (inner w)) (λ u w. Accepts x (inner u) × In (stands parts) alphabet e (inner w)) r refl
-      (λ language w. (λ h. (h.0, (second w).0 h.1), λ h. (h.0, (second w).1 h.1))) (λ u w. (λ h. (h.0, (second (inner w)).0 h.1), λ h. (h.0, (second (inner w)).1 h.1))) h)
-
-  pub then_stepped : (n b r : Network) (e : Term Atom) → IsMeant parts alphabet e b → IsFor (both (kind_of_network n) (kind_of_network b)) (λ w. WordsOf n w × WordsOf b w) (IsComposition (PairsOf n) (PairsOf b)) r
-      → IsFor (kind_of_steps (kinds parts) (kind_of_network n) (then e no_step)) (InSteps (stands parts) alphabet (WordsOf n) (then e no_step)) (RelatesSteps (stands parts) alphabet (WordsOf n) (PairsOf n) (then e no_step)) r
-  then_stepped n b r e f h = composed_for (kind_of_network n) (kind_of (kinds parts) e) (WordsOf n) (In (stands parts) alphabet e) (PairsOf n) (Relates (stands parts) alphabet e) n b r (for_itself n) f h
 
   -- contexts
   pub context_kind : (contexts : Contexts Atom) → ContextsFit (kinds parts) contexts → kind_of_contexts (kinds parts) contexts ≡ Language

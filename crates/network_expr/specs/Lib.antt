@@ -1,3 +1,4 @@
 pub mod Built
+pub mod Cascades
 pub mod Parts
 pub mod Rules

@@ -15,9 +15,11 @@ ghost use Rattle.expr_meaning.specs.Operators.{inner};
 ghost use Rattle.network_algebra.specs.Networks.{IsFor, IsNetwork, PairsOf, UsesOnly, WordsOf, all_letters, kind_of_network};
 ghost use Rattle.network_sets.specs.Split.{split, split_letters};
 ghost use Rattle.network_expr.specs.Built.{AreBuiltOver, ContextsAreBuiltOver, GroupsAreBuiltOver, IsBuiltOver, IsChoice, IsMeant, IsNarrowing, LinksAreBuiltOver, MappingsAreBuiltOver, StepsAreBuiltOver};
+ghost use Rattle.network_expr.specs.Cascades.{IsCascade, IsCascadeFor, PairsOfCascade, WordsOfCascade, kind_of_cascade};
 ghost use Rattle.network_expr.specs.Parts.{IsGround, kinds, stands};
 ghost use Rattle.network_expr.specs.Rules.{AreContexts, AreMaps, IsPart};
 
+use crate::cascade::Cascade;
 use crate::insertions::{empty_word, insertion};
 use crate::langs::inner_language;
 use crate::leaves::{leaf, symbols};
@@ -28,8 +30,8 @@ use fsm_base::{Bound, Sym};
 use lang_algebra::{Lang, one_letter};
 use network_algebra::{Network, cross, inner_letters, reduced, union, word};
 use network_sets::{
-    Split, apply_prefixes, apply_suffixes, both, compose, ignore, in_context, language,
-    not_one_times, restrict,
+    Split, apply_prefixes, apply_suffixes, both, ignore, in_context, language, not_one_times,
+    restrict,
 };
 use regex_ast::{Atom, Context, Expr, Group, Link, Mapping, Step};
 use replace_rules::{LangContext, LangGroup, LangMap, replace};
@@ -440,37 +442,44 @@ fn in_steps(
     ensures letters { IfOk result (IsNetwork alphabet.now) }
     ensures meaning { IfOk result (IsFor (kind_of_steps (kinds parts.now) (kind_of_network before) (steps_by steps.now)) (InSteps (stands parts.now) alphabet.now (WordsOf before) (steps_by steps.now)) (RelatesSteps (stands parts.now) alphabet.now (WordsOf before) (PairsOf before) (steps_by steps.now))) }
 {
-    let mut network = before;
+    let mut cascade = Cascade {
+        head: before,
+        tail: None,
+    };
     'steps: for step in steps {
-        network = in_step(alloc, alphabet, parts, network, step)?;
+        cascade = in_step(alloc, alphabet, parts, cascade, step)?;
     }
-    Ok(network)
+    cascade.join(alloc, alphabet)
 }
 
-/// The network of what stands before and one more operand of `.x.` or `.o.`.
+/// What stands before and one more operand of `.x.` or `.o.`.
 #[cycle(build)]
 fn in_step(
     alloc: Global,
     alphabet: &[Sym],
     parts: &[Part],
-    before: Network,
+    before: Cascade,
     step: &Step<Atom>,
-) -> Result<Network, AllocError>
+) -> Result<Cascade, AllocError>
     requires ground { IsGround alphabet.now parts.now }
-    requires before { IsNetwork alphabet.now before }
+    requires before { IsCascade alphabet.now before }
     requires built { StepsAreBuiltOver parts.now alphabet.now (steps_by (step.now ∷ [])) }
-    requires fits { StepsFit (kinds parts.now) (kind_of_network before) (steps_by (step.now ∷ [])) }
-    ensures letters { IfOk result (IsNetwork alphabet.now) }
-    ensures meaning { IfOk result (IsFor (kind_of_steps (kinds parts.now) (kind_of_network before) (steps_by (step.now ∷ []))) (InSteps (stands parts.now) alphabet.now (WordsOf before) (steps_by (step.now ∷ []))) (RelatesSteps (stands parts.now) alphabet.now (WordsOf before) (PairsOf before) (steps_by (step.now ∷ [])))) }
+    requires fits { StepsFit (kinds parts.now) (kind_of_cascade before) (steps_by (step.now ∷ [])) }
+    ensures letters { IfOk result (IsCascade alphabet.now) }
+    ensures meaning { IfOk result (IsCascadeFor (kind_of_steps (kinds parts.now) (kind_of_cascade before) (steps_by (step.now ∷ []))) (InSteps (stands parts.now) alphabet.now (WordsOfCascade before) (steps_by (step.now ∷ []))) (RelatesSteps (stands parts.now) alphabet.now (WordsOfCascade before) (PairsOfCascade before) (steps_by (step.now ∷ [])))) }
 {
     match step {
         Step::CrossWith(operand) => {
-            let words = words_of(alloc, alphabet, parts, operand)?;
-            cross(alloc, &before.into_words(), &words)
+            let first = before.join(alloc, alphabet)?.into_words();
+            let second = words_of(alloc, alphabet, parts, operand)?;
+            Ok(Cascade {
+                head: cross(alloc, &first, &second)?,
+                tail: None,
+            })
         }
         Step::Then(operand) => {
             let network = network_of(alloc, alphabet, parts, operand)?;
-            compose(alloc, alphabet, before, network)
+            before.then(alloc, alphabet, network)
         }
     }
 }

@@ -6,12 +6,14 @@
 //! - [`network_of`]: the network of an expression, of its kind.
 //! - [`Part`]: the network of what a name stands for, which an expression with that name is built of.
 //!
-//! Inside, `langs` has the parts of rules of replacement as languages, and `insertions` the network of rules that are one insertion.
+//! Inside, `langs` has the parts of rules of replacement as languages, `insertions` the network of rules that are one insertion, and
+//! `cascade` rows of compositions, in which small operands are composed first.
 //! `specs/Rules.antt` says when rules of languages are those of an expression: where they are, `replace` (replace_rules) relates what
 //! the expression relates (`proofs/RuleMeaning.antt`).
 #![tactic(auto)]
 
 mod build;
+mod cascade;
 mod insertions;
 mod langs;
 mod leaves;

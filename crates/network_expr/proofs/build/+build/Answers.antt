@@ -14,18 +14,19 @@ use Rattle.regex_ast.proofs.Rows.{term-Concat, term-Ignore, term-Chain, term-Onl
 use Rattle.expr_kinds.specs.Built.{has_no_insertion, is_insertion}
 use Rattle.expr_kinds.specs.Kinds.{ChainFits, ContextsFit, EachFits, EachFitsAsLanguage, Fits, MappingsFit, StepsFit, kind_of, kind_of_chain, kind_of_steps}
 use Rattle.expr_kinds.specs.declared.form.Kind.TheVariants.{Language}
-use Rattle.expr_meaning.specs.Meaning.{In, InChain, InIgnoring, Relates, RelatesChain}
+use Rattle.expr_meaning.specs.Meaning.{In, InChain, InIgnoring, InSteps, Relates, RelatesChain, RelatesSteps}
 use Rattle.network_algebra.specs.Networks.{all_letters, kind_of_network, WordsOf, PairsOf}
 use Rattle.network_algebra.specs.declared.network.Network.TheVariants.{Words}
 use Rattle.network_sets.specs.Split.{split_letters}
 use Rattle.network_sets.proofs.Inside.{over_left, over_right, inside_all}
 use Rattle.network_sets.proofs.Splits.{both_only}
 use Rattle.network_sets.proofs.Restrictions.{edge_only}
+use Rattle.network_expr.specs.Cascades.{PairsOfCascade, WordsOfCascade, kind_of_cascade}
 use Rattle.network_expr.specs.Parts.{kinds, stands}
 use Rattle.network_expr.specs.Built.{AreBuiltOver, ContextsAreBuiltOver, IsBuiltOver, IsChoice, IsMeant, IsNarrowing, LinksAreBuiltOver, MappingsAreBuiltOver}
 use Rattle.network_expr.proofs.Weights.{weight, weight_contexts, weight_mappings, weight_groups, each_halves, links_halves, contexts_halves, weight_each, weight_steps}
 use Rattle.network_expr.proofs.Rows.{each_built, each_fits, chain_built, chain_fits, choice_fits, contexts_built, contexts_fit, no_item, one_item, halves_joined, terms_joined, one_more}
-use Rattle.network_expr.proofs.Meant.{IsChosen, IsStepped, AreIn, reduced_for, alone_chosen, chain_for, chain_halves, chain_choice, choice_halves, none_chosen, none_accepted, steps_for, steps_halves, then_stepped, context_one, context_halves, no_contexts, only_meant, words_meant, meant_words, letters_meant, colon_language, maybe_meant, same_meant, turn_alone, turns_meant, prefixed_meant, not_one_meant, ignore_row, ignore_one, ignore_halves, each_kind_language, language_meant, empty_only, given_one, given_two}
+use Rattle.network_expr.proofs.Meant.{IsChosen, AreIn, reduced_for, alone_chosen, chain_for, chain_halves, chain_choice, choice_halves, none_chosen, none_accepted, steps_for, context_one, context_halves, no_contexts, only_meant, words_meant, meant_words, letters_meant, colon_language, maybe_meant, same_meant, turn_alone, turns_meant, prefixed_meant, not_one_meant, ignore_row, ignore_one, ignore_halves, each_kind_language, language_meant, empty_only, given_one, given_two}
 use Rattle.network_sets.proofs.Suffixed.{suffixed_for, for_itself}
 use Rattle.network_expr.proofs.Narrowed.{fails, two_links, before_narrowing, halves_fit, narrowed_halves, narrowed_meant, narrowed_only}
 use Rattle.expr_kinds.proofs.Sets.{term_rules, maps_of_is, contexts_in_is}
@@ -36,6 +37,7 @@ use Rattle.network_expr.proofs.RuleMeaning.{groups_over, insertion_rows}
 use Rattle.replace_rules.specs.declared.rules.LangMap.{LangMap}
 use Rattle.replace_rules.specs.declared.rules.LangContext.{LangContext}
 use Rattle.replace_rules.specs.declared.rules.LangGroup.{LangGroup}
+use Rattle.network_expr.proofs.Cascades.{IsCascaded, cascade_more, joined_for, network_alone, then_cascaded}
 use Rattle.network_expr.proofs.Ready.{OperandReady, StepReady, operand_ready, step_ready}
 use Rattle.network_sets.proofs.Alike.{SameWords}
 use Rattle.network_expr.proofs.build.+build.Goals as goal
@@ -285,12 +287,14 @@ in_contexts-returns-in_ok-second-in_default-clause-words t c =
 
 pub in_step-returns-in_ok-network-in-Then-clause-meaning : goal.in_step-returns-in_ok-network-in-Then-clause-meaning
 in_step-returns-in_ok-network-in-Then-clause-meaning t c =
+    let P = c.args.parts.now in
     let A = c.args.alphabet.now in
-    subst (λ (z : Step Atom). IfOk c.compose.result (IsStepped c.args.parts.now A c.args.before (z ∷ []))) (sym c.in-Then.is)
-    (IfOk-weaker _ _ _ (λ r. then_stepped c.args.parts.now A c.args.before c.in_ok-network-in-Then.network r (term c.in-Then.operand) c.in_ok-network-in-Then.ensures.meaning) c.compose.ensures.meaning)
+    let before = c.args.before in
+    subst (λ (z : Step Atom). IfOk c.then.result (IsCascaded P A (kind_of_cascade before) (WordsOfCascade before) (PairsOfCascade before) (z ∷ []))) (sym c.in-Then.is)
+    (IfOk-weaker _ _ _ (λ r. then_cascaded P A before r c.in_ok-network-in-Then.network (term c.in-Then.operand) c.in_ok-network-in-Then.ensures.meaning) c.then.ensures.meaning)
 
 pub in_steps-steps-init : goal.in_steps-steps-init
-in_steps-steps-init t c = record { letters = c.requires.before; meaning = for_itself c.args.before }
+in_steps-steps-init t c = record { letters = c.requires.before; meaning = network_alone (kind_of_network c.args.before) (WordsOf c.args.before) (PairsOf c.args.before) c.args.before (for_itself c.args.before) }
 
 pub in_steps-in_step-requires : goal.in_steps-in_step-requires
 in_steps-in_step-requires t c =
@@ -310,7 +314,8 @@ pub in_steps-steps-preserved : goal.in_steps-steps-preserved
 in_steps-steps-preserved t c =
     let P = c.args.parts.now in
     let A = c.args.alphabet.now in
-    let K = kind_of_network c.args.before in
+    let before = c.args.before in
+    let K = kind_of_network before in
     let whole = c.args.steps.now in
     let item = c.step-item.result in
     let i = c.steps.step-index in
@@ -318,14 +323,19 @@ in_steps-steps-preserved t c =
     let kind = kind_of_steps (kinds P) K (steps_by (take i whole)) in
     let ready = subst (λ (z : Step Atom). StepReady P A kind z most) (sym c.step-item.is) (step_ready P A whole K most i item c.steps-test.true c.requires.built c.requires.fits (omega arith)) in
     record {
-      letters = c.in_ok-network.ensures.letters;
-      meaning = steps_halves P A c.args.before c.steps.network c.in_ok-network.network (take i whole) (item ∷ []) (take (i + 1) whole) (one_more whole i item c.steps-test.true c.step-item.is) ready.fits c.steps.invariant.meaning c.in_ok-network.ensures.meaning;
+      letters = c.in_ok-cascade.ensures.letters;
+      meaning = cascade_more P A K (WordsOf before) (PairsOf before) c.steps.cascade c.in_ok-cascade.cascade (take i whole) (item ∷ []) (take (i + 1) whole) (one_more whole i item c.steps-test.true c.step-item.is) ready.fits c.steps.invariant.meaning c.in_ok-cascade.ensures.meaning;
     }
 
 pub in_steps-returns-clause-meaning : goal.in_steps-returns-clause-meaning
 in_steps-returns-clause-meaning t c =
+    let P = c.args.parts.now in
+    let A = c.args.alphabet.now in
+    let before = c.args.before in
     let whole = c.args.steps.now in
-    subst (λ (z : List (Step Atom)). IsStepped c.args.parts.now c.args.alphabet.now c.args.before z c.steps.network) (take_whole whole c.steps.step-index c.steps-test.false) c.steps.invariant.meaning
+    let K = kind_of_network before in
+    let so_far = subst (λ (z : List (Step Atom)). IsCascaded P A K (WordsOf before) (PairsOf before) z c.steps.cascade) (take_whole whole c.steps.step-index c.steps-test.false) c.steps.invariant.meaning in
+    IfOk-weaker _ _ _ (λ n. joined_for (kind_of_steps (kinds P) K (steps_by whole)) (InSteps (stands P) A (WordsOf before) (steps_by whole)) (RelatesSteps (stands P) A (WordsOf before) (PairsOf before) (steps_by whole)) c.steps.cascade n so_far) c.join.ensures.meaning
 
 pub concat_operands-concat_operands-requires : goal.concat_operands-concat_operands-requires
 concat_operands-concat_operands-requires t c =

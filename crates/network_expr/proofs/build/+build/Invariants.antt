@@ -3,9 +3,10 @@ use Rattle.fsa.specs.Language.{Accepts}
 use Rattle.regex_ast.specs.Terms.{term, terms_of, links_of, contexts_of, steps_by, mappings_of, groups_of}
 use Rattle.expr_meaning.specs.Meaning.{InIgnoring}
 use Rattle.network_sets.proofs.Alike.{SameWords}
-use Rattle.network_algebra.specs.Networks.{IsNetwork, UsesOnly, all_letters}
+use Rattle.network_algebra.specs.Networks.{UsesOnly, all_letters, kind_of_network, WordsOf, PairsOf}
 use Rattle.network_expr.specs.Parts.{stands}
-use Rattle.network_expr.proofs.Meant.{IsStepped}
+use Rattle.network_expr.specs.Cascades.{IsCascade}
+use Rattle.network_expr.proofs.Cascades.{IsCascaded}
 use Rattle.network_expr.proofs.Weights.{weight, weight_each, weight_links, weight_contexts, weight_steps, weight_mappings, weight_groups, link_weight, step_weight}
 use Rattle.network_expr.specs.Rules.{AreMaps, AreContexts, AreGroups}
 use Rattle.network_expr.proofs.build.+build.Given as goal
@@ -59,11 +60,11 @@ decreases-narrowed_by l = link_weight l.link.now
 abbrev pub decreases-in_steps : goal.decreases-in_steps
 decreases-in_steps l = weight_steps (steps_by l.steps.now)
 
--- the network of the steps so far
+-- the row of the steps so far
 abbrev pub invariant-in_steps-steps : goal.invariant-in_steps-steps
 invariant-in_steps-steps l = record {
-  letters : IsNetwork l.alphabet l.network;
-  meaning : IsStepped l.parts l.alphabet l.fn.before (take l.step-index l.steps) l.network;
+  letters : IsCascade l.alphabet l.cascade;
+  meaning : IsCascaded l.parts l.alphabet (kind_of_network l.fn.before) (WordsOf l.fn.before) (PairsOf l.fn.before) (take l.step-index l.steps) l.cascade;
 }
 
 abbrev pub decreases-in_step : goal.decreases-in_step
