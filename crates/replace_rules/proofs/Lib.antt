@@ -6,3 +6,6 @@ mod Listing
 mod Tables
 pub mod Sets
 mod Paired
+mod Told
+mod ByFirsts
+mod MarkRows

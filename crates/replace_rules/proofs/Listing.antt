@@ -14,7 +14,7 @@ use Rattle.replace_words.specs.declared.marks.Mark.TheVariants.{Copy, Up, Low, S
 use Rattle.replace_rules.specs.Letters.{IsMarkOf, marks_with, brackets}
 
 -- lists in which each element stands once
-none_distinct : {X : Type 0} → IsDistinct {L = X} []
+pub none_distinct : {X : Type 0} → IsDistinct {L = X} []
 none_distinct {X} i j x at other = absurd (Contains-nil_cases x (Contains-from_slice_get [] i x at))
 
 distinct_more : {X : Type 0} (x : X) (xs : List X) → (Contains xs x → ⊥) → IsDistinct xs → IsDistinct (x ∷ xs)
@@ -34,6 +34,16 @@ distinct_both xs ys first second apart i j x at other =
         | inl b ↦ absurd (apart x (Contains-from_slice_get xs j x b) (Contains-from_slice_get ys a.0 x a.2))
         | inr b ↦ let same : a.0 ≡ b.0 = second a.0 b.0 x a.2 b.2 in omega (arith, a.1, b.1)
       ]
+    ]
+
+-- an element more that wasn't there
+pub distinct_push : {X : Type 0} (xs : List X) (x : X) → IsDistinct xs → (Contains xs x → ⊥) → IsDistinct (xs ++ x ∷ [])
+distinct_push {X} xs x distinct new = distinct_both xs (x ∷ []) distinct (distinct_more x [] (Contains-nil_cases x) none_distinct) apart
+  where
+    apart : (y : X) → Contains xs y → Contains (x ∷ []) y → ⊥
+    apart y old h = elim (Contains-cons_cases x [] y h) [
+      | inl same ↦ new (subst (Contains xs) (sym same) old)
+      | inr none ↦ Contains-nil_cases y none
     ]
 
 rest_distinct : {X : Type 0} (x : X) (xs : List X) → IsDistinct (x ∷ xs) → IsDistinct xs

@@ -39,19 +39,25 @@ lower_pairs (Inner (Same s) ∷ z) = ap (λ u. s ∷ u) (lower_pairs z)
 lower_pairs (Inner (Open k) ∷ z) = lower_pairs z
 lower_pairs (Inner (Close k) ∷ z) = lower_pairs z
 
-pub related_sides : (words : Complete (Bound Mark)) (marks : List (Bound Mark)) (same : marks ≡ words.letters) (ok : IsComplete words) (accepted : Automaton (Bound Mark)) (pairs m : Automaton Pair)
-    → ((z : List (Bound Mark)) → language.Accepts accepted z ↔ Accepts words z) → ((p : List Pair) → language.Accepts pairs p ↔ ((z : List (Bound Mark)) × language.Accepts accepted z × Translates (pair_table marks) z p))
+pub related_sides : (marks : List (Bound Mark)) (words : Automaton (Bound Mark)) (pairs m : Automaton Pair) → ((p : List Pair) → language.Accepts pairs p ↔ ((z : List (Bound Mark)) × language.Accepts words z × Translates (pair_table marks) z p))
     → ((p : List Pair) → language.Accepts m p ↔ language.Accepts pairs p)
-    → (u w : List Sym) → IsRelated m u w ↔ ((z : List (Bound Mark)) × Accepts words z × (filter_map (symbol_of upper_of) z ≡ u) × (filter_map (symbol_of lower_of) z ≡ w))
-related_sides words marks same ok accepted pairs m accepted_is pairs_are m_is u w = (
+    → (u w : List Sym) → IsRelated m u w ↔ ((z : List (Bound Mark)) × (IsOver marks z × language.Accepts words z) × (filter_map (symbol_of upper_of) z ≡ u) × (filter_map (symbol_of lower_of) z ≡ w))
+related_sides marks words pairs m pairs_are m_is u w = (
   λ (p, h, up, low).
       let r = (pairs_are p).0 ((m_is p).0 h) in
       let t = (translated pair_of marks (λ x. x ≡ p) r.0).0 (p, refl, r.2) in
-      (r.0, (accepted_is r.0).0 r.1, sym (upper_pairs r.0) ∙ ap uppers t.1 ∙ up, sym (lower_pairs r.0) ∙ ap lowers t.1 ∙ low),
-  λ (z, h, up, low).
-      let over : IsOver marks z = subst (λ ls. IsOver ls z) (sym same) (accepted_over words ok h) in
+      (r.0, (t.0, r.1), sym (upper_pairs r.0) ∙ ap uppers t.1 ∙ up, sym (lower_pairs r.0) ∙ ap lowers t.1 ∙ low),
+  λ (z, (over, h), up, low).
       let t = (translated pair_of marks (λ x. x ≡ filter_map pair_of z) z).1 (over, refl) in
-      (filter_map pair_of z, (m_is (filter_map pair_of z)).1 ((pairs_are (filter_map pair_of z)).1 (z, (accepted_is z).1 h, subst (Translates (pair_table marks) z) t.1 t.2)), upper_pairs z ∙ up, lower_pairs z ∙ low),
+      (filter_map pair_of z, (m_is (filter_map pair_of z)).1 ((pairs_are (filter_map pair_of z)).1 (z, h, subst (Translates (pair_table marks) z) t.1 t.2)), upper_pairs z ∙ up, lower_pairs z ∙ low),
+)
+
+-- the words of a language are over its letters
+pub related_words : (words : Complete (Bound Mark)) (marks : List (Bound Mark)) (same : marks ≡ words.letters) (ok : IsComplete words) (accepted : Automaton (Bound Mark)) → ((z : List (Bound Mark)) → language.Accepts accepted z ↔ Accepts words z)
+    → (R S : List (Bound Mark) → Type 0) (related : Type 0) → (related ↔ ((z : List (Bound Mark)) × (IsOver marks z × language.Accepts accepted z) × R z × S z)) → related ↔ ((z : List (Bound Mark)) × Accepts words z × R z × S z)
+related_words words marks same ok accepted accepted_is R S related is = (
+  λ h. let (z, (over, held), up, low) = is.0 h in (z, (accepted_is z).0 held, up, low),
+  λ (z, h, up, low). is.1 (z, (subst (λ ls. IsOver ls z) (sym same) (accepted_over words ok h), (accepted_is z).1 h), up, low),
 )
 
 upper_symbol : (symbols : List Sym) (n : ℕ) (x : Bound Mark) (y : Pair) (s : Sym) → IsMarkOf symbols n x → pair_of x ≡ Some y → y.up ≡ Some s → Contains symbols s

@@ -29,7 +29,7 @@ use Rattle.replace_rules.specs.Rules.{IsPut, HasCentre, HasMapping, HasContext, 
 use Rattle.replace_rules.specs.Places.{Place, choices, place_with, places_in, places_of, HasPlain, HasMarkup, LeftPart, RightPart, rules_by}
 
 -- the places of groups are those of each
-place_group : (groups : List LangGroup) (p : Place) → Contains (places_of groups) p → (g : LangGroup) × Contains groups g × Contains (places_in g) p
+pub place_group : (groups : List LangGroup) (p : Place) → Contains (places_of groups) p → (g : LangGroup) × Contains groups g × Contains (places_in g) p
 place_group [] p h = absurd (Contains-nil_cases p h)
 place_group (g ∷ groups) p h = elim (Contains-append_cases (places_in g) (places_of groups) p h) as (λ _. (f : LangGroup) × Contains (g ∷ groups) f × Contains (places_in f) p) [
   | inl here ↦ (g, Contains-head g groups, here)
@@ -132,7 +132,7 @@ rewritten_places symbols groups optional u w = (
 )
 
 -- no centre is empty
-no_empty_centres : (symbols : List Sym) (groups : List LangGroup) → AreMapsOver symbols groups → (p : Place) → Contains (places_of groups) p → HasNoEmptyCentre rules_by p
+pub no_empty_centres : (symbols : List Sym) (groups : List LangGroup) → AreMapsOver symbols groups → (p : Place) → Contains (places_of groups) p → HasNoEmptyCentre rules_by p
 no_empty_centres symbols groups over p among = record {
   centre = λ h. not_empty h.0 h.1 h.2;
   replaces = λ r h. not_empty h.0 h.1 h.3;
@@ -185,29 +185,5 @@ module _ (symbols : List Sym) (groups : List LangGroup) (over : AreMapsOver symb
   blocks_over (v ∷ vs) h =
       All-append Of v (flat_map (λ v. v) vs) (block_over v (All-head (IsBlock rules_by symbols (places_of groups)) v vs h)) (blocks_over vs (All-tail (IsBlock rules_by symbols (places_of groups)) v vs h))
 
-  well_over : (z : List (Bound Mark)) → IsWellMarked rules_by symbols (places_of groups) z → All Of z
+  pub well_over : (z : List (Bound Mark)) → IsWellMarked rules_by symbols (places_of groups) z → All Of z
   well_over z (vs, e, all) = subst (All Of) (sym e) (All-cons Of Edge (flat_map (λ v. v) vs ++ Edge ∷ []) tt (All-append Of (flat_map (λ v. v) vs) (Edge ∷ []) (blocks_over vs all) (All-cons Of Edge [] tt (All-nil Of))))
-
-  -- the network of the words that keep the rules relates what the rules rewrite
-  pub replaced_relation : (marks : List (Bound Mark)) (optional : Bool) (well : Automaton (Bound Mark)) (words : Complete (Bound Mark)) → ((m : Bound Mark) → Contains marks m ↔ Of m) → ((w : List (Bound Mark)) → language.Accepts well w ↔ IsWellMarked rules_by symbols (places_of groups) w)
-      → IsLang marks (λ w. (IsOver marks w × language.Accepts well w) × ((k : ℕ) (p : Place) → slice_get (places_of groups) k ≡ Some p → IsKept rules_by optional k p w)) words
-      → (u w : List Sym) → ((z : List (Bound Mark)) × Accepts words z × (filter_map (symbol_of upper_of) z ≡ u) × (filter_map (symbol_of lower_of) z ≡ w)) ↔ IsRewritten symbols (ReplacesBy groups) (AppliesBy groups) optional u w
-  replaced_relation marks optional well words marks_are well_is words_are u w = (
-    λ (z, h, up, low).
-        let r = (words_are.words z).0 h in
-        (rewritten_places symbols groups optional u w).1 ((rewritings_are_marked Place rules_by (places_of groups) symbols optional u w (no_empty_centres symbols groups over)).1 (z, ((well_is z).0 r.0.1, r.1), up, low)),
-    λ h.
-        let (z, is, up, low) = (rewritings_are_marked Place rules_by (places_of groups) symbols optional u w (no_empty_centres symbols groups over)).0 ((rewritten_places symbols groups optional u w).0 h) in
-        let all : IsOver marks z = All-weaker Of (Contains marks) (λ m. (marks_are m).1) z (well_over z is.0) in
-        (z, (words_are.words z).1 ((all, (well_is z).1 is.0), is.1), up, low),
-  )
-
-  pub replaced_places : (places : List Place) → places ≡ places_of groups → (marks : List (Bound Mark)) (optional : Bool) (well : Automaton (Bound Mark)) (words : Complete (Bound Mark)) → ((m : Bound Mark) → Contains marks m ↔ IsMarkOf symbols (length places) m)
-      → ((w : List (Bound Mark)) → language.Accepts well w ↔ IsWellMarked rules_by symbols places w)
-      → IsLang marks (λ w. (IsOver marks w × language.Accepts well w) × ((k : ℕ) (p : Place) → slice_get places k ≡ Some p → IsKept rules_by optional k p w)) words
-      → (u w : List Sym) → ((z : List (Bound Mark)) × Accepts words z × (filter_map (symbol_of upper_of) z ≡ u) × (filter_map (symbol_of lower_of) z ≡ w)) ↔ IsRewritten symbols (ReplacesBy groups) (AppliesBy groups) optional u w
-  replaced_places places e marks optional well words =
-      subst (λ (ps : List Place). ((m : Bound Mark) → Contains marks m ↔ IsMarkOf symbols (length ps) m) → ((w : List (Bound Mark)) → language.Accepts well w ↔ IsWellMarked rules_by symbols ps w)
-      → IsLang marks (λ w. (IsOver marks w × language.Accepts well w) × ((k : ℕ) (p : Place) → slice_get ps k ≡ Some p → IsKept rules_by optional k p w)) words
-      → (u w : List Sym) → ((z : List (Bound Mark)) × Accepts words z × (filter_map (symbol_of upper_of) z ≡ u) × (filter_map (symbol_of lower_of) z ≡ w)) ↔ IsRewritten symbols (ReplacesBy groups) (AppliesBy groups) optional u w)
-      (sym e) (replaced_relation marks optional well words)

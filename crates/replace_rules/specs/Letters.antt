@@ -1,5 +1,6 @@
 -- Which marks there are, and what contexts and networks see of them.
 use Rattle.std.specs.Prelude.{◌<◌, ℕ, zero, suc, List, [], ◌∷◌, ◌++◌, Option, Some, None, map, Contains}
+use Rattle.std.specs.List.{flat_map}
 use Rattle.fsm_base.specs.declared.letters.Bound.{Bound}
 use Rattle.fsm_base.specs.declared.letters.Bound.TheVariants.{Edge, Inner}
 use Rattle.fsm_base.specs.declared.letters.Pair.{Pair}
@@ -8,6 +9,7 @@ use Rattle.regex_ast.specs.declared.expr.Side.{Side}
 use Rattle.replace_words.specs.declared.marks.Mark.{Mark}
 use Rattle.replace_words.specs.declared.marks.Mark.TheVariants.{Copy, Up, Low, Same, Open, Close}
 use Rattle.replace_words.specs.Marked.{side_of, on_left, on_right}
+use Rattle.replace_words.specs.Firsts.{first_mark}
 use Rattle.replace_rules.specs.declared.langs.Written.{Written}
 use Rattle.replace_rules.specs.declared.langs.Written.TheVariants.{Copied, Upper, Lower, Both}
 
@@ -65,3 +67,7 @@ pair_table marks = table_of pair_of marks
 
 abbrev pub own_table : List (Bound Mark) → List (Bound Mark × Option (Bound Mark))
 own_table marks = table_of (λ m. Some m) marks
+
+-- the table that gives each mark of the symbols and of so many places the mark of the first of its symbol's like
+abbrev pub first_table : (Sym → Sym) → List Sym → ℕ → List (Bound Mark × Option (Bound Mark))
+first_table first symbols places = table_of (λ m. Some (first_mark first m)) ((Edge ∷ flat_map marks_with symbols) ++ brackets places)

@@ -1,3 +1,4 @@
 pub mod Rules
 pub mod Places
 pub mod Letters
+pub mod Alike

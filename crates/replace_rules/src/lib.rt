@@ -3,7 +3,9 @@
 //! expr_meaning (`IsRewritten`, specs/Replacement.antt).
 //!
 //! The construction goes by words of marks (replace_words): first all well-formed ones, and then for each place those that keep what
-//! the rules ask there, made small each time (Kaplan and Kay, Regular Models of Phonological Rule Systems, 1994).
+//! the rules ask there, made small each time (Kaplan and Kay, Regular Models of Phonological Rule Systems, 1994). Symbols that no part
+//! of the rules tells from one another are one as long as words of marks are made: the first of them stands for all, and they are
+//! put back at the end.
 //!
 //! - [`LangMap`], [`LangContext`], [`LangGroup`], [`Side`]: rules.
 //! - [`replace`]: the network of groups of rules.
@@ -17,6 +19,7 @@
 //! - [`network_of`]: the network of the two sides of the words.
 #![tactic(auto)]
 
+mod alike;
 mod blocks;
 mod constraints;
 mod contexts;

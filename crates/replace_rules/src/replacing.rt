@@ -1,9 +1,10 @@
-ghost use Rattle.std.specs.Prelude.{◌≡◌, ◌↔◌, IfOk, List, Contains, length};
+ghost use Rattle.std.specs.Prelude.{◌↔◌, IfOk, List, All, length};
 ghost use Rattle.fsm_base.specs.declared.letters.Bound.{Bound};
 ghost use Rattle.replace_words.specs.declared.marks.Mark.{Mark};
 ghost use Rattle.replace_rules.specs.Letters.{IsMarkOf};
-ghost use Rattle.replace_rules.specs.declared.rules.LangGroup.{LangGroup};
-ghost use Rattle.replace_rules.specs.Places.{places_of};
+ghost use Rattle.replace_words.specs.Marked.{IsMarked};
+ghost use Rattle.replace_rules.specs.Places.{rules_by};
+ghost use Rattle.fsa.specs.Complete.{Accepts};
 ghost use Rattle.word_relations.specs.Relations.{AreSame};
 ghost use Rattle.word_relations.specs.Words.{IsDistinct};
 ghost use Rattle.fst_algebra.specs.Relation.{IsRelated};
@@ -11,14 +12,16 @@ ghost use Rattle.network_algebra.specs.Networks.{UsesSymbols};
 ghost use Rattle.expr_meaning.specs.Replacement.{IsRewritten};
 ghost use Rattle.replace_rules.specs.Rules.{AppliesBy, AreMapsOver, ReplacesBy};
 
+use crate::alike::{each_once, firsts_of};
 use crate::blocks::well_marked;
 use crate::keeping::kept_words;
 use crate::letters::every_mark;
-use crate::network::network_of;
+use crate::network::network_by_firsts;
 use crate::places::{Place, places_of};
 use crate::rules::LangGroup;
 use fsa::Fsa;
 use fsm_base::{Bound, Pair, Sym};
+use lang_algebra::Lang;
 use replace_words::Mark;
 use std::alloc::{AllocError, Global};
 
@@ -36,25 +39,24 @@ pub fn replace(
     ensures symbols { IfOk result (UsesSymbols syms.now) }
     ensures relation { IfOk result (λ m. AreSame (IsRelated m) (IsRewritten syms.now (ReplacesBy groups.now) (AppliesBy groups.now) optional)) }
 {
+    let firsts = firsts_of(alloc, syms, groups)?;
+    let once = each_once(alloc, &firsts)?;
     let places = places_of(alloc, groups)?;
-    let marks = every_mark(alloc, syms, places.len())?;
-    replaced_at(alloc, syms, optional, &places, &marks)
+    let words = marked_words(alloc, &once, optional, &places)?;
+    network_by_firsts(alloc, syms, &firsts, places.len(), &words)
 }
 
-/// The network of the places of groups of rules, by all marks of the symbols and places.
-fn replaced_at(
+/// The words of marks of these symbols that keep what the rules ask at each of the places.
+fn marked_words(
     alloc: Global,
     syms: &[Sym],
     optional: bool,
     places: &[Place],
-    marks: &[Bound<Mark>],
-) -> Result<Fsa<Pair>, AllocError>
-    requires distinct { IsDistinct marks.now }
-    requires marks { (m : Bound Mark) → Contains marks.now m ↔ IsMarkOf syms.now (length places.now) m }
-    ensures symbols { IfOk result (UsesSymbols syms.now) }
-    ensures relation { IfOk result (λ m. (groups : List LangGroup) → places.now ≡ places_of groups → AreMapsOver syms.now groups → AreSame (IsRelated m) (IsRewritten syms.now (ReplacesBy groups) (AppliesBy groups) optional)) }
+) -> Result<Lang<Bound<Mark>>, AllocError>
+    requires { IsDistinct syms.now }
+    ensures { IfOk result (λ words. (w : List (Bound Mark)) → Accepts words w ↔ (All (IsMarkOf syms.now (length places.now)) w × IsMarked rules_by syms.now places.now optional w)) }
 {
+    let marks = every_mark(alloc, syms, places.len())?;
     let well = well_marked(alloc, syms, places)?;
-    let words = kept_words(alloc, marks, optional, places, &well)?;
-    network_of(alloc, &words)
+    kept_words(alloc, &marks, optional, places, &well)
 }

@@ -1,7 +1,10 @@
-ghost use Rattle.std.specs.Prelude.{◌≡◌, IfOk, option_map};
+ghost use Rattle.std.specs.Prelude.{◌≡◌, ◌<◌, ◌++◌, ◌∷◌, [], IfOk, OnOk, Some, map, option_map, length, slice_get};
+ghost use Rattle.std.specs.List.{flat_map};
 ghost use Rattle.fsm_base.specs.declared.letters.Bound.TheVariants.{Inner};
+ghost use Rattle.fsm_base.specs.declared.letters.Sym.{Sym};
 ghost use Rattle.replace_words.specs.Marked.{side_of, on_left, on_right};
-ghost use Rattle.replace_rules.specs.Letters.{pair_of, left_table, right_table, pair_table, own_table};
+ghost use Rattle.replace_words.specs.Firsts.{first_mark};
+ghost use Rattle.replace_rules.specs.Letters.{pair_of, left_table, right_table, pair_table, own_table, table_of, first_table, marks_with, brackets};
 
 use fsm_base::{Bound, Pair, Sym};
 use regex_ast::Side;
@@ -116,4 +119,88 @@ pub fn own_rows(
         rows.push((*mark, Some(*mark)))?;
     }
     Ok(rows)
+}
+
+/// The table that gives each mark of the symbols and of so many places the mark of the first of its symbol's like. The firsts are given
+/// in the order of the symbols.
+pub fn first_rows(
+    alloc: Global,
+    symbols: &[Sym],
+    firsts: &[Sym],
+    places: usize,
+) -> Result<Vec<(Bound<Mark>, Option<Bound<Mark>>)>, AllocError>
+    requires { length firsts.now ≡ length symbols.now }
+    ensures { IfOk result (λ rows. (first : Sym → Sym) → firsts.now ≡ map first symbols.now → rows.items ≡ first_table first symbols.now places) }
+{
+    let mut rows = Vec::new(alloc);
+    rows.push((Bound::Edge, Some(Bound::Edge)))?;
+    add_symbols(&mut rows, symbols, firsts)?;
+    add_brackets(&mut rows, places)?;
+    Ok(rows)
+}
+
+/// Adds the rows of the marks of each symbol.
+fn add_symbols(
+    rows: &mut Vec<(Bound<Mark>, Option<Bound<Mark>>)>,
+    symbols: &[Sym],
+    firsts: &[Sym],
+) -> Result<(), AllocError>
+    requires { length firsts.now ≡ length symbols.now }
+    ensures { OnOk result ((first : Sym → Sym) → firsts.now ≡ map first symbols.now → rows.new.items ≡ rows.old.items ++ table_of (λ m. Some (first_mark first m)) (flat_map marks_with symbols.now)) }
+{
+    for place in 0..symbols.len() {
+        let symbol = symbol_at(symbols, place);
+        let first = symbol_at(firsts, place);
+        add_symbol(rows, symbol, first)?;
+    }
+    Ok(())
+}
+
+/// The symbol at a place.
+pub fn symbol_at(symbols: &[Sym], place: usize) -> Sym
+    requires { place < length symbols.now }
+    ensures { slice_get symbols.now place ≡ Some result }
+{
+    symbols[place]
+}
+
+/// Adds the rows of the marks of a symbol.
+fn add_symbol(
+    rows: &mut Vec<(Bound<Mark>, Option<Bound<Mark>>)>,
+    symbol: Sym,
+    first: Sym,
+) -> Result<(), AllocError>
+    ensures { OnOk result ((f : Sym → Sym) → first ≡ f symbol → rows.new.items ≡ rows.old.items ++ table_of (λ m. Some (first_mark f m)) (marks_with symbol)) }
+{
+    add_row(rows, Mark::Copy(symbol), Mark::Copy(first))?;
+    add_row(rows, Mark::Up(symbol), Mark::Up(first))?;
+    add_row(rows, Mark::Low(symbol), Mark::Low(first))?;
+    add_row(rows, Mark::Same(symbol), Mark::Same(first))?;
+    Ok(())
+}
+
+/// Adds the rows of the brackets of each place.
+fn add_brackets(
+    rows: &mut Vec<(Bound<Mark>, Option<Bound<Mark>>)>,
+    places: usize,
+) -> Result<(), AllocError>
+    ensures { OnOk result ((f : Sym → Sym) → rows.new.items ≡ rows.old.items ++ table_of (λ m. Some (first_mark f m)) (brackets places)) }
+{
+    for place in 0..places {
+        add_row(rows, Mark::Open(place), Mark::Open(place))?;
+        add_row(rows, Mark::Close(place), Mark::Close(place))?;
+    }
+    Ok(())
+}
+
+/// Adds the row of a mark.
+fn add_row(
+    rows: &mut Vec<(Bound<Mark>, Option<Bound<Mark>>)>,
+    mark: Mark,
+    first: Mark,
+) -> Result<(), AllocError>
+    ensures { OnOk result (rows.new.items ≡ rows.old.items ++ (Inner mark, Some (Inner first)) ∷ []) }
+{
+    rows.push((Bound::Inner(mark), Some(Bound::Inner(first))))?;
+    Ok(())
 }

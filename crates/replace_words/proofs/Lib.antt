@@ -4,3 +4,4 @@ mod Reading
 mod Bridge
 pub mod Claimed
 pub mod Inserted
+pub mod Alike

@@ -2,4 +2,5 @@ pub mod Places
 pub mod Claims
 pub mod Marked
 pub mod Filled
+pub mod Firsts
 pub mod Laws
