@@ -1,5 +1,5 @@
 #!/usr/bin/env python3
-"""Times rule sets of replacement whose size is that of many symbols, places or both, by the program replace_trials, each with one look-up.
+"""Times rule sets of replacement whose size is that of many symbols, places or both, by the program network_trials, each with one look-up.
 Prints the seconds and the peak memory of each. What takes more than SECONDS is ended and shown as `inf`.
 
 usage: bench/replacement.py
@@ -10,8 +10,8 @@ import tempfile
 
 from measure import ROOT, timed
 
-CRATE = os.path.join(ROOT, 'crates', 'replace_trials')
-PROGRAM = os.path.join(CRATE, 'out', 'replace_trials')
+CRATE = os.path.join(ROOT, 'crates', 'network_trials')
+PROGRAM = os.path.join(CRATE, 'out', 'network_trials')
 SECONDS = 300
 
 
@@ -38,7 +38,7 @@ def main():
     subprocess.run(['rt', 'run'], cwd=CRATE, stdin=subprocess.DEVNULL, stdout=subprocess.DEVNULL, check=True)
     for name, over, rules in rows():
         with tempfile.TemporaryFile('w+') as row:
-            row.write('%s ; %s ; down %s\n' % (' '.join(over), rules, ' '.join(over[:3])))
+            row.write('## replace\n%s ; %s ; down %s\n' % (' '.join(over), rules, ' '.join(over[:3])))
             row.seek(0)
             seconds, memory = timed([PROGRAM], row, most=SECONDS)
         print('%-55s %7.2f s  %7.1f MiB' % (name, seconds, memory / 2 ** 20))

@@ -1,10 +1,10 @@
 #!/usr/bin/env python3
-"""Writes the rows of replace_trials, and what is wanted of them: rows that were worked out by hand, and a hundred small rule sets whose
-pairs are listed here by the definition. The definition is taken word for word, on strings: every way to cut a word into copied symbols
-and replaced centres, of which those are kept whose contexts hold on the sides that are read and, unless rules are optional, that leave
-no centre; an insertion is a choice of a word for each place. No automaton is built here.
+"""Writes the rows of network_trials below the heading `## replace`, and what is wanted of them: rows that were worked out by hand, and
+a hundred small rule sets whose pairs are listed here by the definition. The definition is taken word for word, on strings: every way to
+cut a word into copied symbols and replaced centres, of which those are kept whose contexts hold on the sides that are read and, unless
+rules are optional, that leave no centre; an insertion is a choice of a word for each place. No automaton is built here.
 
-usage: bench/replacement_rows.py        (writes crates/replace_trials/stdin and stdout)
+usage: bench/replacement_rows.py        (writes that section of crates/network_trials/stdin and stdout)
 """
 import itertools
 import os
@@ -215,6 +215,13 @@ def lines_of(symbols, groups, optional, inserts, most):
                 yield '    %s: %s' % (word or '0', listed(found))
 
 
+def with_section(lines, heading, section):
+    """The lines, in which those below the heading, up to the next one, are the section's."""
+    start = lines.index(heading) + 1
+    end = next((at for at in range(start, len(lines)) if lines[at].startswith('## ')), len(lines))
+    return lines[:start] + section + lines[end:]
+
+
 def main():
     rows, wanted = [], []
     for comment, symbols, rules, looks in BY_HAND:
@@ -233,10 +240,13 @@ def main():
         lines = list(lines_of(symbols, groups, optional, inserts, most))
         rows.append(row)
         wanted += [row] + (lines or [''])
-    folder = os.path.join(ROOT, 'crates', 'replace_trials')
-    for name, lines in (('stdin', rows), ('stdout', wanted)):
-        with open(os.path.join(folder, name), 'w') as out:
-            out.write('\n'.join(lines) + '\n')
+    folder = os.path.join(ROOT, 'crates', 'network_trials')
+    for name, section in (('stdin', rows), ('stdout', wanted)):
+        path = os.path.join(folder, name)
+        with open(path) as old:
+            lines = old.read().splitlines()
+        with open(path, 'w') as out:
+            out.write('\n'.join(with_section(lines, '## replace', section)) + '\n')
 
 
 if __name__ == '__main__':

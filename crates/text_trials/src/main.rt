@@ -1,7 +1,13 @@
-//! Makes the calls that the rows of the standard input name, of the crates that read and write texts and streams, and
-//! prints each row and below it what came of it. The gate compares that with what is wanted, in the file `stdout`.
+//! Makes the calls that the rows of the standard input name, of the crates that read and write texts, streams, commands,
+//! events and glosses, and prints each row and below it what came of it. The gate compares that with what is wanted, in
+//! the file `stdout`.
 //!
-//! A row is a field and its value. A value's text has the escapes of `row_texts`, and so has what is printed.
+//! A line `## NAME` is a heading, which is printed too: the rows below it, up to the next one, are of the section of that
+//! name. An empty line, and another one that begins with `#`, says nothing; a row in another form is told. A row is a
+//! field and its value, save in the section `live`. A value's text has the escapes of `row_texts`, and so has what is
+//! printed.
+//!
+//! `## text`, calls of fsm_base, fsm_io and regex_tokens:
 //!
 //! - `source TEXT`: the text of a source, or its first fault. `nfc TEXT`: the text in Normalization Form C.
 //! - `order TEXT TEXT`: how two texts compare. `intern TEXT ..`: the numbers of symbols. `cut TEXT`: the symbols of a
@@ -14,83 +20,67 @@
 //! - `outbox ROOM FAILING .. | STEP ..`: puts each step into an outbox, and flushes it at `!`.
 //! - `read FAILING .. | NAME:MOST ..`: reads of a folder with the files `e`, `f` and `f` again. `directory NAME:MOST ..`:
 //!   reads of the folder that the program runs in.
-//! - `short NUMBER`: the replies of one word. `refused LINE`: the refusals of a file's line. `accepted NUMBER NAME ..`.
 //!
-//! A row with another field, as `#`, does nothing.
+//! `## twolc`, calls of twolc_tokens and twolc_expressions:
+//!
+//! - `tokens TEXT`: the tokens of a twolc text, each with its line, and at the end whether the text ended, or in which
+//!   line no token begins.
+//! - `atom ATOM`, without escapes: what the atom is where `V` is a set and `D` a definition, as a part of an expression, in
+//!   the alphabet, as the centre of a rule, and in the list of a set.
+//!
+//! `## live`, events of live_core: `READERS ROOM | EVENT, ..` says how many readers there are, how many values may be
+//! published after the first, which is `a`, and what happens then. An event is `publish VALUE`, where a value is a letter,
+//! `enter READER` or `learn READER UPTO`. The events are taken once one by one and once as a list; where these differ,
+//! both are told.
+//!
+//! `## command`, calls of edit_script:
+//!
+//! - `command TEXT`: the editor's command of a line. `lines TEXT`: how many lines follow a line.
+//! - `look TEXT`: what a lane's line asks for.
+//!
+//! `## gloss`, calls of interlinear:
+//!
+//! - `words LINE`: the words of a line.
+//! - `gloss TEXT|WORD`: a word in the glosses of the table of a text, or the table's first fault.
+//! - `block WORD ANALYSIS GLOSS ..`: the block of cells at version 1.
 #![tactic(auto)]
 
+mod atoms;
+mod command_rows;
+mod endings;
 mod files;
+mod gloss_rows;
+mod live_rows;
 mod sinks;
 mod sources;
+mod text_rows;
 mod texts;
 mod tokens;
+mod twolc_rows;
 
-use row_texts::undone;
+use edit_script::{one_command, one_look};
 use std::alloc::{AllocError, Global};
 use std::io::{self, Read};
 use std::rt::Files;
 
-/// What came of a row whose value is a text.
-fn said_of_text(alloc: Global, field: &str, text: &str) -> Result<Option<String>, AllocError> {
-    let said = match field {
-        "nfc" => texts::said_of_form(alloc, text),
-        "order" => texts::said_of_order(alloc, text),
-        "intern" => texts::said_of_symbols(alloc, text),
-        "cut" => texts::said_of_cut(alloc, text),
-        "tokens" => tokens::said_of_tokens(alloc, text),
-        _ => return Ok(None),
-    }?;
-    Ok(Some(said))
-}
+/// The most bytes of a text that is read.
+const MOST_READ: usize = 1000;
 
-/// The numbers that one space separates; 0 for what is none.
-fn numbers(alloc: Global, words: &str) -> Result<Vec<u64>, AllocError> {
-    let mut found = Vec::new(alloc);
-    for word in words.split_ascii_whitespace() {
-        found.push(word.parse::<u64>().unwrap_or(0))?;
-    }
-    Ok(found)
-}
-
-/// What came of a row whose value is numbers and then a text.
-fn said_of_stream(alloc: Global, field: &str, value: &str) -> Result<Option<String>, AllocError> {
-    let (words, text) = value.split_once('|').unwrap_or((value, ""));
-    let numbers = numbers(alloc, words)?;
-    let text = text.trim_start();
-    let bytes = undone(alloc, text)?;
-    let said = match field {
-        "lines" => sources::said_of_lines(alloc, &numbers, &bytes),
-        "reader" => sources::said_of_reader(alloc, &numbers, Some(&bytes)),
-        "no_reader" => sources::said_of_reader(alloc, &numbers, None),
-        "write" => sinks::said_of_writes(alloc, &numbers, &bytes),
-        "write_all" => sinks::said_of_write_all(alloc, &numbers, &bytes),
-        "writer" => sinks::said_of_writer(alloc, &bytes),
-        "no_writer" => sinks::said_of_no_writer(alloc, &bytes),
-        "outbox" => sinks::said_of_outbox(alloc, &numbers, text),
-        "read" => files::said_of_memory(alloc, &numbers, text),
-        _ => return Ok(None),
-    }?;
-    Ok(Some(said))
-}
-
-/// What came of a row, if anything is to be printed.
+/// What came of a row of a section, or None where it is no such row.
 fn said_of_row(
     rt: &impl Files,
     alloc: Global,
-    field: &str,
-    value: &str,
+    section: &str,
+    row: &str,
 ) -> Result<Option<String>, AllocError> {
-    if field == "directory" {
-        return Ok(Some(files::said_of_directory(rt, alloc, value)?));
-    }
-    let bytes = undone(alloc, value)?;
-    if field == "source" {
-        return Ok(Some(texts::said_of_source(alloc, &bytes)?));
-    }
-    let text = std::str::from_utf8(&bytes).unwrap_or("");
-    match said_of_text(alloc, field, text)? {
-        Some(said) => Ok(Some(said)),
-        None => said_of_stream(alloc, field, value),
+    let (field, value) = row.split_once(' ').unwrap_or((row, ""));
+    match section {
+        "text" => text_rows::said_of_row(rt, alloc, field, value),
+        "twolc" => twolc_rows::said_of_row(alloc, field, value),
+        "live" => live_rows::said_of_row(alloc, row),
+        "command" => command_rows::said_of_row(alloc, field, value),
+        "gloss" => gloss_rows::said_of_row(alloc, field, value),
+        _ => Ok(None),
     }
 }
 
@@ -98,10 +88,18 @@ fn main(rt: HostRuntime) -> io::Result<()> {
     let alloc = rt.alloc();
     let mut rows = String::new(alloc);
     rt.stdin().read_to_string(&mut rows)?;
+    one_command();
+    one_look();
+    let mut section = "";
     'rows: for row in rows.as_str().lines() {
-        let (field, value) = row.split_once(' ').unwrap_or((row, ""));
-        if let Some(said) = said_of_row(&rt, alloc, field, value)? {
-            println!(rt; "{row}\n    {}", said.as_str())?;
+        if let Some(name) = row.strip_prefix("## ") {
+            section = name;
+            println!(rt; "{row}")?;
+        } else if !row.is_empty() && !row.starts_with('#') {
+            match said_of_row(&rt, alloc, section, row)? {
+                Some(said) => println!(rt; "{row}\n    {}", said.as_str())?,
+                None => println!(rt; "{row}\n    no such row")?,
+            }
         }
     }
     Ok(())

@@ -102,15 +102,34 @@ pub fn said_of_outbox(alloc: Global, numbers: &[u64], steps: &str) -> Result<Str
     let mut outbox = Outbox::open(alloc, usize::try_from(*room).unwrap_or(0))?;
     let mut said = String::new(alloc);
     for step in steps.split(' ') {
-        let done = match step {
-            "!" => outbox.flush(&mut sink),
-            _ => outbox.put(&mut sink, step.as_bytes()),
-        };
-        let before = if said.is_empty() { "" } else { "; " };
-        let empty = if outbox.is_empty() { ", empty" } else { "" };
-        let sink = said_of_sink(alloc, &sink)?;
-        let done = outcome(done);
-        said.push_str(format!(in alloc; "{before}{done}, {}{empty}", sink.as_str())?.as_str())?;
+        let done = take_step(&mut outbox, &mut sink, step);
+        if !said.is_empty() {
+            said.push_str("; ")?;
+        }
+        add_step(alloc, &mut said, outcome(done), &sink)?;
+        if outbox.is_empty() {
+            said.push_str(", empty")?;
+        }
     }
     Ok(said)
+}
+
+/// Flushes an outbox, or puts a step into it.
+fn take_step(outbox: &mut Outbox, sink: &mut MemorySink, step: &str) -> Result<(), Failed> {
+    match step {
+        "!" => outbox.flush(sink),
+        _ => outbox.put(sink, step.as_bytes()),
+    }
+}
+
+/// Adds how a step went, and what the sink holds then.
+fn add_step(
+    alloc: Global,
+    said: &mut String,
+    done: &str,
+    sink: &MemorySink,
+) -> Result<(), AllocError> {
+    said.push_str(done)?;
+    said.push_str(", ")?;
+    said.push_str(said_of_sink(alloc, sink)?.as_str())
 }

@@ -1,9 +1,7 @@
+use crate::MOST_READ;
 use fsm_base::{Alphabet, Sym, SymbolTable, Text, TextError, TokensError, nfc, normal};
 use row_texts::shown;
 use std::alloc::{AllocError, Global};
-
-/// The most bytes of a text that is read.
-const MOST_READ: usize = 1000;
 
 /// The text of a source, or its first fault.
 pub fn said_of_source(alloc: Global, bytes: &[u8]) -> Result<String, AllocError> {
@@ -44,17 +42,25 @@ pub fn said_of_symbols(alloc: Global, words: &str) -> Result<String, AllocError>
     let mut said = String::new(alloc);
     for word in words.split(' ') {
         if !word.is_empty() && table.len() < MOST_READ {
-            let Sym(number) = table.intern(word)?;
-            said.push_str(format!(in alloc; "{number} ")?.as_str())?;
+            add_symbol(alloc, &mut said, table.intern(word)?)?;
         }
     }
-    let count = table.len();
-    let second = table.text_of(Sym(1)).unwrap_or("none");
-    said.push_str(format!(in alloc; "of {count}; {second}")?.as_str())?;
+    said.push_str(format!(in alloc; "of {}; ", table.len())?.as_str())?;
+    said.push_str(second_of(&table))?;
     table.keep(1);
-    let second = table.text_of(Sym(1)).unwrap_or("none");
-    said.push_str(format!(in alloc; ", then {second}")?.as_str())?;
+    said.push_str(", then ")?;
+    said.push_str(second_of(&table))?;
     Ok(said)
+}
+
+/// The text of the second symbol of a table.
+fn second_of(table: &SymbolTable) -> &str {
+    table.text_of(Sym(1)).unwrap_or("none")
+}
+
+/// Adds a symbol's number.
+fn add_symbol(alloc: Global, said: &mut String, symbol: Sym) -> Result<(), AllocError> {
+    said.push_str(format!(in alloc; "{} ", symbol.0)?.as_str())
 }
 
 /// The alphabet of `a` and `ab`.
@@ -71,16 +77,20 @@ pub fn said_of_cut(alloc: Global, text: &str) -> Result<String, AllocError> {
         return String::from_str(alloc, "too long");
     }
     let alphabet = short_alphabet(alloc)?;
-    let word = match alphabet.tokens(alloc, text) {
-        Ok(word) => word,
-        Err(TokensError::NoSymbol { at }) => return format!(in alloc; "no symbol at {at}"),
-        Err(TokensError::Memory(error)) => return Err(error),
-    };
-    let joined = alphabet.text(alloc, &word)?;
-    let mut said = String::new(alloc);
-    for Sym(number) in &word {
-        said.push_str(format!(in alloc; "{number} ")?.as_str())?;
+    match alphabet.tokens(alloc, text) {
+        Ok(word) => said_of_word(alloc, &word, &alphabet.text(alloc, &word)?),
+        Err(TokensError::NoSymbol { at }) => format!(in alloc; "no symbol at {at}"),
+        Err(TokensError::Memory(error)) => Err(error),
     }
-    said.push_str(format!(in alloc; "joined to {}", joined.as_str())?.as_str())?;
+}
+
+/// The numbers of a word's symbols, and their texts joined.
+fn said_of_word(alloc: Global, word: &[Sym], joined: &Text) -> Result<String, AllocError> {
+    let mut said = String::new(alloc);
+    for symbol in word {
+        add_symbol(alloc, &mut said, *symbol)?;
+    }
+    said.push_str("joined to ")?;
+    said.push_str(joined.as_str())?;
     Ok(said)
 }

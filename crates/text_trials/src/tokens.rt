@@ -1,8 +1,7 @@
-use regex_tokens::{Comments, Ending, Token, tokens};
+use crate::MOST_READ;
+use crate::endings::add_ending;
+use regex_tokens::{Comments, Token, tokens};
 use std::alloc::{AllocError, Global};
-
-/// The most bytes of a text that is read.
-const MOST_READ: usize = 1000;
 
 /// A token: an operator's name, or its kind and its text.
 fn said_of_token(alloc: Global, token: &Token) -> Result<String, AllocError> {
@@ -15,8 +14,20 @@ fn said_of_token(alloc: Global, token: &Token) -> Result<String, AllocError> {
     }
 }
 
-/// The tokens of a text that begins in line 1: each with its line, and `behind a blank` where it stands so; and at the
-/// end whether the text ended, or in which line no token begins.
+/// Adds a token with its line, and `behind a blank` where it stands so.
+fn add_token(
+    alloc: Global,
+    said: &mut String,
+    token: &Token,
+    line: u32,
+    apart: bool,
+) -> Result<(), AllocError> {
+    let apart = if apart { " behind a blank" } else { "" };
+    let token = said_of_token(alloc, token)?;
+    said.push_str(format!(in alloc; "{line}: {}{apart}; ", token.as_str())?.as_str())
+}
+
+/// The tokens of a text that begins in line 1, and at the end whether the text ended, or in which line no token begins.
 pub fn said_of_tokens(alloc: Global, text: &str) -> Result<String, AllocError> {
     if text.len() > MOST_READ {
         return String::from_str(alloc, "too long");
@@ -24,15 +35,8 @@ pub fn said_of_tokens(alloc: Global, text: &str) -> Result<String, AllocError> {
     let found = tokens(alloc, text, 1, Comments::OfDefinitions)?;
     let mut said = String::new(alloc);
     for (token, place) in found.tokens.iter().zip(found.places.iter()) {
-        let apart = if place.apart { " behind a blank" } else { "" };
-        let token = said_of_token(alloc, token)?;
-        said.push_str(format!(in alloc; "{}: {}{apart}; ", place.line, token.as_str())?.as_str())?;
+        add_token(alloc, &mut said, token, place.line, place.apart)?;
     }
-    match found.ending {
-        Ending::Whole => said.push_str("end")?,
-        Ending::NoToken { line } => {
-            said.push_str(format!(in alloc; "no token in line {line}")?.as_str())?;
-        }
-    }
+    add_ending(alloc, &mut said, found.ending)?;
     Ok(said)
 }

@@ -1,7 +1,0 @@
-use Rattle.std.specs.List.{Contains}
-use Rattle.fsm_base.specs.declared.letters.Pair.{Pair}
-use Rattle.fsm_base.specs.declared.letters.Bound.{Bound}
-use Rattle.grammar_trials.proofs.atom.letters_of.Given as goal
-
-abbrev pub invariant-letters : goal.invariant-letters
-invariant-letters l = (x : Bound Pair) → Contains l.found.items x → Contains l.letters x

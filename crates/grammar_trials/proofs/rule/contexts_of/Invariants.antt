@@ -1,7 +1,0 @@
-use Rattle.std.specs.List.{Contains}
-use Rattle.two_level.specs.Rules.{IsContextOver}
-use Rattle.two_level.specs.declared.rule.PairContext.{PairContext}
-use Rattle.grammar_trials.proofs.rule.contexts_of.Given as goal
-
-abbrev pub invariant-contexts : goal.invariant-contexts
-invariant-contexts l = (c : PairContext) → Contains l.contexts.items c → IsContextOver l.pairs c

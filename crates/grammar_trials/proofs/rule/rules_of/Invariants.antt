@@ -1,7 +1,0 @@
-use Rattle.std.specs.List.{Contains}
-use Rattle.two_level.specs.Rules.{IsRuleOver}
-use Rattle.two_level.specs.declared.rule.LangRule.{LangRule}
-use Rattle.grammar_trials.proofs.rule.rules_of.Given as goal
-
-abbrev pub invariant-rules : goal.invariant-rules
-invariant-rules l = (r : LangRule) → Contains l.rules.items r → IsRuleOver l.pairs r

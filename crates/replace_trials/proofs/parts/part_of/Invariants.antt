@@ -1,5 +1,0 @@
-use Rattle.network_algebra.specs.Networks.{UsesOnly}
-use Rattle.replace_trials.proofs.parts.part_of.Given as goal
-
-abbrev pub invariant-words : goal.invariant-words
-invariant-words l = UsesOnly l.letters l.part
