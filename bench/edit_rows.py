@@ -1,5 +1,5 @@
 #!/usr/bin/env python3
-"""Writes thirty rows of worked_rows in which an editor is served, behind the last heading of its file stdin: projects, edits and look-ups made by
+"""Writes thirty rows of worked_rows in which an editor is served, behind their heading in its file stdin: projects, edits and look-ups made by
 chance, whose replies are worked out here by the definitions. A definition is a tree over letters and names; a word is in it or not by
 trying each way to cut the word; an edit has its own first fault, or that of the files that it makes, or makes the next version, and touches the
 names whose definition, resolved to names and letters, is new, or uses the alphabet where that changed, or refers to a touched name.
@@ -196,11 +196,12 @@ def some_row(dice, number):
 def main():
     with open(PATH, encoding='utf-8') as rows:
         text = rows.read()
-    text = text.split('\n' + HEADING)[0]
+    text, _, rest = text.partition('\n' + HEADING)
+    _, heading, later = rest.partition('\n# ')
     dice = random.Random(SEED)
     rows = '\n'.join(some_row(dice, number) for number in range(1, COUNT + 1))
     with open(PATH, 'w', encoding='utf-8') as out:
-        out.write('%s\n%s\n\n%s' % (text, HEADING, rows))
+        out.write('%s\n%s\n\n%s%s' % (text, HEADING, rows, heading + later))
 
 
 if __name__ == '__main__':

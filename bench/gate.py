@@ -1,3 +1,4 @@
+#!/usr/bin/env python3
 """Runs the gate from nothing and prints what it takes, crate by crate: processor seconds of the proof, of the tests and of the
 edits, and the peak memory of a check; and the chain of crates, each of which stands on the one before, whose proofs take longest.
 Usage: bench/gate.py [WORDS OF rt ci ..], by default --anew where the kit keeps what it proved; `bench/gate.py kept` proves only what

@@ -12,7 +12,7 @@ import shutil
 import sys
 import tempfile
 
-from lexicon import of_a_word
+from lookup_words import of_a_word
 from measure import has_foma, program, spent
 
 SECONDS = 300

@@ -2,7 +2,7 @@
 """Looks up a million words by `up` and, where foma's `flookup` is installed, the same words in the
 same network by that. Prints the lines per second and the peak memory of each, and the ratio of their times.
 
-usage: bench/up.py [LINES [PROGRAM]]
+usage: bench/lookup_lines.py [LINES [PROGRAM]]
 """
 import os
 import sys

@@ -4,7 +4,7 @@ by `flookup` in its network of the same expression; where HFST is installed too,
 the processor time of a word, the peak memory and, where valgrind is installed, the instructions of a word. What an empty input takes
 is taken off, but of the memory.
 
-usage: bench/lexicon.py [PROGRAM [STEMS ..]]
+usage: bench/lookup_words.py [PROGRAM [STEMS ..]]
 """
 import os
 import random

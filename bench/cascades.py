@@ -2,7 +2,7 @@
 """Times cascades of rules of replacement beside foma, on the same definitions in one run: processor seconds and peak memory of compiling,
 with one look-up, and their ratio. What takes more than SECONDS is ended and shown as `inf`.
 
-usage: bench/rules.py [PROGRAM]
+usage: bench/cascades.py [PROGRAM]
 """
 import sys
 import tempfile
