@@ -28,9 +28,10 @@ def write(path, text):
 def copy_examples():
     """Copies the projects of examples/ without their scripts, and removes those that are there no more."""
     source, target = os.path.join(ROOT, 'examples'), os.path.join(CRATE, 'data', 'examples')
-    for name in set(os.listdir(target)) - set(os.listdir(source)):
+    projects = {name for name in os.listdir(source) if os.path.isdir(os.path.join(source, name))}
+    for name in set(os.listdir(target)) - projects:
         shutil.rmtree(os.path.join(target, name))
-    for name in os.listdir(source):
+    for name in sorted(projects):
         os.makedirs(os.path.join(target, name), exist_ok=True)
         for file in os.listdir(os.path.join(source, name)):
             if file.endswith('.sh'):
