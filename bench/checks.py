@@ -1,0 +1,134 @@
+#!/usr/bin/env python3
+"""Runs each command that docs/CHECKING.md shows and compares what it writes with the page, and tries ./lint and ./expect on small
+projects, with what is wanted of them beside each. They call ./morph where it is built, else ./try.
+
+usage: bench/checks.py
+"""
+import os
+import subprocess
+import sys
+import tempfile
+
+ROOT = os.path.dirname(os.path.dirname(os.path.abspath(__file__)))
+PAGES = ('docs/CHECKING.md',)
+PROMPT = '    $ '
+
+# A name, the files of a project, and what ./lint writes of it.
+LINTS = [
+    ('a forgotten semicolon', {'project': 'xfst r.xfst', 'r.xfst': 'define A {a}\ndefine B {b} ;'},
+     ['r.xfst 2 keyword define']),
+    ('a keyword that is a name', {'project': 'xfst r.xfst', 'r.xfst': 'define read {a} ;\ndefine B read ;'}, []),
+    ('an escaped keyword', {'project': 'xfst r.xfst', 'r.xfst': 'define B %define ;'}, []),
+    ('a misspelt name', {'project': 'xfst r.xfst', 'r.xfst': 'define Vowel a | e ;\ndefine B b Vowl ;'}, ['r.xfst 2 once Vowl']),
+    ('a symbol that stands twice', {'project': 'xfst r.xfst', 'r.xfst': 'define A ab | ab c ;'}, []),
+    ('a symbol of the alphabet', {'project': 'xfst r.xfst\nalphabet ab', 'r.xfst': 'define A ab | c ;'}, []),
+    ('a symbol of a lexicon', {'project': 'xfst r.xfst\nlexc L n.lexc', 'r.xfst': 'define A ab | c ;',
+                               'n.lexc': 'Multichar_Symbols ab\nLEXICON Root\nab # ;'}, []),
+    ('a quoted symbol that stands once', {'project': 'xfst r.xfst', 'r.xfst': 'define A {a} "+N":0 ;'}, []),
+    ('a quoted symbol that a context alone has', {'project': 'xfst r.xfst', 'r.xfst': 'define A a -> b || "+N" _ ;'}, ['r.xfst 1 once "+N"']),
+    ('a power is no symbol', {'project': 'xfst r.xfst', 'r.xfst': 'define A a^12 ;'}, []),
+    ('a suffix and a sign', {'project': 'xfst r.xfst', 'r.xfst': 'define A a+ b ;\ndefine B a +b ;\ndefine C a + b ;\ndefine D [a b]+c ;'},
+     ['r.xfst 2 suffix +b']),
+    ('a comment and quotes', {'project': 'xfst r.xfst', 'r.xfst': '! define Foo\ndefine A "define" | {define} ; # define Bar'}, []),
+    ('contexts', {'project': 'xfst r.xfst',
+                  'r.xfst': 'define A a -> b || .#. _ , b .#. _ ;\ndefine B a => _ .#. , _ .#. a ;\ndefine C a -> b // _ [b & c] ,, c -> a \\/ b _ ;'},
+     ['r.xfst 1 empty-context b .#. _', 'r.xfst 2 empty-context _ .#. a', 'r.xfst 3 empty-context _ [ b & c ]']),
+    ('a context in brackets', {'project': 'xfst r.xfst', 'r.xfst': 'define A [a -> b || a .#. _ .#.] .o. [c -> d || c _ ] ;'},
+     ['r.xfst 1 empty-context a .#. _ .#.']),
+    ('a context with names and a complement', {'project': 'xfst r.xfst', 'r.xfst': 'define V a | e ;\ndefine A b -> c || \\V _ ~$V .#. ;\ndefine B b -> c || V & b _ ;'},
+     ['r.xfst 3 empty-context V & b _']),
+    ('names without require', {'project': 'xfst r.xfst', 'r.xfst': 'define A a ;'}, []),
+    ('names with require', {'project': 'xfst r.xfst\nrequire B', 'r.xfst': 'define A a ;\ndefine B b C ;\ndefine C c ;'}, ['r.xfst 1 unused-name A']),
+    ('a name that a test uses', {'project': 'xfst r.xfst\nrequire B', 'r.xfst': 'define A a ;\ndefine B b ;', 't.expect': 'up A\na\ta\n'}, []),
+    ('a name that a lexicon uses', {'project': 'xfst r.xfst\nlexc L n.lexc\nrequire L', 'r.xfst': 'define A a ;', 'n.lexc': 'LEXICON Root\n<A> # ;'}, []),
+    ('symbols of a lexicon', {'project': 'lexc L n.lexc', 'n.lexc': 'Multichar_Symbols +N +V @P.F.x@ <a> %{B%}\nLEXICON Root\na+N:b # ;\nb+Adj # ;\nc%+Adv # ;\nd<a><n>:d{A}{B} # ;\ne+f # ;\n'},
+     ['n.lexc 1 unused-symbol +V', 'n.lexc 4 undeclared +Adj', 'n.lexc 5 undeclared +Adv', 'n.lexc 6 undeclared <n>', 'n.lexc 6 undeclared {A}']),
+    ('a symbol that another file uses', {'project': 'lexc L n.lexc\nxfst r.xfst', 'n.lexc': 'Multichar_Symbols +N\nLEXICON Root\na # ;', 'r.xfst': 'define A "+N" ;'}, []),
+    ('lexicons', {'project': 'lexc L n.lexc', 'n.lexc': 'LEXICON Root\na X ;\nb %# ;\n<c "!" {!}> # ;\nLEXICON X\nx X ;\nLEXICON Y\ny X ;\nLEXICON %#\nz # ;\nEND\nLEXICON Z ;'},
+     ['n.lexc 5 no-end X', 'n.lexc 7 unreached Y']),
+    ('an expression behind symbols', {'project': 'lexc L n.lexc', 'n.lexc': 'Multichar_Symbols +N\nLEXICON Root\n<a "+N"> # ;'}, []),
+    ('flags', {'project': 'lexc L n.lexc', 'n.lexc': 'LEXICON Root\na@P.F.x@ X ;\nb@U.G.x@ X ;\n@P.H.x@c:c@P.H.x@ X ;\nLEXICON X\n@R.F.x@@D.G@ # ;\n@R.F.y@ # ;\n@R.H.x@:0 # ;\n@R.I@ # ;\n'},
+     ['n.lexc 4 untested-flag @P.H.x@ lower', 'n.lexc 7 unset-flag @R.F.y@', 'n.lexc 9 unset-flag @R.I@']),
+    ('texts like flags', {'project': 'lexc L n.lexc', 'n.lexc': 'LEXICON Root\na@P.F@ # ;\nb@ # ;\n@C.F.x@ # ;\n@p.F.x@ # ;\n'},
+     ['n.lexc 2 no-flag @P.F@', 'n.lexc 4 no-flag @C.F.x@']),
+    ('pairs', {'project': 'twolc T t.twolc',
+               't.twolc': 'Alphabet a b c:0 ;\nSets S = a d ; U = d ;\nDefinitions D = S b: ;\nRules\n"1"\na:b => D _ ; U: _ ; :0 _ ; ? _ ; S:b _ ; d: _ ;\nwhere b _ ;\n"2"\na:b /<= b:a _ ; b^12 _ ;'},
+     ['t.twolc 6 no-pair U:', 't.twolc 6 no-pair d:', 't.twolc 7 keyword where', 't.twolc 9 undeclared b:a']),
+    ('a pair in the alphabet that is a keyword', {'project': 'twolc T t.twolc', 't.twolc': 'Alphabet a b a:b where ;\nRules\n"1" a:b => where _ ;'}, []),
+    ('tests that fail', {'project': 'xfst r.xfst', 'r.xfst': 'define A a | b:c ;', 't.expect': 'up A\na\tb\n!c\n'},
+     ['t.expect 2 fails up A a: missing b', 't.expect 2 fails up A a: unexpected a', 't.expect 3 fails up A c: unexpected b']),
+    ('a test without a network', {'project': 'xfst r.xfst', 'r.xfst': 'define A a ;', 't.expect': 'a\ta\n'},
+     ['t.expect 1 no-test a line "up NET" or "down NET" stands first']),
+]
+# A name, the tests of a project whose names are A, for a and b below x, Loop, for any number of a, and Id, for what begins with a sign; and
+# what ./expect writes of them.
+TESTS = [
+    ('answers', 'up A\nx\ta\nx\tb\n', ['1 as wanted, 0 not']),
+    ('a missing one', 'up A\nx\ta\nx\tb\nx\tc\n', ['missing t 4 up A x: c', '0 as wanted, 1 not']),
+    ('another one', 'up A\nx\ta\n', ['unexpected t 2 up A x: b', '0 as wanted, 1 not']),
+    ('others', 'up A\nx\ta\nx\t...\n', ['1 as wanted, 0 not']),
+    ('some answer', 'up A\nx\t...\na\t...\n', ['missing t 3 up A a: ...', '1 as wanted, 1 not']),
+    ('none', 'up A\n!a\n!x\n!zz\n', ['unexpected t 3 up A x: a', 'unexpected t 3 up A x: b', '2 as wanted, 1 not']),
+    ('not this one', 'up A\n!x\tc\n!x\tb\n', ['unexpected t 3 up A x: b', '0 as wanted, 1 not']),
+    ('down', 'down A\na\tx\nup A\nx\ta\nx\tb\n', ['2 as wanted, 0 not']),
+    ('no network', 'up B\na\tb\n', ['no-answer t 2 up B a: net', '0 as wanted, 1 not']),
+    ('endless', 'up Loop\nx\t...\nx\ta\n!x\n', ['unexpected t 4 up Loop x: loop', '0 as wanted, 1 not']),
+    ('endless, and some answer', 'up Loop\nx\t...\n', ['1 as wanted, 0 not']),
+    ('endless, and one answer', 'up Loop\nx\ta\n', ['no-answer t 2 up Loop x: loop', '0 as wanted, 1 not']),
+    ('signs at the beginning', 'up Id\n%!a\t!a\n%#\t#\n%%\t%\n', ['3 as wanted, 0 not']),
+    ('the empty word', 'up Loop\n!\n', ['1 as wanted, 0 not']),
+    ('comments', '# a\n\n  \nup A\n# b\n!a\n', ['1 as wanted, 0 not']),
+    ('letters with accents', 'up Id\ne\u0301\t\u00e9\n', ['1 as wanted, 0 not']),
+    ('a fault', 'up A\na b\n', ['refused t 2 statement: a line is "up NET", "down NET", WORD tab ANSWER, !WORD, or !WORD tab ANSWER']),
+]
+TRIED = {'project': 'xfst r.xfst', 'r.xfst': 'define A [a|b]:x ; define Loop [a+]:x ; define Id {!a} | %# | %% | {\u00e9} ;'}
+FAILED = []
+
+
+def wants(what, said, wanted):
+    if said != wanted:
+        FAILED.append(what)
+        print('%s\n  says  %s\n  wants %s' % (what, '\n        '.join(said), '\n        '.join(wanted)))
+
+
+def shell(command):
+    return subprocess.run(command, shell=True, cwd=ROOT, stdout=subprocess.PIPE, stderr=subprocess.DEVNULL).stdout.decode(errors='replace')
+
+
+def try_page(page):
+    """Each command of a page, which stands behind a prompt, and the lines that stand below it."""
+    with open(os.path.join(ROOT, page), encoding='utf-8') as file:
+        lines = file.read().split('\n')
+    count, at = 0, 0
+    while at < len(lines):
+        if lines[at].startswith(PROMPT):
+            command, wanted = lines[at][len(PROMPT):], []
+            while lines[at + 1].startswith('    ') and not lines[at + 1].startswith(PROMPT):
+                at += 1
+                wanted.append(lines[at][4:])
+            wants('%s: %s' % (page, command), shell(command).split('\n')[:-1], wanted)
+            count += 1
+        at += 1
+    return count
+
+
+def try_project(name, files, words, wanted):
+    with tempfile.TemporaryDirectory(prefix='checks-') as folder:
+        for file, text in files.items():
+            with open(os.path.join(folder, file), 'w', encoding='utf-8') as out:
+                out.write(text + '\n')
+        wants(name, shell('%s/%s' % (ROOT, words.replace('DIR', folder))).split('\n')[:-1], wanted)
+
+
+def main():
+    pages = sum(try_page(page) for page in PAGES)
+    for name, files, wanted in LINTS:
+        try_project(name, files, './lint DIR', ['warning ' + it for it in wanted])
+    for name, text, wanted in TESTS:
+        try_project(name, {**TRIED, 't': text}, './expect DIR DIR/t', wanted)
+    print('%d commands, %d projects, %d files of tests: %d failed' % (pages, len(LINTS), len(TESTS), len(FAILED)))
+    return 1 if FAILED else 0
+
+
+if __name__ == '__main__':
+    sys.exit(main())
