@@ -245,7 +245,7 @@ module _ (symbols : List Sym) (groups : List LangGroup) (over : AreMapsOver symb
   rewritten_by_firsts places places_are n count optional words words_are u w =
       let n_is : Count ≡ n = ap length (sym places_are) ∙ count in
       let words_is : (v : List (Bound Mark)) → Accepts words v ↔ (All (IsMarkOf once Count) v × IsMarked rules_by once (places_of groups) optional v) =
-          λ v. subst (λ (ps : List Place). Accepts words v ↔ (All (IsMarkOf once (length ps)) v × IsMarked rules_by once ps optional v)) places_are (words_are v) in
+      λ v. subst (λ (ps : List Place). Accepts words v ↔ (All (IsMarkOf once (length ps)) v × IsMarked rules_by once ps optional v)) places_are (words_are v) in
       let marked = rewritings_are_marked Place rules_by (places_of groups) symbols optional u w (no_empty_centres symbols groups over) in
       let places = rewritten_places symbols groups optional u w in (
         λ (z, (of, h), up, low).

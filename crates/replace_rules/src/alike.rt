@@ -18,11 +18,7 @@ use lang_algebra::Lang;
 use std::alloc::{AllocError, Global};
 
 /// For each of the symbols the first of those that no part of the rules tells from it.
-pub fn firsts_of(
-    alloc: Global,
-    syms: &[Sym],
-    groups: &[LangGroup],
-) -> Result<Vec<Sym>, AllocError>
+pub fn firsts_of(alloc: Global, syms: &[Sym], groups: &[LangGroup]) -> Result<Vec<Sym>, AllocError>
     ensures { IfOk result (λ firsts. AreFirsts syms.now groups.now firsts.items) }
 {
     let numbers = numbered(alloc, syms, groups)?;

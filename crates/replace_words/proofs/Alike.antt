@@ -299,7 +299,7 @@ module _ (first : Sym → Sym) where
           (right_same p acts y inside).1 (kept.right (Mapped x) (Mapped y) whole);
       centre = λ must x c z is centre l r.
           let whole : Mapped w ≡ Mapped x ++ (copies (map first c) ++ Mapped z) =
-              ap (λ z. Mapped z) is ∙ map-append (first_mark first) x (copies c ++ z) ∙ ap (λ v. Mapped x ++ v) (map-append (first_mark first) (copies c) z ∙ ap (λ v. v ++ Mapped z) (written_there symbols Copy (writes_copy symbols) c)) in
+          ap (λ z. Mapped z) is ∙ map-append (first_mark first) x (copies c ++ z) ∙ ap (λ v. Mapped x ++ v) (map-append (first_mark first) (copies c) z ∙ ap (λ v. v ++ Mapped z) (written_there symbols Copy (writes_copy symbols) c)) in
           let rest = in_back w x (copies c ++ z) h is in
           let over = written_over symbols Copy (writes_copy symbols) c (all_front (HasSymbolIn symbols) (copies c) z rest) in
           kept.centre must (Mapped x) (map first c) (Mapped z) whole ((acts.centre c over).0 centre) ((left_same p acts x (in_front w x (copies c ++ z) h is)).0 l)
