@@ -1,0 +1,52 @@
+//! What a Rust program writes that works with automata, or that looks words up in a project of its own: it calls fsm_library alone. It
+//! prints what came of it, and the gate compares that with what is wanted, in the file `stdout`.
+#![tactic(auto)]
+
+use fsm_library::automata::{Dfa, Sym, minimal, shortest};
+use fsm_library::projects::{Direction, Sources, StoreError, load, reply_to_word};
+use std::alloc::{AllocError, Global};
+use std::io;
+
+/// The manifest of a project of one lexicon.
+const MANIFEST: &str = "lexc Noun nouns.lexc\n";
+
+/// Its lexicon.
+const NOUNS: &str =
+    "Multichar_Symbols +N +Sg +Pl\nLEXICON Root\ncat Number ;\ndog Number ;\nmouse+N+Pl:mice # ;\nLEXICON Number\n+N+Sg:0 # ;\n+N+Pl:s # ;\n";
+
+/// How many symbols a shortest word has in which two symbols `a` stand, over `a` and `b`, and how many states the smallest automaton
+/// has that the crate makes of one with two states too many.
+fn automata(alloc: Global) -> Result<String, AllocError> {
+    let letters = vec![in alloc; Sym(0), Sym(1)]?;
+    let next = vec![in alloc; 1, 0, 2, 1, 3, 4, 4, 3, 3, 4]?;
+    let finals = vec![in alloc; false, false, true, true, true]?;
+    let twice = Dfa::of(letters, next, finals);
+    let small = minimal(alloc, &twice)?;
+    match shortest(alloc, &twice)? {
+        Some(word) => format!(in alloc; "{} symbols, {} states", word.len(), small.states()),
+        None => String::from_str(alloc, "no word"),
+    }
+}
+
+/// The replies to two words, one looked up upwards and one downwards.
+fn replies(alloc: Global) -> Result<Vec<u8>, StoreError> {
+    let mut sources = Sources::new(alloc);
+    sources.put("project", Vec::from_slice(alloc, MANIFEST.as_bytes())?)?;
+    sources.put("nouns.lexc", Vec::from_slice(alloc, NOUNS.as_bytes())?)?;
+    let version = load(alloc, sources)?;
+    let mut bytes = reply_to_word(alloc, &version, Direction::Up, "Noun", "cats")?;
+    let down = reply_to_word(alloc, &version, Direction::Down, "Noun", "mouse+N+Pl")?;
+    bytes.extend_from_slice(&down)?;
+    Ok(bytes)
+}
+
+fn main(rt: HostRuntime) -> io::Result<()> {
+    let alloc = rt.alloc();
+    println!(rt; "{}", automata(alloc)?.as_str())?;
+    match replies(alloc) {
+        Ok(bytes) => print!(rt; "{}", std::str::from_utf8(&bytes).unwrap_or(""))?,
+        Err(StoreError::Refused(fault)) => println!(rt; "{} {}", fault.file.as_str(), fault.line)?,
+        Err(StoreError::Memory(error)) => return Err(error.into()),
+    }
+    Ok(())
+}
