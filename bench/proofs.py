@@ -46,9 +46,10 @@ def first_sentence(root):
     return re.sub(r'\[(`[^`]*`)\]', r'\1', sentence).rstrip('.').replace('|', '\\|')
 
 
-def handed_on(root):
-    """The modules, or crates, and the names of what a root hands on, in its order."""
-    for module, several, one in HANDED_ON.findall(root):
+def handed_on(folder, root):
+    """The modules, or crates, and the names of what a root hands on, by itself and by its public modules."""
+    texts = [root] + [read(os.path.join(folder, module + '.rt')) for module in re.findall(r'^pub mod (\w+);', root, re.M)]
+    for module, several, one in HANDED_ON.findall('\n'.join(texts)):
         for name in several.split(',') if several else [one]:
             if name.strip():
                 yield module, name.strip()
@@ -72,7 +73,7 @@ def row_of(crate):
         return (crate, first_sentence(read(os.path.join(folder, 'main.rt'))), 'a program', ''), []
     root = read(os.path.join(folder, 'lib.rt'))
     calls, types, laws, bare = [], [], [], []
-    for module, name in handed_on(root):
+    for module, name in handed_on(folder, root):
         path = os.path.join(folder, *module.split('::')) + '.rt'
         if not name[0].islower():
             types.append(name)
@@ -83,7 +84,7 @@ def row_of(crate):
             (laws if is_law else calls).append(name)
             if not has_ensures:
                 bare.append('`%s` (%s)' % (name, crate))
-    listed = lambda names: ', '.join('`%s`' % name for name in sorted(names))
+    listed = lambda names: ', '.join('`%s`' % name for name in sorted(set(names)))
     parts = '; '.join(listed(names) for names in (calls, types) if names)
     return (crate, first_sentence(root), parts, listed(laws)), bare
 
