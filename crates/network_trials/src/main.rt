@@ -49,27 +49,46 @@ use lookup::one_kind;
 use std::alloc::{AllocError, Global};
 use std::io::{self, Read};
 
-/// What came of a row of a section, if it is one line, or None where it is no such row.
-fn line_of(alloc: Global, section: &str, row: &str) -> Result<Option<String>, AllocError> {
-    match section {
-        "lookup" => lookup_rows::said_of_row(alloc, row),
-        "grammar" => grammar_rows::said_of_row(alloc, row),
-        "lexicon" => Ok(Some(lexicon_rows::said_of_row(alloc, row)?)),
-        _ => Ok(None),
+/// What the rows below a heading make.
+#[derive(Clone, Copy, Debug)]
+enum Section {
+    Lookup,
+    Grammar,
+    Lexicon,
+    Replace,
+    Other,
+}
+
+/// The section of a heading's name.
+fn section_of(name: &str) -> Section {
+    match name {
+        "lookup" => Section::Lookup,
+        "grammar" => Section::Grammar,
+        "lexicon" => Section::Lexicon,
+        "replace" => Section::Replace,
+        _ => Section::Other,
     }
 }
 
+/// The line of what came of a row, or that it is no such row.
+fn line_of(alloc: Global, said: Option<String>) -> Result<String, AllocError> {
+    let mut line = String::new(alloc);
+    match said {
+        Some(said) => add_line(&mut line, said.as_str())?,
+        None => add_line(&mut line, "no such row")?,
+    }
+    Ok(line)
+}
+
 /// What came of a row of a section, in its lines.
-fn said_of_row(alloc: Global, section: &str, row: &str) -> Result<String, AllocError> {
-    if section == "replace" {
-        return replace_rows::said_of_row(alloc, row);
+fn said_of_row(alloc: Global, section: Section, row: &str) -> Result<String, AllocError> {
+    match section {
+        Section::Lookup => line_of(alloc, lookup_rows::said_of_row(alloc, row)?),
+        Section::Grammar => line_of(alloc, grammar_rows::said_of_row(alloc, row)?),
+        Section::Lexicon => line_of(alloc, Some(lexicon_rows::said_of_row(alloc, row)?)),
+        Section::Replace => replace_rows::said_of_row(alloc, row),
+        Section::Other => line_of(alloc, None),
     }
-    let mut said = String::new(alloc);
-    match line_of(alloc, section, row)? {
-        Some(line) => add_line(&mut said, line.as_str())?,
-        None => add_line(&mut said, "no such row")?,
-    }
-    Ok(said)
 }
 
 fn main(rt: HostRuntime) -> io::Result<()> {
@@ -77,10 +96,10 @@ fn main(rt: HostRuntime) -> io::Result<()> {
     let mut rows = String::new(alloc);
     rt.stdin().read_to_string(&mut rows)?;
     one_kind();
-    let mut section = "";
+    let mut section = Section::Other;
     'rows: for row in rows.as_str().lines() {
         if let Some(name) = row.strip_prefix("## ") {
-            section = name;
+            section = section_of(name);
             println!(rt; "{row}")?;
         } else if !row.is_empty() && !row.starts_with('#') {
             println!(rt; "{row}\n{}", said_of_row(alloc, section, row)?.as_str())?;

@@ -66,21 +66,44 @@ use std::rt::Files;
 /// The most bytes of a text that is read.
 const MOST_READ: usize = 1000;
 
+/// What the rows below a heading ask for.
+#[derive(Clone, Copy, Debug)]
+enum Section {
+    Text,
+    Twolc,
+    Live,
+    Command,
+    Gloss,
+    Other,
+}
+
+/// The section of a heading's name.
+fn section_of(name: &str) -> Section {
+    match name {
+        "text" => Section::Text,
+        "twolc" => Section::Twolc,
+        "live" => Section::Live,
+        "command" => Section::Command,
+        "gloss" => Section::Gloss,
+        _ => Section::Other,
+    }
+}
+
 /// What came of a row of a section, or None where it is no such row.
 fn said_of_row(
     rt: &impl Files,
     alloc: Global,
-    section: &str,
+    section: Section,
     row: &str,
 ) -> Result<Option<String>, AllocError> {
     let (field, value) = row.split_once(' ').unwrap_or((row, ""));
     match section {
-        "text" => text_rows::said_of_row(rt, alloc, field, value),
-        "twolc" => twolc_rows::said_of_row(alloc, field, value),
-        "live" => live_rows::said_of_row(alloc, row),
-        "command" => command_rows::said_of_row(alloc, field, value),
-        "gloss" => gloss_rows::said_of_row(alloc, field, value),
-        _ => Ok(None),
+        Section::Text => text_rows::said_of_row(rt, alloc, field, value),
+        Section::Twolc => twolc_rows::said_of_row(alloc, field, value),
+        Section::Live => live_rows::said_of_row(alloc, row),
+        Section::Command => command_rows::said_of_row(alloc, field, value),
+        Section::Gloss => gloss_rows::said_of_row(alloc, field, value),
+        Section::Other => Ok(None),
     }
 }
 
@@ -90,10 +113,10 @@ fn main(rt: HostRuntime) -> io::Result<()> {
     rt.stdin().read_to_string(&mut rows)?;
     one_command();
     one_look();
-    let mut section = "";
+    let mut section = Section::Other;
     'rows: for row in rows.as_str().lines() {
         if let Some(name) = row.strip_prefix("## ") {
-            section = name;
+            section = section_of(name);
             println!(rt; "{row}")?;
         } else if !row.is_empty() && !row.starts_with('#') {
             match said_of_row(&rt, alloc, section, row)? {
