@@ -1,6 +1,7 @@
 #!/usr/bin/env python3
 """Says which crate of the program the process PROCESS, an `rt run`, proves now, how many are proved, and how many seconds are left by
-the last figures: those of bench/proof_seconds.txt, and of out/proof_seconds.txt, where this script writes what each crate took here.
+the last figures: those of bench/proof_seconds.txt, and of out/proof_seconds.txt, where this script writes what each crate took here. Once
+enough is proved, they are scaled by what it took.
 
 usage: tools/proof_progress.py PROCESS
 """
@@ -109,19 +110,22 @@ class Progress:
 
     def seconds_left(self):
         behind = sum(self.figure(it) for it in self.left if it != self.now) * self.pace
+        if self.now is None:
+            return behind
         return behind + max(0, self.figure(self.now) * self.pace - (time.time() - self.since))
 
     def say(self):
-        done = len(self.names) - len(self.left | {self.now})
-        print('morph: proves %s; %d of %d crates are proved; some %d s are left by the last figures'
-              % (self.now, done, len(self.names), round(self.seconds_left(), -1)), flush=True)
+        done = len(self.names) - len(self.left | {self.now} - {None})
+        does = 'proves %s' % self.now if self.now else 'reads the sources'
+        print('morph: %s; %d of %d crates are proved; some %d s are left by the last figures'
+              % (does, done, len(self.names), round(self.seconds_left(), -1)), flush=True)
 
 
 def main(process):
     progress = Progress(*needed())
     said = 0
     while os.path.exists('/proc/%d' % process):
-        if progress.look() or progress.now and time.time() - said >= EACH:
+        if progress.look() or time.time() - said >= EACH:
             progress.say()
             said = time.time()
         time.sleep(1)

@@ -4,5 +4,5 @@ if exists('current_compiler')
 endif
 let current_compiler = 'morph'
 let s:root = expand('<sfile>:p:h:h:h:h')
-let &l:makeprg = 'cd %:p:h:S && echo "in $PWD" && ' . escape(shellescape(s:root . '/editors/check'), '%#') . ' .'
+let &l:makeprg = '(cd %:p:h:S && echo "in $PWD" && ' . escape(shellescape(s:root . '/editors/check'), '%#') . ' .)'
 setlocal errorformat=%Din\ %f,refused\ %f\ %l\ %m,warning\ %f\ %l\ %m,%-G%.%#
