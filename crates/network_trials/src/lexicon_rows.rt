@@ -3,8 +3,7 @@ use crate::lexicon_paths::related;
 use flag_diacritics::resolve;
 use fsa::Fsa;
 use fsm_base::Pair;
-use lexc_compile::{LexEntry, lexicon};
-use regex_ast::FlagOp;
+use lexc_compile::lexicon;
 use std::alloc::{AllocError, Global};
 
 /// What the lexicons of a row relate.
@@ -14,16 +13,8 @@ pub fn said_of_row(alloc: Global, row: &str) -> Result<String, AllocError> {
     if lexicons.is_empty() {
         return String::from_str(alloc, "no lexicon");
     }
-    listed(alloc, &network(alloc, &lexicons, &flags)?)
-}
-
-/// The network of lexicons with these flags.
-fn network(
-    alloc: Global,
-    lexicons: &[Vec<LexEntry>],
-    flags: &[FlagOp],
-) -> Result<Fsa<Pair>, AllocError> {
-    resolve(alloc, &lexicon(alloc, lexicons, 0)?, flags)
+    let tapes = lexicon(alloc, &lexicons, 0)?;
+    listed(alloc, &resolve(alloc, &tapes, &flags)?)
 }
 
 /// What a network relates.
