@@ -1,0 +1,6 @@
+pub mod Lines
+pub mod Paths
+pub mod Sides
+pub mod Faults
+pub mod Views
+pub mod Drawing
