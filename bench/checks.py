@@ -49,6 +49,8 @@ LINTS = [
     ('an expression behind symbols', {'project': 'lexc L n.lexc', 'n.lexc': 'Multichar_Symbols +N\nLEXICON Root\n<a "+N"> # ;'}, []),
     ('flags', {'project': 'lexc L n.lexc', 'n.lexc': 'LEXICON Root\na@P.F.x@ X ;\nb@U.G.x@ X ;\n@P.H.x@c:c@P.H.x@ X ;\nLEXICON X\n@R.F.x@@D.G@ # ;\n@R.F.y@ # ;\n@R.H.x@:0 # ;\n@R.I@ # ;\n'},
      ['n.lexc 4 untested-flag @P.H.x@ lower', 'n.lexc 7 unset-flag @R.F.y@', 'n.lexc 9 unset-flag @R.I@']),
+    ('negative flags', {'project': 'lexc L n.lexc', 'n.lexc': 'LEXICON Root\n@N.F.x@a X ;\n@N.G.x@b X ;\n@N.H.x@c X ;\nLEXICON X\n@R.F@ # ;\n@R.G.x@ # ;\n'},
+     ['n.lexc 4 untested-flag @N.H.x@', 'n.lexc 7 unset-flag @R.G.x@']),
     ('texts like flags', {'project': 'lexc L n.lexc', 'n.lexc': 'LEXICON Root\na@P.F@ # ;\nb@ # ;\n@C.F.x@ # ;\n@p.F.x@ # ;\n'},
      ['n.lexc 2 no-flag @P.F@', 'n.lexc 4 no-flag @C.F.x@']),
     ('pairs', {'project': 'twolc T t.twolc',

@@ -1,6 +1,6 @@
 #!/usr/bin/env python3
 """Says which rows of worked_rows that look words up in projects with a lexicon want another answer than the definitions give, and writes
-forty such rows with lexicons made by chance behind their heading in its file stdin. The definitions are taken word for word, on lists of
+eight rows with what each flag does to a feature, whatever it is, and forty rows with lexicons made by chance behind their headings in its file stdin. The definitions are taken word for word, on lists of
 symbols: each path of entries from Root to the end, with the pairs of an entry's expression, is kept where the flags of its upper side pass
 and those of its lower side do; an answer is a text of what such a path relates to the word's cut. No automaton is built here. Words longer
 than a bound aren't listed, so rows have short ones; definitions with `->` and `=>`, endless answers and more than are listed are left to rows by hand.
@@ -17,12 +17,13 @@ from measure import ROOT
 
 PATH = os.path.join(ROOT, 'crates', 'worked_rows', 'stdin')
 HEADING = '# Lexicons by chance, whose pairs bench/lexicon_rows.py lists by the definition'
+TABLE = '# What each flag does, whatever its feature is: bench/lexicon_rows.py works it out by the table of flags'
 SEED, COUNT = 1983, 40
 # the most entries of a path, and the most symbols of a word: fewer where an operator speaks of all words
 MOST_ENTRIES, BOUND, BOUND_OF_ALL = 16, 10, 4
 # the most symbols of a word that is looked up by chance; with twice as many in an answer, that may be endless
 SHORT = 4
-FLAG = re.compile(r'@(?:([PU])\.([^.@\s]+)\.([^.@\s]+)|(C)\.([^.@\s]+)|([RD])\.([^.@\s]+)(?:\.([^.@\s]+))?)@')
+FLAG = re.compile(r'@(?:([PNU])\.([^.@\s]+)\.([^.@\s]+)|(C)\.([^.@\s]+)|([RD])\.([^.@\s]+)(?:\.([^.@\s]+))?)@')
 SIGNS = ['.x.', '.o.', '.u', '.l', '.i', '.r', '[', ']', '(', ')', '|', '/', '\\', '&', '-', '~', '$', '*', '+', '^', ':', ';', '?']
 ENDS_RUN = '[](){}|/\\&-~$*+^:;,?_.<>=!#@"'
 BLANKS = ' \t\n'
@@ -224,18 +225,24 @@ def pieces_of(project, declared, letters):
 
 
 def passes(flags):
-    """Whether each flag of a run passes, from all features neutral."""
-    values = {}
+    """Whether each flag of a run passes, from all features neutral. A feature has a value, or is barred from one, or is neutral."""
+    has, barred = {}, {}
     for kind, feature, *value in flags:
-        has, wants = values.get(feature), value[0] if value else None
-        if kind == 'R' and (has is None if wants is None else has != wants) or kind == 'D' and (has is not None if wants is None else has == wants):
+        value = value[0] if value else None
+        neutral = feature not in has and feature not in barred
+        if kind == 'R' and (neutral if value is None else has.get(feature) != value):
             return False
-        if kind == 'U' and has not in (None, wants):
+        if kind == 'D' and (not neutral if value is None else has.get(feature) == value):
             return False
+        if kind == 'U' and (has.get(feature, value) != value or barred.get(feature) == value):
+            return False
+        if kind in 'PNCU':
+            has.pop(feature, None)
+            barred.pop(feature, None)
         if kind in 'PU':
-            values[feature] = wants
-        elif kind == 'C':
-            values.pop(feature, None)
+            has[feature] = value
+        elif kind == 'N':
+            barred[feature] = value
     return True
 
 
@@ -450,7 +457,7 @@ def some_lexicons(dice):
     lines = ['Multichar_Symbols ab +N']
     for place, name in enumerate(names):
         lines.append('LEXICON ' + name)
-        kinds = 'PPUUC' if place == 0 else 'PURDRDUC'
+        kinds = 'PPNNUUC' if place == 0 else 'PNURDRDUUC'
         for number in range(dice.choice([2, 3])):
             side = some_side(dice, kinds, ['a', 'b', 'ab', '+N'])
             form = side if dice.random() < 0.6 else side + ':' + some_side(dice, kinds, ['a', 'b', '+N'])
@@ -482,19 +489,43 @@ def rows_by_chance():
     return made
 
 
+# What a feature is, by the letter in front of a word, and by the letter behind it: anything, neutral, V, W, barred from V, barred from W.
+BEFORE = {'n': '', 'v': '@P.F.V@', 'w': '@P.F.W@', 'x': '@N.F.V@', 'y': '@N.F.W@'}
+BEHIND = {'p': '', 'n': '@D.F@', 'v': '@R.F.V@', 'w': '@R.F.W@', 'x': '@R.F@@D.F.V@@D.F.W@@U.F.W@', 'y': '@R.F@@D.F.V@@D.F.W@@U.F.V@'}
+FLAGS = {'is_set': '@P.F.V@', 'is_set_negatively': '@N.F.V@', 'is_cleared': '@C.F@', 'is_to_have_a_value': '@R.F.V@', 'is_not_to_be_neutral': '@R.F@',
+         'is_not_to_have_a_value': '@D.F.V@', 'is_to_be_neutral': '@D.F@', 'is_unified': '@U.F.V@'}
+
+
+def rows_of_table():
+    """A row for each flag, which is met by a feature of each kind, and what the feature is then."""
+    for name, flag in FLAGS.items():
+        parts = [('Root', [(flags + letter, 'Flag') for letter, flags in BEFORE.items()]), ('Flag', [(flag, 'Then')]),
+                 ('Then', [(flags + letter, '#') for letter, flags in BEHIND.items()])]
+        text = ''.join('LEXICON %s\n' % lexicon + ''.join('%s %s ;\n' % entry for entry in entries) for lexicon, entries in parts)
+        row = [('row', 'a_feature_%s' % name), ('file', 'project lexc Lex n.lexc\\n'), ('file', 'n.lexc ' + shown_whole(text)),
+               ('words', 'up d Lex'), ('input', ''.join(before + behind + '\\n' for before in BEFORE for behind in BEHIND))]
+        yield row + [tuple(wanted(row).split(' ', 1))]
+
+
 def shown_whole(text):
     return text.replace('\\', '\\\\').replace('\n', '\\n')
 
 
+def replaced(text, heading, rows):
+    """The text with these rows behind a heading."""
+    front, _, rest = text.partition('\n' + heading + '\n')
+    _, next_heading, later = rest.partition('\n# ')
+    return front + '\n' + heading + '\n\n' + '\n'.join(''.join('%s %s\n' % line for line in row) for row in rows) + next_heading + later
+
+
 def main():
     with open(PATH, encoding='utf-8') as source:
-        text, _, rest = source.read().partition('\n' + HEADING)
-    text, (_, heading, later) = text.rstrip('\n') + '\n', rest.partition('\n# ')
+        text = source.read()
+    text = replaced(replaced(text, TABLE, rows_of_table()), HEADING, rows_by_chance())
     blocks = [block.split('\n') for block in text.split('\n\n')]
     tell_of([[line.partition(' ')[::2] for line in block if line] for block in blocks if block[0].startswith('row ')])
-    by_chance = [''.join('%s %s\n' % line for line in row) for row in rows_by_chance()]
     with open(PATH, 'w', encoding='utf-8') as out:
-        out.write('\n'.join([text, HEADING + '\n'] + by_chance) + heading + later)
+        out.write(text)
 
 
 if __name__ == '__main__':

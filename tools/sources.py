@@ -4,7 +4,7 @@ import os
 import re
 import unicodedata
 
-FLAG = re.compile(r'@(?:([PU])\.([^.@\s]+)\.([^.@\s]+)|(C)\.([^.@\s]+)|([RD])\.([^.@\s]+)(?:\.([^.@\s]+))?)@')
+FLAG = re.compile(r'@(?:([PNU])\.([^.@\s]+)\.([^.@\s]+)|(C)\.([^.@\s]+)|([RD])\.([^.@\s]+)(?:\.([^.@\s]+))?)@')
 XFST = re.compile(r'''(?P<blank>[ \t\n]+|[!\#][^\n]*)
   | (?P<quoted>"[^"]*") | (?P<braced>\{(?:%.|[^}%])*\})
   | (?P<insertion>\[\.\.\]|\[\.[ \t\n]+\.\])

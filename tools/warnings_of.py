@@ -134,15 +134,17 @@ def look_at_flags(it, warnings):
     """Features that are set and never tested, and tests of a value that is never set. Each side has its own flags."""
     found = collections.defaultdict(list)
     for side in 'upper', 'lower':
-        sets, tested, set_first, needed = collections.defaultdict(set), set(), {}, {}
+        sets, barred, tested, set_first, needed = collections.defaultdict(set), set(), set(), {}, {}
         for entry, name, form in it.forms():
             for text in (text for kind, text in form if kind == 'flag' and name in (side, 'both')):
                 kind, feature, *value = text[1:-1].split('.')
                 if kind in 'PU':
                     sets[feature].add(value[0])
+                if kind == 'N':
+                    barred.add(feature)
                 if kind in 'RDU':
                     tested.add(feature)
-                if kind == 'P':
+                if kind in 'PN':
                     set_first.setdefault(feature, (entry.line, text))
                 if kind == 'R':
                     needed.setdefault((feature, *value), (entry.line, text))
@@ -150,7 +152,7 @@ def look_at_flags(it, warnings):
             if feature not in tested:
                 found[line, 'untested-flag', text].append(side)
         for (feature, *value), (line, text) in needed.items():
-            if not sets[feature] or value and value[0] not in sets[feature]:
+            if (value[0] not in sets[feature] if value else not sets[feature] and feature not in barred):
                 found[line, 'unset-flag', text].append(side)
     for (line, kind, text), sides in found.items():
         warnings.add(it.file, line, kind, text if len(sides) == 2 else '%s %s' % (text, *sides))

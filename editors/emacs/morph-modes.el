@@ -25,7 +25,7 @@
     table))
 
 (defconst morph--flag
-  "@\\(?:[PU]\\.[^.@ \t\n]+\\.[^.@ \t\n]+\\|C\\.[^.@ \t\n]+\\|[RD]\\.[^.@ \t\n]+\\(?:\\.[^.@ \t\n]+\\)?\\)@")
+  "@\\(?:[PNU]\\.[^.@ \t\n]+\\.[^.@ \t\n]+\\|C\\.[^.@ \t\n]+\\|[RD]\\.[^.@ \t\n]+\\(?:\\.[^.@ \t\n]+\\)?\\)@")
 
 (defun morph--prepare (keywords)
   "Sets the buffer up with KEYWORDS to show."

@@ -1,14 +1,16 @@
 -- Sides with other letters: their flags pass alike, and without flags they are the words with those letters.
-use Rattle.std.proofs.Common.{◌≡◌, ◌&&◌, ℕ, Bool, List, [], ◌∷◌, map, Option, refl, ap}
+use Rattle.std.proofs.Common.{◌≡◌, ◌&&◌, ℕ, Bool, List, [], ◌∷◌, map, refl, ap}
 use Rattle.std.specs.List.{flat_map}
+use Rattle.std.specs.Str.{bytes_eq}
 use Rattle.project_meaning.specs.Trees.{Piece, letter, flag}
-use Rattle.project_meaning.specs.Lexicons.{piece_by, letters_of, passes, features_behind, run_passes}
+use Rattle.project_meaning.specs.Settings.{Setting, passes}
+use Rattle.project_meaning.specs.Lexicons.{piece_by, letters_of, features_behind, run_passes}
 
 module _ {L M : Type 0} (f : L → M) where
-  pub run_alike : (features : List ℕ → Option (List ℕ)) (x : List (Piece L)) → run_passes features (map (piece_by f) x) ≡ run_passes features x
+  pub run_alike : (features : List ℕ → Setting (List ℕ)) (x : List (Piece L)) → run_passes features (map (piece_by f) x) ≡ run_passes features x
   run_alike features [] = refl
   run_alike features (letter l ∷ x) = run_alike features x
-  run_alike features (flag g ∷ x) = ap (λ (b : Bool). passes (features g.feature) g.kind g.value && b) (run_alike (features_behind features g) x)
+  run_alike features (flag g ∷ x) = ap (λ (b : Bool). passes bytes_eq (features g.feature) g.kind g.value && b) (run_alike (features_behind features g) x)
 
   pub letters_alike : (x : List (Piece L)) → flat_map letters_of (map (piece_by f) x) ≡ map f (flat_map letters_of x)
   letters_alike [] = refl

@@ -1,5 +1,5 @@
 -- Lexicons relate the same words in symbols and in texts, where their leaves and letters do.
-use Rattle.std.proofs.Common.{◌≡◌, ℕ, Bool, IsTrue, List, [], ◌∷◌, ◌++◌, map, None, Some, All, refl, sym, ap, subst, ◌∙◌}
+use Rattle.std.proofs.Common.{◌≡◌, ℕ, Bool, IsTrue, List, [], ◌∷◌, ◌++◌, map, Some, All, refl, sym, ap, subst, ◌∙◌}
 use Rattle.std.specs.Prelude.{codes}
 use Rattle.std.specs.List.{Contains, flat_map}
 use Rattle.std.proofs.lemmas.Grind.{flat_map-append}
@@ -12,6 +12,7 @@ use Rattle.word_relations.specs.Words.{IsOver}
 use Rattle.expr_spelling.specs.Laws.{IsSpelled}
 use Rattle.expr_spelling.proofs.Spelling.{spelling}
 use Rattle.project_meaning.specs.Trees.{Piece, letter, flag, Form, sides, pairs, Lexicon}
+use Rattle.project_meaning.specs.Settings.{neutral}
 use Rattle.project_meaning.specs.Lexicons.{LexiconsRelate, flags_pass, letters_of, piece_by}
 use Rattle.expr_spelling.specs.LexiconLaws.{AreBuilt, FormIsBuilt, LexiconsAreSpelled, PieceIsBuilt}
 use Rattle.expr_spelling.specs.Mapped.{mapped_lexicon}
@@ -53,7 +54,7 @@ module _ (alphabet : List (Sym × List ℕ)) where
   word_of x v side = ap (flat_map letters_of) side.is ∙ letters_alike (text_of alphabet) x
 
   passing : (x : List (Piece Sym)) (v : List (Piece (List ℕ))) → Side x v → flags_pass v ≡ flags_pass x
-  passing x v side = ap flags_pass side.is ∙ run_alike (text_of alphabet) (λ feature. None) x
+  passing x v side = ap flags_pass side.is ∙ run_alike (text_of alphabet) (λ feature. neutral) x
 
   module _ {A B C : Type 0} (number_in : B → Sym) (text_in : A → List ℕ) (numbered : B → List Sym → List Sym → Type 0) (texts : A → List (List ℕ) → List (List ℕ) → Type 0)
       (in_symbols letter_in_symbols : C → B) (in_texts letter_in_texts : C → A) (spells is_letter : C → Bool) (formed : IsAlphabet alphabet)

@@ -1,30 +1,33 @@
 -- What is found again by a hash.
-use Rattle.std.proofs.Common.{◌≡◌, ℕ, zero, suc, ◌⊎◌, true, false, Bool, List, [], ◌∷◌, ◌++◌, Option, None, Some, map, length, subst, refl, sym, ap, inl, inr, arith, ◌∙◌}
+use Rattle.std.proofs.Common.{◌≡◌, ℕ, zero, suc, ◌⊎◌, true, false, Bool, List, [], ◌∷◌, ◌++◌, None, Some, map, length, subst, refl, sym, ap, inl, inr, arith, ◌∙◌, rules, tests}
 use Rattle.std.specs.Prelude.{nat_eq, ◌&&◌, if◌then◌else◌}
 use Rattle.std.specs.Bool.{Decides}
 use Rattle.std.specs.Cmp.Lexicographic.{pointwise}
 use Rattle.std.specs.List.{slice_get}
-use Rattle.std.specs.Option.{option_eq, option_map}
-use Rattle.std.proofs.lemmas.Bool.Decides.{Decides-eqb, nat_tests}
+use Rattle.std.specs.Option.{option_map}
+use Rattle.std.proofs.lemmas.Bool.Decides.{nat_tests}
 use Rattle.std.proofs.lemmas.List.{map-append}
 use Rattle.std.proofs.lemmas.Option.{slice_get-map, slice_get_within, same_Some}
 use Rattle.std.proofs.lemmas.Slice.Eq.{slice_eq-Decides}
 use Rattle.word_relations.proofs.Places.{slice_get-append_left, slice_get-append_cases}
 use Rattle.flag_diacritics.specs.declared.tables.Place.{Place}
-use Rattle.flag_diacritics.specs.Idle.{HasValued, AreValued}
+use Rattle.flag_diacritics.specs.declared.setting.Setting.{Setting}
+use Rattle.flag_diacritics.specs.declared.setting.Setting.TheVariants.{Neutral, Has, Barred}
+use Rattle.flag_diacritics.specs.contracts.setting.SettingPartialEq.TheImpl as setting_eq
+use Rattle.flag_diacritics.specs.Idle.{HasSettled, AreSettled}
 use Rattle.flag_diacritics.specs.Numbers.{Keeps}
 
 -- the bits of a list are noted
-pub are_valued_more : (old new : List (List (Option ℕ))) (rows noted : List ℕ) (number bits : ℕ) (now : List (Option ℕ)) → AreValued old rows → Keeps old new → slice_get new number ≡ Some now → HasValued bits now
-    → (noted ≡ rows) ⊎ ((number ≡ length rows) × (noted ≡ rows ++ bits ∷ [])) → AreValued new noted
-are_valued_more old new rows noted number bits now are keeps at has (inl same) k row found =
+pub are_settled_more : (old new : List (List Setting)) (rows noted : List ℕ) (number bits : ℕ) (now : List Setting) → AreSettled old rows → Keeps old new → slice_get new number ≡ Some now → HasSettled bits now
+    → (noted ≡ rows) ⊎ ((number ≡ length rows) × (noted ≡ rows ++ bits ∷ [])) → AreSettled new noted
+are_settled_more old new rows noted number bits now are keeps at has (inl same) k row found =
     let r = are k row (sym (ap (λ (zs : List ℕ). slice_get zs k) same) ∙ found) in (r.0, keeps k r.0 r.1, r.2)
-are_valued_more old new rows noted number bits now are keeps at has (inr (next, more)) k row found =
+are_settled_more old new rows noted number bits now are keeps at has (inr (next, more)) k row found =
     elim (slice_get-append_cases rows (bits ∷ []) k row (sym (ap (λ (zs : List ℕ). slice_get zs k) more) ∙ found)) [
       | inl older ↦ let r = are k row older in (r.0, keeps k r.0 r.1, r.2)
       | inr (zero, here, is) ↦
           let k_is : k ≡ number = omega arith in
-          (now, ap (slice_get new) k_is ∙ at, subst (λ (z : ℕ). HasValued z now) (same_Some bits row is) has)
+          (now, ap (slice_get new) k_is ∙ at, subst (λ (z : ℕ). HasSettled z now) (same_Some bits row is) has)
       | inr (suc j, here, is) ↦ let clash : None ≡ Some row = is in cc
     ]
 
@@ -41,18 +44,23 @@ keeps_inserted items false keys new x is = keeps_more (map items keys) (map item
 pub keeps_then : {X : Type 0} (a b c : List X) → Keeps a b → Keeps b c → Keeps a c
 keeps_then a b c first second k x at = second k x (first k x at)
 
--- lists of numbers that may be missing
-option_decides : (x y : Option ℕ) → Decides (option_eq nat_eq x y) (x ≡ y)
-option_decides None None = (λ e. refl, λ e. refl)
-option_decides None (Some y) = (λ e. cc, λ e. cc)
-option_decides (Some x) None = (λ e. cc, λ e. cc)
-option_decides (Some x) (Some y) = (λ e. ap Some ((Decides-eqb x y).0 e), λ e. (Decides-eqb x y).1 (same_Some x y e))
+-- what `==` says of two features
+same_setting : (x y : Setting) → Decides ((setting_eq.eq-value).it x y) (x ≡ y)
+same_setting Neutral Neutral = search (rules, tests)
+same_setting Neutral (Has y) = search (rules, tests)
+same_setting Neutral (Barred y) = search (rules, tests)
+same_setting (Has x) Neutral = search (rules, tests)
+same_setting (Has x) (Has y) = search (rules, tests)
+same_setting (Has x) (Barred y) = search (rules, tests)
+same_setting (Barred x) Neutral = search (rules, tests)
+same_setting (Barred x) (Has y) = search (rules, tests)
+same_setting (Barred x) (Barred y) = search (rules, tests)
 
-module _ {X : Type 0} (items : X → List (Option ℕ)) (list : List (Option ℕ)) where
+module _ {X : Type 0} (items : X → List Setting) (list : List Setting) where
   -- an entry that compares equal to the list stands there for it
-  pub listed_at : (keys : List X) (i : ℕ) (x : X) → slice_get keys i ≡ Some x → pointwise (option_eq nat_eq) list (items x) ≡ true → slice_get (map items keys) i ≡ Some list
+  pub listed_at : (keys : List X) (i : ℕ) (x : X) → slice_get keys i ≡ Some x → pointwise (setting_eq.eq-value).it list (items x) ≡ true → slice_get (map items keys) i ≡ Some list
   listed_at keys i x at same =
-      let is : list ≡ items x = (slice_eq-Decides option_decides list (items x) (pointwise (option_eq nat_eq) list (items x)) refl).0 same in
+      let is : list ≡ items x = (slice_eq-Decides same_setting list (items x) (pointwise (setting_eq.eq-value).it list (items x)) refl).0 same in
       slice_get-map items keys i ∙ ap (option_map items) at ∙ ap Some (sym is)
 
 same_parts : (s t u v l m : ℕ) → s ≡ t → u ≡ v → l ≡ m → ◌≡◌ {A = Place} (record { state = t; upper = v; lower = m }) (record { state = s; upper = u; lower = l })

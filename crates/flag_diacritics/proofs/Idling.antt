@@ -14,13 +14,15 @@ use Rattle.fsa.specs.Language.{AcceptsFrom}
 use Rattle.fsa.specs.declared.automaton.Edge.{Edge}
 use Rattle.fsa_rational.proofs.Walks.{AcceptsFrom-least}
 use Rattle.regex_ast.specs.declared.lexc.FlagKind.{FlagKind}
-use Rattle.regex_ast.specs.declared.lexc.FlagKind.TheVariants.{P, C, R, D, U}
+use Rattle.regex_ast.specs.declared.lexc.FlagKind.TheVariants.{P, N, C, R, D, U}
 use Rattle.flag_diacritics.specs.declared.tape.Tape.{Tape}
 use Rattle.flag_diacritics.specs.declared.tape.Tape.TheVariants.{Pair as OfPair, UpFlag, LowFlag}
 use Rattle.flag_diacritics.specs.declared.actions.Action.{Action}
 use Rattle.flag_diacritics.specs.declared.idle.Idle.{Idle}
-use Rattle.flag_diacritics.specs.Numbers.{Features, passes_by, number_behind, behind_if, with_upper, with_lower, behind}
-use Rattle.flag_diacritics.specs.Idle.{does_test, does_set, is_idle, KeepsIdle, upper_action, lower_action, upper_row, lower_row, IsIdleAlong, AreIdle, HasValued, masked, masked_at, behind_edge, live_behind}
+use Rattle.flag_diacritics.specs.declared.setting.Setting.{Setting}
+use Rattle.flag_diacritics.specs.declared.setting.Setting.TheVariants.{Neutral}
+use Rattle.flag_diacritics.specs.Numbers.{Features, passes_by, setting_by, behind_if, with_upper, with_lower, behind}
+use Rattle.flag_diacritics.specs.Idle.{does_test, does_set, is_idle, KeepsIdle, upper_action, lower_action, upper_row, lower_row, IsIdleAlong, AreIdle, HasSettled, masked, masked_at, behind_edge, live_behind}
 use Rattle.flag_diacritics.specs.Search.{IsPlaceBehind}
 use Rattle.flag_diacritics.specs.declared.tables.Place.{Place}
 use Rattle.flag_diacritics.proofs.Passing.{Runs}
@@ -47,32 +49,37 @@ mapped_some f None y is = let clash : None ≡ Some y = is in cc
 mapped_some f (Some x) y is = (x, refl, same_Some (f x) y is)
 
 -- a flag does the same at two values, if they are equal where they count
-alike_passes : (kind : FlagKind) (value x y : Option ℕ) → (does_test kind ≡ true → x ≡ y) → passes_by x kind value ≡ passes_by y kind value
+alike_passes : (kind : FlagKind) (value : Option ℕ) (x y : Setting) → (does_test kind ≡ true → x ≡ y) → passes_by x kind value ≡ passes_by y kind value
 alike_passes P value x y same = refl
+alike_passes N value x y same = refl
 alike_passes C value x y same = refl
 alike_passes R value x y same = ap (λ z. passes_by z R value) (same refl)
 alike_passes D value x y same = ap (λ z. passes_by z D value) (same refl)
 alike_passes U value x y same = ap (λ z. passes_by z U value) (same refl)
 
-alike_behind : (kind : FlagKind) (value x y : Option ℕ) → (does_set kind ≡ false → x ≡ y) → number_behind x kind value ≡ number_behind y kind value
-alike_behind P value x y same = refl
+alike_behind : (kind : FlagKind) (value : Option ℕ) (x y : Setting) → (does_set kind ≡ false → x ≡ y) → setting_by x kind value ≡ setting_by y kind value
+alike_behind P None x y same = refl
+alike_behind P (Some v) x y same = refl
+alike_behind N None x y same = refl
+alike_behind N (Some v) x y same = refl
 alike_behind C value x y same = refl
-alike_behind R value x y same = same refl
-alike_behind D value x y same = same refl
-alike_behind U value x y same = refl
+alike_behind R value x y same = ap (λ z. setting_by z R value) (same refl)
+alike_behind D value x y same = ap (λ z. setting_by z D value) (same refl)
+alike_behind U None x y same = refl
+alike_behind U (Some v) x y same = refl
 
 -- two lists have the same values but for the idle features
-pub record Agree (row : ℕ) (xs ys : List (Option ℕ)) : Type 0 where
+pub record Agree (row : ℕ) (xs ys : List Setting) : Type 0 where
   pub long : length xs ≡ length ys
   pub same : (f : ℕ) → is_idle row f ≡ false → slice_get xs f ≡ slice_get ys f
 
-pub agree_sym : (row : ℕ) (xs ys : List (Option ℕ)) → Agree row xs ys → Agree row ys xs
+pub agree_sym : (row : ℕ) (xs ys : List Setting) → Agree row xs ys → Agree row ys xs
 agree_sym row xs ys h = record { long = sym h.long; same = λ f live. sym (h.same f live) }
 
-index_same : (xs ys : List (Option ℕ)) (f : ℕ) → slice_get xs f ≡ slice_get ys f → slice_index_or xs f None ≡ slice_index_or ys f None
-index_same xs ys f e = sym (unwrap_or-slice_get xs f None) ∙ ap (λ (o : Option (Option ℕ)). unwrap_or o None) e ∙ unwrap_or-slice_get ys f None
+index_same : (xs ys : List Setting) (f : ℕ) → slice_get xs f ≡ slice_get ys f → slice_index_or xs f Neutral ≡ slice_index_or ys f Neutral
+index_same xs ys f e = sym (unwrap_or-slice_get xs f Neutral) ∙ ap (λ (o : Option Setting). unwrap_or o Neutral) e ∙ unwrap_or-slice_get ys f Neutral
 
-module _ (before behind : ℕ) (xs ys : List (Option ℕ)) (agree : Agree before xs ys) where
+module _ (before behind : ℕ) (xs ys : List Setting) (agree : Agree before xs ys) where
   agree_on : KeepsIdle None before behind → Agree behind xs ys
   agree_on keeps = record {
     long = agree.long;
@@ -86,17 +93,17 @@ module _ (before behind : ℕ) (xs ys : List (Option ℕ)) (agree : Agree before
   }
 
   module _ (a : Action) (keeps : KeepsIdle (Some a) before behind) where
-    abbrev now_x : Option ℕ
-    now_x = slice_index_or xs a.feature None
+    abbrev now_x : Setting
+    now_x = slice_index_or xs a.feature Neutral
 
-    abbrev now_y : Option ℕ
-    now_y = slice_index_or ys a.feature None
+    abbrev now_y : Setting
+    now_y = slice_index_or ys a.feature Neutral
 
-    abbrev new_x : Option ℕ
-    new_x = number_behind now_x a.kind a.value
+    abbrev new_x : Setting
+    new_x = setting_by now_x a.kind a.value
 
-    abbrev new_y : Option ℕ
-    new_y = number_behind now_y a.kind a.value
+    abbrev new_y : Setting
+    new_y = setting_by now_y a.kind a.value
 
     new_same : is_idle behind a.feature ≡ false → new_x ≡ new_y
     new_same live =
@@ -138,67 +145,67 @@ module _ (before behind : ℕ) (xs ys : List (Option ℕ)) (agree : Agree before
       ];
     }
 
-  one_action : (o : Option Action) → KeepsIdle o before behind → (next : List (Option ℕ)) → behind_if xs o ≡ Some next → (then : List (Option ℕ)) × (behind_if ys o ≡ Some then) × Agree behind next then
-  one_action None keeps next is = (ys, refl, subst (λ (z : List (Option ℕ)). Agree behind z ys) (same_Some xs next is) (agree_on keeps))
+  one_action : (o : Option Action) → KeepsIdle o before behind → (next : List Setting) → behind_if xs o ≡ Some next → (then : List Setting) × (behind_if ys o ≡ Some then) × Agree behind next then
+  one_action None keeps next is = (ys, refl, subst (λ (z : List Setting). Agree behind z ys) (same_Some xs next is) (agree_on keeps))
   one_action (Some a) keeps next is =
       let r = cond_some (passes_by (now_x a keeps) a.kind a.value) (slice_set xs a.feature (new_x a keeps)) next is in
       let tested : does_test a.kind ≡ true → now_x a keeps ≡ now_y a keeps = λ t. index_same xs ys a.feature (agree.same a.feature (keeps.tests t)) in
       let passes : passes_by (now_y a keeps) a.kind a.value ≡ true = sym (alike_passes a.kind a.value (now_x a keeps) (now_y a keeps) tested) ∙ r.0 in (
         slice_set ys a.feature (new_y a keeps),
         ap (λ (b : Bool). cond b (Some (slice_set ys a.feature (new_y a keeps))) None) passes,
-        subst (λ (z : List (Option ℕ)). Agree behind z (slice_set ys a.feature (new_y a keeps))) r.1 (agree_set a keeps),
+        subst (λ (z : List Setting). Agree behind z (slice_set ys a.feature (new_y a keeps))) r.1 (agree_set a keeps),
       )
 
 -- what features are, with the idle ones neutral
-masked_get : (row : ℕ) (xs : List (Option ℕ)) (f : ℕ) → f < length xs → slice_get (masked row xs) f ≡ Some (cond (is_idle row f) None (get_or xs f None))
+masked_get : (row : ℕ) (xs : List Setting) (f : ℕ) → f < length xs → slice_get (masked row xs) f ≡ Some (cond (is_idle row f) Neutral (get_or xs f Neutral))
 masked_get row xs f within =
-    let v : ℕ × Option ℕ → Option ℕ = λ p. cond (is_idle row p.0) None p.1 in
+    let v : ℕ × Setting → Setting = λ p. cond (is_idle row p.0) Neutral p.1 in
     let es = enumerate_from 0 xs in
     let long_es : length es ≡ length xs = length-enumerate_from 0 xs in
-    let d : Option ℕ = None in
-    let value : Option ℕ = get_or xs f d in
+    let d : Setting = Neutral in
+    let value : Setting = get_or xs f d in
     let zero : 0 + f ≡ f = omega arith in
     let at : get_or es f (0, d) ≡ (f, value) = get_or-enumerate_from 0 xs f (0, d) within ∙ ap (λ (k : ℕ). (k, value)) zero in
-    slice_get-map v es f ∙ ap (option_map v) (slice_get-get_or es f (0, d) (omega arith)) ∙ ap (λ (p : ℕ × Option ℕ). Some (v p)) at
+    slice_get-map v es f ∙ ap (option_map v) (slice_get-get_or es f (0, d) (omega arith)) ∙ ap (λ (p : ℕ × Setting). Some (v p)) at
 
-masked_long : (row : ℕ) (xs : List (Option ℕ)) → length (masked row xs) ≡ length xs
-masked_long row xs = length-map (enumerate_from 0 xs) (λ p. cond (is_idle row p.0) None p.1) ∙ length-enumerate_from 0 xs
+masked_long : (row : ℕ) (xs : List Setting) → length (masked row xs) ≡ length xs
+masked_long row xs = length-map (enumerate_from 0 xs) (λ p. cond (is_idle row p.0) Neutral p.1) ∙ length-enumerate_from 0 xs
 
-agree_masked : (row : ℕ) (xs : List (Option ℕ)) → Agree row (masked row xs) xs
+agree_masked : (row : ℕ) (xs : List Setting) → Agree row (masked row xs) xs
 agree_masked row xs =
     let long = masked_long row xs in
     record {
       long = long;
       same = λ f live. elim (cases_lt f (length xs)) [
-        | inl within ↦ masked_get row xs f within ∙ ap (λ (b : Bool). Some (cond b None (get_or xs f None))) live ∙ sym (slice_get-get_or xs f None within)
+        | inl within ↦ masked_get row xs f within ∙ ap (λ (b : Bool). Some (cond b Neutral (get_or xs f Neutral))) live ∙ sym (slice_get-get_or xs f Neutral within)
         | inr past ↦ slice_get_past (masked row xs) f (omega arith) ∙ sym (slice_get_past xs f past)
       ];
     }
 
--- a list with no value at the features that are idle
-pub masked_same : (row bits : ℕ) (xs : List (Option ℕ)) → row < 2 ^ 64 → bit_and row bits ≡ 0 → HasValued bits xs → masked row xs ≡ xs
+-- a list that is neutral at the features that are idle
+pub masked_same : (row bits : ℕ) (xs : List Setting) → row < 2 ^ 64 → bit_and row bits ≡ 0 → HasSettled bits xs → masked row xs ≡ xs
 masked_same row bits xs fits apart has =
     let long = masked_long row xs in
-    ext_get_or None (masked row xs) xs long
+    ext_get_or Neutral (masked row xs) xs long
     (λ f below.
     let within : f < length xs = omega arith in
-    let value : Option ℕ = get_or xs f None in
-    let is : cond (is_idle row f) None value ≡ value = elim (by_bool (is_idle row f)) [
-      | inl idle ↦ ap (λ (b : Bool). cond b None value) idle ∙ sym (has f (idle_within row f fits idle) (none_of_both row bits f apart idle))
-      | inr awake ↦ ap (λ (b : Bool). cond b None value) awake
+    let value : Setting = get_or xs f Neutral in
+    let is : cond (is_idle row f) Neutral value ≡ value = elim (by_bool (is_idle row f)) [
+      | inl idle ↦ ap (λ (b : Bool). cond b Neutral value) idle ∙ sym (has f (idle_within row f fits idle) (none_of_both row bits f apart idle))
+      | inr awake ↦ ap (λ (b : Bool). cond b Neutral value) awake
     ] in
-    get_or_from_slice_get (masked row xs) f (cond (is_idle row f) None value) None (masked_get row xs f within) ∙ is)
+    get_or_from_slice_get (masked row xs) f (cond (is_idle row f) Neutral value) Neutral (masked_get row xs f within) ∙ is)
 
 -- both sides
 pub record AgreeAt (idle : Idle) (state : ℕ) (now then : Features) : Type 0 where
   pub upper : Agree (upper_row idle state) now.upper then.upper
   pub lower : Agree (lower_row idle state) now.lower then.lower
 
-with_upper_some : (now : Features) (o : Option (List (Option ℕ))) (next : Features) → with_upper now o ≡ Some next → (u : List (Option ℕ)) × (o ≡ Some u) × (◌≡◌ {A = Features} (record { upper = u; lower = now.lower }) next)
+with_upper_some : (now : Features) (o : Option (List Setting)) (next : Features) → with_upper now o ≡ Some next → (u : List Setting) × (o ≡ Some u) × (◌≡◌ {A = Features} (record { upper = u; lower = now.lower }) next)
 with_upper_some now None next is = let clash : None ≡ Some next = is in cc
 with_upper_some now (Some u) next is = (u, refl, same_Some (record { upper = u; lower = now.lower }) next is)
 
-with_lower_some : (now : Features) (o : Option (List (Option ℕ))) (next : Features) → with_lower now o ≡ Some next → (l : List (Option ℕ)) × (o ≡ Some l) × (◌≡◌ {A = Features} (record { upper = now.upper; lower = l }) next)
+with_lower_some : (now : Features) (o : Option (List Setting)) (next : Features) → with_lower now o ≡ Some next → (l : List Setting) × (o ≡ Some l) × (◌≡◌ {A = Features} (record { upper = now.upper; lower = l }) next)
 with_lower_some now None next is = let clash : None ≡ Some next = is in cc
 with_lower_some now (Some l) next is = (l, refl, same_Some (record { upper = now.upper; lower = l }) next is)
 
@@ -271,9 +278,9 @@ module _ (actions : List Action) (idle : Idle) (edge : Edge Tape) (now : Feature
   pub live_none : behind_edge actions edge now ≡ None → live_behind actions idle edge now ≡ None
   live_none is = ap (option_map (masked_at idle edge.to)) is
 
-  pub live_some : (old new : List (List (Option ℕ))) (next : Place) (upper lower : ℕ) → IsPlaceBehind (behind_edge actions) old edge now (Some next)
-      → ((u : List (Option ℕ)) → slice_get old next.upper ≡ Some u → slice_get new upper ≡ Some (masked (upper_row idle edge.to) u))
-      → ((l : List (Option ℕ)) → slice_get old next.lower ≡ Some l → slice_get new lower ≡ Some (masked (lower_row idle edge.to) l))
+  pub live_some : (old new : List (List Setting)) (next : Place) (upper lower : ℕ) → IsPlaceBehind (behind_edge actions) old edge now (Some next)
+      → ((u : List Setting) → slice_get old next.upper ≡ Some u → slice_get new upper ≡ Some (masked (upper_row idle edge.to) u))
+      → ((l : List Setting) → slice_get old next.lower ≡ Some l → slice_get new lower ≡ Some (masked (lower_row idle edge.to) l))
       → IsPlaceBehind (live_behind actions idle) new edge now (Some (record { state = next.state; upper = upper; lower = lower }))
   live_some old new next upper lower (then, is, state_is, shows) up low =
       (masked_at idle edge.to then, ap (option_map (masked_at idle edge.to)) is, state_is, record { upper = up then.upper shows.upper; lower = low then.lower shows.lower })

@@ -19,7 +19,7 @@ use Rattle.flag_diacritics.specs.Numbers.{Features, AreActions, behind}
 use Rattle.flag_diacritics.specs.declared.idle.Idle.{Idle}
 use Rattle.flag_diacritics.specs.Idle.{AreIdle, live_behind, masked_at}
 use Rattle.flag_diacritics.specs.Search.{Names, IsAt, Leads, IsResolved, letter_for}
-use Rattle.flag_diacritics.proofs.Passing.{Runs, neutral, runs_from_start}
+use Rattle.flag_diacritics.proofs.Passing.{Runs, all_neutral, runs_from_start}
 use Rattle.flag_diacritics.proofs.Idling.{runs_step, runs_cases, mapped_some, masked_runs}
 use Rattle.flag_diacritics.proofs.Searching.{one_state, one_list}
 
@@ -105,7 +105,7 @@ module _ (actions : List Action) (idle : Idle) (net : Automaton Tape) (are_idle 
       let leads : Leads (live_behind actions idle) names r.0 r.1 e = r.4 in
       (r.1, r.3, pair_letter (r.1).letter x (sym leads.letter ∙ reads))
 
-  module _ (features values : List (List ℕ)) (flags : List FlagOp) (are : AreActions features values flags actions) (first_is : first ≡ neutral (length features)) where
+  module _ (features values : List (List ℕ)) (flags : List FlagOp) (are : AreActions features values flags actions) (first_is : first ≡ all_neutral (length features)) where
     pub resolved_language : (pairs : List Pair) → Accepts m pairs ↔ HasPairs net flags pairs
     resolved_language pairs =
         let same = resolved_tapes pairs in (

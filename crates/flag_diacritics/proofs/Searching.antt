@@ -10,6 +10,7 @@ use Rattle.word_relations.proofs.Members.{Contains-nil_cases}
 use Rattle.word_relations.proofs.Places.{slice_get-append_left, slice_get-push, same_at}
 use Rattle.fsa.specs.Automaton.{Automaton, IsFinal}
 use Rattle.fsa.specs.declared.automaton.Edge.{Edge}
+use Rattle.flag_diacritics.specs.declared.setting.Setting.{Setting}
 use Rattle.flag_diacritics.specs.declared.tape.Tape.{Tape}
 use Rattle.flag_diacritics.specs.declared.tape.Tape.TheVariants.{UpFlag, LowFlag}
 use Rattle.flag_diacritics.specs.declared.actions.Action.{Action}
@@ -20,7 +21,7 @@ use Rattle.flag_diacritics.specs.Search.{Shows, IsPlaceBehind, Names, IsAt, AreS
 use Rattle.flag_diacritics.proofs.Finding.{keeps_more, keeps_then}
 
 -- what was numbered stays
-pub shows_kept : (old new : List (List (Option ℕ))) → Keeps old new → (place : Place) (now : Features) → Shows old place now → Shows new place now
+pub shows_kept : (old new : List (List Setting)) → Keeps old new → (place : Place) (now : Features) → Shows old place now → Shows new place now
 shows_kept old new kept place now h = record { upper = kept place.upper now.upper h.upper; lower = kept place.lower now.lower h.lower }
 
 module _ (old new : Names) (places : Keeps old.places new.places) (features : Keeps old.features new.features) where
@@ -32,7 +33,7 @@ module _ (old new : Names) (places : Keeps old.places new.places) (features : Ke
 
 -- a number is that of one state and one list of features
 same_features : (now then : Features) → now.upper ≡ then.upper → now.lower ≡ then.lower → now ≡ then
-same_features now then up low = ap (λ (u : List (Option ℕ)). record { upper = u; lower = now.lower }) up ∙ ap (λ (l : List (Option ℕ)). record { upper = then.upper; lower = l }) low
+same_features now then up low = ap (λ (u : List Setting). record { upper = u; lower = now.lower }) up ∙ ap (λ (l : List Setting). record { upper = then.upper; lower = l }) low
 
 module _ (names : Names) (k state other : ℕ) (now then : Features) (here : IsAt names k state now) (there : IsAt names k other then) where
   one_place : here.place ≡ there.place
@@ -48,7 +49,7 @@ module _ (names : Names) (k state other : ℕ) (now then : Features) (here : IsA
       (same_at names.features there.place.lower now.lower then.lower (ap (λ (p : Place). slice_get names.features p.lower) (sym one_place) ∙ here.shows.lower) there.shows.lower)
 
 -- one edge of the network: its flag doesn't pass, or an edge is added
-module _ (step : Edge Tape → Features → Option Features) (number : ℕ) (now : Features) (edge : Edge Tape) (places : List Place) (features new_features : List (List (Option ℕ))) (kept : Keeps features new_features) (edges : List (Edge Pair)) where
+module _ (step : Edge Tape → Features → Option Features) (number : ℕ) (now : Features) (edge : Edge Tape) (places : List Place) (features new_features : List (List Setting)) (kept : Keeps features new_features) (edges : List (Edge Pair)) where
   pub AddsEdges-blocked : step edge now ≡ None → AddsEdges step number now (λ e. e ≡ edge) (record { places = places; features = features }) edges (record { places = places; features = new_features }) edges
   AddsEdges-blocked blocked = record {
     places = λ k x at. at;
@@ -261,12 +262,12 @@ module _ (step : Edge Tape → Features → Option Features) (net : Automaton Ta
       }
 
 -- the place behind a flag
-module _ (actions : List Action) (old new : List (List (Option ℕ))) (kept : Keeps old new) (place : Place) (edge : Edge Tape) (now : Features) (shows : Shows old place now) (n : ℕ) where
+module _ (actions : List Action) (old new : List (List Setting)) (kept : Keeps old new) (place : Place) (edge : Edge Tape) (now : Features) (shows : Shows old place now) (n : ℕ) where
   module _ (letter : edge.letter ≡ Some (UpFlag n)) where
     pub upper_behind : (k : ℕ) → IsNumbered new (Some k) (behind_if now.upper (slice_get actions n)) → IsPlaceBehind (behind_edge actions) new edge now (Some (record { state = edge.to; upper = k; lower = place.lower }))
     upper_behind k = by (behind_if now.upper (slice_get actions n)) refl
       where
-        by : (o : Option (List (Option ℕ))) → behind_if now.upper (slice_get actions n) ≡ o → IsNumbered new (Some k) o → IsPlaceBehind (behind_edge actions) new edge now (Some (record { state = edge.to; upper = k; lower = place.lower }))
+        by : (o : Option (List Setting)) → behind_if now.upper (slice_get actions n) ≡ o → IsNumbered new (Some k) o → IsPlaceBehind (behind_edge actions) new edge now (Some (record { state = edge.to; upper = k; lower = place.lower }))
         by None is h = absurd h
         by (Some upper) is h =
             (record { upper = upper; lower = now.lower }, ap (λ (l : Option Tape). behind actions l now) letter ∙ ap (with_upper now) is, refl, record { upper = h; lower = kept place.lower now.lower shows.lower })
@@ -274,7 +275,7 @@ module _ (actions : List Action) (old new : List (List (Option ℕ))) (kept : Ke
     pub upper_blocked : IsNumbered new None (behind_if now.upper (slice_get actions n)) → behind actions edge.letter now ≡ None
     upper_blocked = by (behind_if now.upper (slice_get actions n)) refl
       where
-        by : (o : Option (List (Option ℕ))) → behind_if now.upper (slice_get actions n) ≡ o → IsNumbered new None o → behind actions edge.letter now ≡ None
+        by : (o : Option (List Setting)) → behind_if now.upper (slice_get actions n) ≡ o → IsNumbered new None o → behind actions edge.letter now ≡ None
         by None is h = ap (λ (l : Option Tape). behind actions l now) letter ∙ ap (with_upper now) is
         by (Some upper) is h = absurd h
 
@@ -282,7 +283,7 @@ module _ (actions : List Action) (old new : List (List (Option ℕ))) (kept : Ke
     pub lower_behind : (k : ℕ) → IsNumbered new (Some k) (behind_if now.lower (slice_get actions n)) → IsPlaceBehind (behind_edge actions) new edge now (Some (record { state = edge.to; upper = place.upper; lower = k }))
     lower_behind k = by (behind_if now.lower (slice_get actions n)) refl
       where
-        by : (o : Option (List (Option ℕ))) → behind_if now.lower (slice_get actions n) ≡ o → IsNumbered new (Some k) o → IsPlaceBehind (behind_edge actions) new edge now (Some (record { state = edge.to; upper = place.upper; lower = k }))
+        by : (o : Option (List Setting)) → behind_if now.lower (slice_get actions n) ≡ o → IsNumbered new (Some k) o → IsPlaceBehind (behind_edge actions) new edge now (Some (record { state = edge.to; upper = place.upper; lower = k }))
         by None is h = absurd h
         by (Some lower) is h =
             (record { upper = now.upper; lower = lower }, ap (λ (l : Option Tape). behind actions l now) letter ∙ ap (with_lower now) is, refl, record { upper = kept place.upper now.upper shows.upper; lower = h })
@@ -290,7 +291,7 @@ module _ (actions : List Action) (old new : List (List (Option ℕ))) (kept : Ke
     pub lower_blocked : IsNumbered new None (behind_if now.lower (slice_get actions n)) → behind actions edge.letter now ≡ None
     lower_blocked = by (behind_if now.lower (slice_get actions n)) refl
       where
-        by : (o : Option (List (Option ℕ))) → behind_if now.lower (slice_get actions n) ≡ o → IsNumbered new None o → behind actions edge.letter now ≡ None
+        by : (o : Option (List Setting)) → behind_if now.lower (slice_get actions n) ≡ o → IsNumbered new None o → behind actions edge.letter now ≡ None
         by None is h = ap (λ (l : Option Tape). behind actions l now) letter ∙ ap (with_lower now) is
         by (Some lower) is h = absurd h
 
@@ -298,7 +299,7 @@ module _ (actions : List Action) (old new : List (List (Option ℕ))) (kept : Ke
 still_within : {X : Type 0} (d : X) (old new : List X) → Keeps old new → (k : ℕ) → k < length old → k < length new
 still_within d old new kept k within = slice_get_within new k (get_or old k d) (kept k (get_or old k d) (slice_get-get_or old k d within))
 
-pub shown_within : (old new : List (List (Option ℕ))) (place : Place) → place.upper < length old → place.lower < length old → ((now : Features) → Shows old place now → Keeps old new) → (place.upper < length new) × (place.lower < length new)
+pub shown_within : (old new : List (List Setting)) (place : Place) → place.upper < length old → place.lower < length old → ((now : Features) → Shows old place now → Keeps old new) → (place.upper < length new) × (place.lower < length new)
 shown_within old new place upper lower keeps =
     let now : Features = record { upper = get_or old place.upper []; lower = get_or old place.lower [] } in
     let kept = keeps now (record { upper = slice_get-get_or old place.upper [] upper; lower = slice_get-get_or old place.lower [] lower }) in

@@ -6,16 +6,19 @@ use Rattle.std.specs.List.{enumerate_from}
 use Rattle.std.specs.Option.{option_map}
 use Rattle.fsa.specs.declared.automaton.Edge.{Edge}
 use Rattle.regex_ast.specs.declared.lexc.FlagKind.{FlagKind}
-use Rattle.regex_ast.specs.declared.lexc.FlagKind.TheVariants.{P, C, R, D, U}
+use Rattle.regex_ast.specs.declared.lexc.FlagKind.TheVariants.{P, N, C, R, D, U}
 use Rattle.flag_diacritics.specs.declared.tape.Tape.{Tape}
 use Rattle.flag_diacritics.specs.declared.tape.Tape.TheVariants.{Pair as OfPair, UpFlag, LowFlag}
 use Rattle.flag_diacritics.specs.declared.actions.Action.{Action}
 use Rattle.flag_diacritics.specs.declared.idle.Idle.{Idle}
+use Rattle.flag_diacritics.specs.declared.setting.Setting.{Setting}
+use Rattle.flag_diacritics.specs.declared.setting.Setting.TheVariants.{Neutral}
 use Rattle.flag_diacritics.specs.Numbers.{Features, behind}
 
 -- whether a flag asks what its feature is, and whether it sets it whatever it was
 abbrev pub does_test : FlagKind → Bool
 does_test P = false
+does_test N = false
 does_test C = false
 does_test R = true
 does_test D = true
@@ -23,6 +26,7 @@ does_test U = true
 
 abbrev pub does_set : FlagKind → Bool
 does_set P = true
+does_set N = true
 does_set C = true
 does_set R = false
 does_set D = false
@@ -76,16 +80,16 @@ abbrev pub AreIdle : List Action → Idle → List (Edge Tape) → Type 0
 AreIdle actions idle edges = (edge : Edge Tape) → Contains edges edge → IsIdleAlong actions idle edge
 
 -- what features are, the idle ones being made neutral
-abbrev pub masked : ℕ → List (Option ℕ) → List (Option ℕ)
-masked row now = map (λ p. cond (is_idle row p.0) None p.1) (enumerate_from 0 now)
+abbrev pub masked : ℕ → List Setting → List Setting
+masked row now = map (λ p. cond (is_idle row p.0) Neutral p.1) (enumerate_from 0 now)
 
--- a row has a bit for each feature that has a value, but for those that no row has a bit for
-abbrev pub HasValued : ℕ → List (Option ℕ) → Type 0
-HasValued row now = (feature : ℕ) → feature < 64 → bit_at row feature ≡ 0 → slice_index_or now feature None ≡ None
+-- a row has a bit for each feature that isn't neutral, but for those that no row has a bit for
+abbrev pub HasSettled : ℕ → List Setting → Type 0
+HasSettled row now = (feature : ℕ) → feature < 64 → bit_at row feature ≡ 0 → slice_index_or now feature Neutral ≡ Neutral
 
 -- there is such a row for some of the lists
-abbrev pub AreValued : List (List (Option ℕ)) → List ℕ → Type 0
-AreValued lists rows = (k row : ℕ) → slice_get rows k ≡ Some row → (now : List (Option ℕ)) × (slice_get lists k ≡ Some now) × HasValued row now
+abbrev pub AreSettled : List (List Setting) → List ℕ → Type 0
+AreSettled lists rows = (k row : ℕ) → slice_get rows k ≡ Some row → (now : List Setting) × (slice_get lists k ≡ Some now) × HasSettled row now
 
 abbrev pub masked_at : Idle → ℕ → Features → Features
 masked_at idle state now = record { upper = masked (upper_row idle state) now.upper; lower = masked (lower_row idle state) now.lower }

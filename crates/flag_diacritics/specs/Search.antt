@@ -7,22 +7,23 @@ use Rattle.fsa.specs.declared.automaton.Edge.{Edge}
 use Rattle.flag_diacritics.specs.declared.tape.Tape.{Tape}
 use Rattle.flag_diacritics.specs.declared.tape.Tape.TheVariants.{Pair as OfPair, UpFlag, LowFlag}
 use Rattle.flag_diacritics.specs.declared.tables.Place.{Place}
+use Rattle.flag_diacritics.specs.declared.setting.Setting.{Setting}
 use Rattle.flag_diacritics.specs.Numbers.{Features, Keeps}
 
 -- the place is that of these features, by their numbers in a list
-pub record Shows (features : List (List (Option ℕ))) (place : Place) (now : Features) : Type 0 where
+pub record Shows (features : List (List Setting)) (place : Place) (now : Features) : Type 0 where
   pub upper : slice_get features place.upper ≡ Some now.upper
   pub lower : slice_get features place.lower ≡ Some now.lower
 
 -- the place that an edge leads to, if its flag passes
-abbrev pub IsPlaceBehind : (Edge Tape → Features → Option Features) → List (List (Option ℕ)) → Edge Tape → Features → Option Place → Type 0
+abbrev pub IsPlaceBehind : (Edge Tape → Features → Option Features) → List (List Setting) → Edge Tape → Features → Option Place → Type 0
 IsPlaceBehind step features edge now None = step edge now ≡ None
 IsPlaceBehind step features edge now (Some place) = (next : Features) × (step edge now ≡ Some next) × (place.state ≡ edge.to) × Shows features place next
 
 -- what was numbered: places, and lists of what features are
 pub record Names : Type 0 where
   pub places : List Place
-  pub features : List (List (Option ℕ))
+  pub features : List (List Setting)
 
 -- the number is that of a state and of what the features are
 pub record IsAt (names : Names) (number state : ℕ) (now : Features) : Type 0 where

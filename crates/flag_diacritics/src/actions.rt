@@ -1,9 +1,11 @@
-ghost use Rattle.std.specs.Prelude.{◌≡◌, ℕ, List, None, IfOk, OnOk, length, slice_index_or};
+ghost use Rattle.std.specs.Prelude.{◌≡◌, ℕ, List, IfOk, OnOk, length, slice_index_or};
 ghost use Rattle.word_relations.specs.Words.{IsDistinct};
 ghost use Rattle.regex_ast.specs.declared.lexc.FlagOp.{FlagOp};
 ghost use Rattle.std.specs.Option.{option_map};
-ghost use Rattle.flag_diacritics.specs.Numbers.{Keeps, StandsFor, AreActions, is_number, passes_by, number_behind, behind_action};
+ghost use Rattle.flag_diacritics.specs.Numbers.{Keeps, StandsFor, AreActions, behind_action};
+ghost use Rattle.flag_diacritics.specs.declared.setting.Setting.TheVariants as settings;
 
+use crate::setting::{Setting, passes, setting_behind};
 use fsm_base::TextTable;
 use regex_ast::{FlagKind, FlagOp};
 use std::alloc::{AllocError, Global};
@@ -73,66 +75,29 @@ fn action_of(
 /// What the features are behind a flag, or None where it doesn't pass.
 pub fn behind_action(
     alloc: Global,
-    now: &[Option<usize>],
+    now: &[Setting],
     action: &Action,
-) -> Result<Option<Vec<Option<usize>>>, AllocError>
+) -> Result<Option<Vec<Setting>>, AllocError>
     ensures { IfOk result (λ behind. option_map (λ list. list.items) behind ≡ behind_action now.now action.now) }
 {
-    let value = value_at(now, action.feature);
-    if !passes(value, action) {
+    let setting = setting_at(now, action.feature);
+    if !passes(setting, action.kind, action.value) {
         return Ok(None);
     }
     let mut behind = Vec::from_slice(alloc, now)?;
     if action.feature < behind.len() {
-        behind[action.feature] = value_behind(value, action);
+        behind[action.feature] = setting_behind(setting, action.kind, action.value);
     }
     Ok(Some(behind))
 }
 
-/// The value of a feature; a feature that isn't there is neutral.
-fn value_at(now: &[Option<usize>], feature: usize) -> Option<usize>
-    ensures { result ≡ slice_index_or now.now feature None }
+/// What a feature is; a feature that isn't there is neutral.
+fn setting_at(now: &[Setting], feature: usize) -> Setting
+    ensures { result ≡ slice_index_or now.now feature settings.Neutral }
 {
     if feature < now.len() {
         now[feature]
     } else {
-        None
-    }
-}
-
-/// Whether a flag passes where its feature has this value.
-fn passes(now: Option<usize>, action: &Action) -> bool
-    ensures { result ≡ passes_by now action.now.kind action.now.value }
-{
-    match (action.kind, action.value) {
-        (FlagKind::P, _) => true,
-        (FlagKind::C, _) => true,
-        (FlagKind::R, None) => now.is_some(),
-        (FlagKind::R, Some(value)) => is_number(now, value),
-        (FlagKind::D, None) => now.is_none(),
-        (FlagKind::D, Some(value)) => !is_number(now, value),
-        (FlagKind::U, None) => true,
-        (FlagKind::U, Some(value)) => now.is_none() || is_number(now, value),
-    }
-}
-
-/// Whether the feature has this value.
-fn is_number(now: Option<usize>, value: usize) -> bool
-    ensures { result ≡ is_number now value }
-{
-    match now {
-        Some(number) => number == value,
-        None => false,
-    }
-}
-
-/// The value of its feature behind a flag that passes.
-fn value_behind(now: Option<usize>, action: &Action) -> Option<usize>
-    ensures { result ≡ number_behind now action.now.kind action.now.value }
-{
-    match action.kind {
-        FlagKind::P | FlagKind::U => action.value,
-        FlagKind::C => None,
-        FlagKind::R | FlagKind::D => now,
+        Setting::Neutral
     }
 }

@@ -1,8 +1,10 @@
-ghost use Rattle.std.specs.Prelude.{◌≡◌, ◌<◌, ◌⊎◌, ℕ, None, false, true, IfOk, IsTrue, cond, slice_get, slice_index_or};
+ghost use Rattle.std.specs.Prelude.{◌≡◌, ◌<◌, ◌⊎◌, ℕ, false, true, IfOk, IsTrue, cond, slice_get, slice_index_or};
 ghost use Rattle.std.specs.Int.{bit_at};
-ghost use Rattle.flag_diacritics.specs.Idle.{AreIdle, HasValued, IsIdleAlong, KeepsIdle, Sets, TestsNone, does_set, does_test, is_idle, lower_action, masked, upper_action};
+ghost use Rattle.flag_diacritics.specs.Idle.{AreIdle, HasSettled, IsIdleAlong, KeepsIdle, Sets, TestsNone, does_set, does_test, is_idle, lower_action, masked, upper_action};
+ghost use Rattle.flag_diacritics.specs.declared.setting.Setting.TheVariants as settings;
 
 use crate::actions::{Action, Actions};
+use crate::setting::Setting;
 use crate::tape::Tape;
 use fsa::{Edge, Fsa};
 use fsa_explore::EdgesByState;
@@ -263,7 +265,7 @@ fn does_test(kind: FlagKind) -> bool
     ensures { result ≡ does_test kind }
 {
     match kind {
-        FlagKind::P | FlagKind::C => false,
+        FlagKind::P | FlagKind::N | FlagKind::C => false,
         FlagKind::R | FlagKind::D | FlagKind::U => true,
     }
 }
@@ -273,7 +275,7 @@ fn does_set(kind: FlagKind) -> bool
     ensures { result ≡ does_set kind }
 {
     match kind {
-        FlagKind::P | FlagKind::C | FlagKind::U => true,
+        FlagKind::P | FlagKind::N | FlagKind::C | FlagKind::U => true,
         FlagKind::R | FlagKind::D => false,
     }
 }
@@ -293,44 +295,40 @@ pub fn row_at(rows: &[u64], state: usize) -> u64
 }
 
 /// What features are, the idle ones being made neutral.
-pub fn masked(
-    alloc: Global,
-    row: u64,
-    now: &[Option<usize>],
-) -> Result<Vec<Option<usize>>, AllocError>
+pub fn masked(alloc: Global, row: u64, now: &[Setting]) -> Result<Vec<Setting>, AllocError>
     ensures { IfOk result (λ list. list.items ≡ masked row now.now) }
 {
     now.iter()
         .enumerate()
-        .map(|(feature, value)| value_if(is_idle(row, feature), *value))
+        .map(|(feature, setting)| setting_if(is_idle(row, feature), *setting))
         .collect(alloc)
 }
 
-/// The features that have a value, as bits.
-pub fn valued(now: &[Option<usize>]) -> u64
-    ensures { HasValued result now.now }
+/// The features that aren't neutral, as bits.
+pub fn settled(now: &[Setting]) -> u64
+    ensures { HasSettled result now.now }
 {
     let mut bits = 0;
     'features: for feature in 0..now.len() {
-        bits = with_valued(bits, feature, now[feature]);
+        bits = with_settled(bits, feature, now[feature]);
     }
     bits
 }
 
-/// These bits, with the one of a feature where it has a value.
-fn with_valued(bits: u64, feature: usize, value: Option<usize>) -> u64
+/// These bits, with the one of a feature where it isn't neutral.
+fn with_settled(bits: u64, feature: usize, setting: Setting) -> u64
     ensures kept { (other : ℕ) → bit_at result other ≡ 0 → bit_at bits other ≡ 0 }
-    ensures added { feature < 64 → bit_at result feature ≡ 0 → value ≡ None }
+    ensures added { feature < 64 → bit_at result feature ≡ 0 → setting ≡ settings.Neutral }
 {
-    match value {
-        Some(_) => bits | bit_of(feature),
-        None => bits,
+    match setting {
+        Setting::Neutral => bits,
+        Setting::Has(_) | Setting::Barred(_) => bits | bit_of(feature),
     }
 }
 
-/// A value, or none where its feature is idle.
-fn value_if(is_idle: bool, value: Option<usize>) -> Option<usize>
-    ensures { result ≡ cond is_idle None value }
+/// What a feature is, or neutral where it is idle.
+fn setting_if(is_idle: bool, setting: Setting) -> Setting
+    ensures { result ≡ cond is_idle settings.Neutral setting }
 {
-    if is_idle { None } else { value }
+    if is_idle { Setting::Neutral } else { setting }
 }

@@ -3,7 +3,7 @@
 //! - [`Tape`]: a letter of a network with flags: a pair of symbols, or a flag on one of the two sides.
 //! - [`resolve`]: the transducer of the pairs on those tapes whose flags pass (`specs/Tapes.antt`). No flag is left in
 //!   it, so whoever looks words up needs none.
-//! - `actions`: flags by numbers, and what they do (`specs/Numbers.antt`).
+//! - `actions`, `setting`: flags by numbers, and what they do (`specs/Numbers.antt`).
 //!   `idle`: features whose values no later flag tests (`specs/Idle.antt`), which don't tell states apart. `search`: the
 //!   states of the result (`specs/Search.antt`), which `tables` numbers.
 #![tactic(auto)]
@@ -12,6 +12,7 @@ mod actions;
 mod idle;
 mod resolution;
 mod search;
+mod setting;
 mod tables;
 mod tape;
 

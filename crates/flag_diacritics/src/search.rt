@@ -1,12 +1,15 @@
 ghost use Rattle.std.specs.Prelude.{◌≡◌, ◌<◌, ◌↔◌, ℕ, List, [], ◌∷◌, Option, Some, None, true, Contains, IfOk, OnOk, IsTrue, length, slice_get, replicate};
 ghost use Rattle.fsa.specs.declared.automaton.Edge.{Edge};
 ghost use Rattle.flag_diacritics.specs.declared.tape.Tape.{Tape};
+ghost use Rattle.flag_diacritics.specs.declared.setting.Setting.{Setting};
+ghost use Rattle.flag_diacritics.specs.declared.setting.Setting.TheVariants as settings;
 ghost use Rattle.flag_diacritics.specs.Numbers.{Features, Keeps, IsNumbered, behind_if};
 ghost use Rattle.flag_diacritics.specs.Idle.{behind_edge, live_behind, masked};
 ghost use Rattle.flag_diacritics.specs.Search.{Names, Shows, IsPlaceBehind, AddsEdges, IsResolved, letter_for};
 
 use crate::actions::{Action, Actions, behind_action};
 use crate::idle::{Idle, masked, row_at};
+use crate::setting::Setting;
 use crate::tables::{FeatureTable, Place, PlaceTable};
 use crate::tape::Tape;
 use fsa::{Edge, Fsa};
@@ -42,7 +45,7 @@ pub fn explore(
     actions: &Actions,
     idle: &Idle,
 ) -> Result<Explored, AllocError>
-    ensures { IfOk result (λ built. (names : Names) × IsResolved (live_behind actions.now.list.items idle.now) net.now (record { upper = replicate actions.now.features None; lower = replicate actions.now.features None }) names built.edges.items built.finals.items) }
+    ensures { IfOk result (λ built. (names : Names) × IsResolved (live_behind actions.now.list.items idle.now) net.now (record { upper = replicate actions.now.features settings.Neutral; lower = replicate actions.now.features settings.Neutral }) names built.edges.items built.finals.items) }
 {
     let rows = EdgesByState::of(alloc, net.edges())?;
     let mut found = start(alloc, actions.features)?;
@@ -70,11 +73,11 @@ pub fn explore(
 /// The place of the start alone.
 fn start(alloc: Global, features: usize) -> Result<Found, AllocError>
     ensures places { IfOk result (λ found. found.places ≡ record { state = 0; upper = 0; lower = 0 } ∷ []) }
-    ensures features { IfOk result (λ found. found.features ≡ replicate features None ∷ []) }
+    ensures features { IfOk result (λ found. found.features ≡ replicate features settings.Neutral ∷ []) }
     ensures edges { IfOk result (λ found. found.edges.items ≡ []) }
 {
     let mut lists = FeatureTable::new(alloc);
-    lists.number_of(vec![in alloc; None; features]?)?;
+    lists.number_of(vec![in alloc; Setting::Neutral; features]?)?;
     let mut places = PlaceTable::new(alloc);
     places.number_of(Place {
         state: 0,
@@ -175,7 +178,7 @@ fn masked_number(
     number: usize,
 ) -> Result<usize, AllocError>
     ensures kept { OnOk result (Keeps features.old features.new) }
-    ensures masked { IfOk result (λ k. (now : List (Option ℕ)) → slice_get features.old number ≡ Some now → slice_get features.new k ≡ Some (masked row now)) }
+    ensures masked { IfOk result (λ k. (now : List Setting) → slice_get features.old number ≡ Some now → slice_get features.new k ≡ Some (masked row now)) }
 {
     if features.is_masked(row, number) || number >= features.len() {
         return Ok(number);
@@ -242,7 +245,7 @@ fn number_behind(
 ) -> Result<Option<usize>, AllocError>
     requires { number < length features.old }
     ensures kept { OnOk result (Keeps features.old features.new) }
-    ensures behind { IfOk result (λ k. (now : List (Option ℕ)) → slice_get features.old number ≡ Some now → IsNumbered features.new k (behind_if now (slice_get actions.now flag))) }
+    ensures behind { IfOk result (λ k. (now : List Setting) → slice_get features.old number ≡ Some now → IsNumbered features.new k (behind_if now (slice_get actions.now flag))) }
 {
     if flag as usize >= actions.len() {
         return Ok(Some(number));

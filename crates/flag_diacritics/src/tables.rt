@@ -3,9 +3,11 @@ ghost use Rattle.std.specs.Cmp.Rules.{hashing};
 ghost use Rattle.std.specs.Hash as fed;
 ghost use Rattle.std.proofs.Common.{rules};
 ghost use Rattle.flag_diacritics.specs.Idle.{masked};
+ghost use Rattle.flag_diacritics.specs.declared.setting.Setting.{Setting};
 ghost use Rattle.flag_diacritics.specs.Marks.{mark_of};
 
-use crate::idle::valued;
+use crate::idle::settled;
+use crate::setting::Setting;
 use indexmap::IndexSet;
 use std::alloc::{AllocError, Global};
 use std::hash::{Hash, Hasher};
@@ -18,22 +20,22 @@ const MULTIPLIER: usize = 0x9e37_79b9_7f4a_7c15;
 /// a hash. Contracts see the list of these lists.
 #[derive(Debug, Drop)]
 pub struct FeatureTable {
-    /// The lists, each once: the number of each feature's value, or none where the feature is neutral. The place of a
-    /// list is its number.
-    lists: IndexSet<Vec<Option<usize>>>,
-    /// The features that have a value in each list, as bits. Lists for which there was no memory have no bits here.
-    valued: Vec<u64>,
+    /// The lists, each once. The place of a list is its number.
+    lists: IndexSet<Vec<Setting>>,
+    /// The features that aren't neutral in each list, as bits. Lists for which there was no memory have no bits here.
+    settled: Vec<u64>,
 }
 
 impl Model for FeatureTable {
     ghost use Rattle.std.specs.Prelude.{List, ℕ, Option, map};
-    ghost use Rattle.flag_diacritics.specs.Idle.{AreValued};
+    ghost use Rattle.flag_diacritics.specs.Idle.{AreSettled};
+    ghost use Rattle.flag_diacritics.specs.declared.setting.Setting.{Setting};
 
-    ghost Value = { List (List (Option ℕ)) };
+    ghost Value = { List (List Setting) };
 
     ghost view = { λ table. map (λ list. list.items) table.lists.keys };
 
-    ghost invariant = { λ table. AreValued (map (λ list. list.items) table.lists.keys) table.valued.items };
+    ghost invariant = { λ table. AreSettled (map (λ list. list.items) table.lists.keys) table.settled.items };
 }
 
 impl FeatureTable {
@@ -43,7 +45,7 @@ impl FeatureTable {
     {
         FeatureTable {
             lists: IndexSet::new(alloc),
-            valued: Vec::new(alloc),
+            settled: Vec::new(alloc),
         }
     }
 
@@ -55,7 +57,7 @@ impl FeatureTable {
     }
 
     /// The list with a number.
-    pub fn get(&self, number: usize) -> &[Option<usize>]
+    pub fn get(&self, number: usize) -> &[Setting]
         requires { number < length self.now }
         ensures { slice_get self.now number ≡ Some result.now }
     {
@@ -63,22 +65,22 @@ impl FeatureTable {
     }
 
     /// The number of a list, which is added where it isn't there.
-    pub fn number_of(&mut self, list: Vec<Option<usize>>) -> Result<usize, AllocError>
+    pub fn number_of(&mut self, list: Vec<Setting>) -> Result<usize, AllocError>
         ensures number { IfOk result (λ k. slice_get self.new k ≡ Some list.items) }
         ensures kept { OnOk result ((self.new ≡ self.old) ⊎ (self.new ≡ self.old ++ list.items ∷ [])) }
     {
-        let bits = valued(&list);
+        let bits = settled(&list);
         let (number, _) = self.lists.insert_full(list)?;
-        note(&mut self.valued, number, bits);
+        note(&mut self.settled, number, bits);
         Ok(number)
     }
 
     /// Whether the features of a row are neutral already in the list with a number, so that nothing need be made. For a list
     /// without bits the answer is no.
     pub fn is_masked(&self, row: u64, number: usize) -> bool
-        ensures { IsTrue result → (now : List (Option ℕ)) → slice_get self.now number ≡ Some now → masked row now ≡ now }
+        ensures { IsTrue result → (now : List Setting) → slice_get self.now number ≡ Some now → masked row now ≡ now }
     {
-        match self.valued.get(number) {
+        match self.settled.get(number) {
             Some(bits) => row & *bits == 0,
             None => false,
         }
@@ -86,10 +88,10 @@ impl FeatureTable {
 }
 
 /// Notes the bits of the list with a number, if it is the next one that has none. Without memory for them it has none.
-fn note(valued: &mut Vec<u64>, number: usize, bits: u64)
-    ensures { (valued.new.items ≡ valued.old.items) ⊎ ((number ≡ length valued.old.items) × (valued.new.items ≡ valued.old.items ++ bits ∷ [])) }
+fn note(settled: &mut Vec<u64>, number: usize, bits: u64)
+    ensures { (settled.new.items ≡ settled.old.items) ⊎ ((number ≡ length settled.old.items) × (settled.new.items ≡ settled.old.items ++ bits ∷ [])) }
 {
-    if number == valued.len() && valued.push(bits).is_err() {
+    if number == settled.len() && settled.push(bits).is_err() {
         return;
     }
 }

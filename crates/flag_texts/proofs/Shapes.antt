@@ -1,10 +1,10 @@
 -- The parts of a flag, and that it has them in one way.
-use Rattle.std.proofs.Common.{◌≡◌, ◌≢◌, ◌⊎◌, inl, inr, ℕ, List, [], ◌∷◌, ◌++◌, Option, Some, None, refl, sym, ap, subst, ◌∙◌, arith, append_assoc}
+use Rattle.std.proofs.Common.{◌≡◌, ◌≢◌, ℕ, List, [], ◌∷◌, ◌++◌, Option, Some, None, refl, sym, ap, subst, ◌∙◌, arith, append_assoc}
 use Rattle.std.proofs.lemmas.List.{append_cancel_right}
 use Rattle.std.proofs.lemmas.List.Elements.{All-nil, All-cons, All-append, All-weaker}
-use Rattle.regex_ast.specs.Flags.{IsFlag, valued, plain, IsNegativeFlag, IsFeature, IsFeatureByte, HasValue, HasNoValue, sets, unifies, requires_value, bars_value, clears, requires_any, bars_any}
+use Rattle.regex_ast.specs.Flags.{IsFlag, valued, plain, IsFeature, IsFeatureByte, HasValue, HasNoValue, sets, negates, unifies, requires_value, bars_value, clears, requires_any, bars_any}
 use Rattle.regex_ast.specs.declared.lexc.FlagKind.{FlagKind}
-use Rattle.regex_ast.specs.declared.lexc.FlagKind.TheVariants.{P, C, R, D, U}
+use Rattle.regex_ast.specs.declared.lexc.FlagKind.TheVariants.{P, N, C, R, D, U}
 use Rattle.flag_texts.specs.Reading.{letter_of, ending_of, MayHave, HasNo}
 use Rattle.flag_texts.proofs.Splits.{one_split, has_mark}
 
@@ -30,6 +30,7 @@ without_value text feature kind has is e = record { kind = kind; feature = featu
 
 pub shape_of : (text : List ℕ) → IsFlag text → Shape text
 shape_of text (valued kind feature value sets is v_is e) = with_value text feature value P sets is v_is e
+shape_of text (valued kind feature value negates is v_is e) = with_value text feature value N negates is v_is e
 shape_of text (valued kind feature value unifies is v_is e) = with_value text feature value U unifies is v_is e
 shape_of text (valued kind feature value requires_value is v_is e) = with_value text feature value R requires_value is v_is e
 shape_of text (valued kind feature value bars_value is v_is e) = with_value text feature value D bars_value is v_is e
@@ -49,6 +50,7 @@ no_mark feature is = feature_has_no 64 (λ b h. h.4) feature is
 
 letter_apart : (kind : FlagKind) → (letter_of kind ≢ 64) × (letter_of kind ≢ 46)
 letter_apart P = (λ e. absurd (omega arith), λ e. absurd (omega arith))
+letter_apart N = (λ e. absurd (omega arith), λ e. absurd (omega arith))
 letter_apart C = (λ e. absurd (omega arith), λ e. absurd (omega arith))
 letter_apart R = (λ e. absurd (omega arith), λ e. absurd (omega arith))
 letter_apart D = (λ e. absurd (omega arith), λ e. absurd (omega arith))
@@ -98,26 +100,37 @@ module _ (text : List ℕ) (flag : IsFlag text) where
           where
             by : (a b : FlagKind) → letter_of a ≡ letter_of b → a ≡ b
             by P P e = refl
+            by P N e = absurd (omega arith)
             by P C e = absurd (omega arith)
             by P R e = absurd (omega arith)
             by P D e = absurd (omega arith)
             by P U e = absurd (omega arith)
+            by N P e = absurd (omega arith)
+            by N N e = refl
+            by N C e = absurd (omega arith)
+            by N R e = absurd (omega arith)
+            by N D e = absurd (omega arith)
+            by N U e = absurd (omega arith)
             by C P e = absurd (omega arith)
+            by C N e = absurd (omega arith)
             by C C e = refl
             by C R e = absurd (omega arith)
             by C D e = absurd (omega arith)
             by C U e = absurd (omega arith)
             by R P e = absurd (omega arith)
+            by R N e = absurd (omega arith)
             by R C e = absurd (omega arith)
             by R R e = refl
             by R D e = absurd (omega arith)
             by R U e = absurd (omega arith)
             by D P e = absurd (omega arith)
+            by D N e = absurd (omega arith)
             by D C e = absurd (omega arith)
             by D R e = absurd (omega arith)
             by D D e = refl
             by D U e = absurd (omega arith)
             by U P e = absurd (omega arith)
+            by U N e = absurd (omega arith)
             by U C e = absurd (omega arith)
             by U R e = absurd (omega arith)
             by U D e = absurd (omega arith)
@@ -163,17 +176,3 @@ no_second text before rest none at clear inner is e = has_mark 64 inner [] (subs
 pub no_end : (text before rest middle behind : List ℕ) → HasNo 64 before → text ≡ before ++ 64 ∷ rest → HasNo 64 middle → rest ≡ middle ++ 64 ∷ behind → (behind ≡ [] → ⊥) → (inner : List ℕ) → HasNo 64 inner → text ≢ 64 ∷ inner ++ 64 ∷ []
 no_end text before rest middle behind none at clear split some inner is e =
     some (one_split 64 middle inner behind [] clear is (sym split ∙ behind_front text before rest inner none at e)).1
-
--- a flag with the letter of a kind isn't negative
-kind_apart : (kind : FlagKind) → letter_of kind ≢ 78
-kind_apart P e = absurd (omega arith)
-kind_apart C e = absurd (omega arith)
-kind_apart R e = absurd (omega arith)
-kind_apart D e = absurd (omega arith)
-kind_apart U e = absurd (omega arith)
-
-pub is_no_negative : (text inner letter rest : List ℕ) (kind : FlagKind) → text ≡ 64 ∷ inner ++ 64 ∷ [] → inner ≡ letter ++ 46 ∷ rest → letter ≡ letter_of kind ∷ [] → IsFlag text ⊎ IsNegativeFlag text → IsFlag text
-is_no_negative text inner letter rest kind at split is (inl flag) = flag
-is_no_negative text inner letter rest kind at split is (inr negative) =
-    let both : 64 ∷ letter_of kind ∷ 46 ∷ rest ++ 64 ∷ [] ≡ 64 ∷ 78 ∷ 46 ∷ negative.feature ++ 46 ∷ negative.value ++ 64 ∷ [] = sym (spelled_alone text inner letter rest kind at split is) ∙ negative.spelled in
-    absurd (kind_apart kind cc)

@@ -3,12 +3,13 @@
 use Rattle.std.specs.Prelude.{◌≡◌, ◌≢◌, ◌++◌, ℕ, List, [], ◌∷◌, All, Option, None, Some}
 use Rattle.regex_ast.specs.Flags.{IsFeature, HasValue, HasNoValue}
 use Rattle.regex_ast.specs.declared.lexc.FlagKind.{FlagKind}
-use Rattle.regex_ast.specs.declared.lexc.FlagKind.TheVariants.{P, C, R, D, U}
+use Rattle.regex_ast.specs.declared.lexc.FlagKind.TheVariants.{P, N, C, R, D, U}
 use Rattle.regex_ast.specs.declared.lexc.FlagOp.{FlagOp}
 
 -- the letter of a kind
 abbrev pub letter_of : FlagKind → ℕ
 letter_of P = 80
+letter_of N = 78
 letter_of C = 67
 letter_of R = 82
 letter_of D = 68

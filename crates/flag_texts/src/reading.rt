@@ -20,8 +20,8 @@ struct Parts<'a> {
     value: Option<&'a str>,
 }
 
-/// The flag diacritic that a text is, or `None` where it is none. A flag is `@X.F.V@` or `@X.F@`: X is `P` or `U` with a
-/// value V, `C` without, `R` or `D` with or without; F and V aren't empty and have no blank, `.` or `@`.
+/// The flag diacritic that a text is, or `None` where it is none. A flag is `@X.F.V@` or `@X.F@`: X is `P`, `N` or `U`
+/// with a value V, `C` without, `R` or `D` with or without; F and V aren't empty and have no blank, `.` or `@`.
 pub fn read_flag(alloc: Global, text: &str) -> Result<Option<FlagOp>, AllocError>
     ensures { IfOk result (λ flag. MatchOption flag (IsFlag text.now → ⊥) (IsFlagOf text.now)) }
 {
@@ -98,6 +98,7 @@ fn kind_of(letter: &str) -> Option<FlagKind>
 {
     match letter.as_bytes() {
         [b'P'] => Some(FlagKind::P),
+        [b'N'] => Some(FlagKind::N),
         [b'C'] => Some(FlagKind::C),
         [b'R'] => Some(FlagKind::R),
         [b'D'] => Some(FlagKind::D),

@@ -30,7 +30,7 @@ fn mark(text: &[char]) -> Option<usize>
 }
 
 /// How many characters stand from an `@` in front to the next one.
-pub fn marked_len(text: &[char]) -> Option<usize>
+fn marked_len(text: &[char]) -> Option<usize>
     ensures { MatchOption result (HasNoMarked text.now) (IsOnlyMarked text.now) }
 {
     let Some((first, rest)) = text.split_first() else {

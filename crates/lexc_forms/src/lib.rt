@@ -18,7 +18,7 @@ mod sharing;
 mod table;
 
 pub use cutting::cut;
-pub use flags::{encode, marked_len};
+pub use flags::encode;
 pub use forms::read_form;
 pub use letters::{Letter, characters, text_of};
 pub use sharing::SharedTexts;

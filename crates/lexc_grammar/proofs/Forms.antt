@@ -7,7 +7,7 @@ use Rattle.std.specs.Str.{encode_utf8_all, bytes_eq}
 use Rattle.regex_ast.specs.Flags.{IsFlag, IsFeature, IsFeatureByte}
 use Rattle.regex_ast.specs.declared.expr.Raw.{Raw}
 use Rattle.regex_ast.specs.declared.lexc.FlagKind.{FlagKind}
-use Rattle.regex_ast.specs.declared.lexc.FlagKind.TheVariants.{P, C, R, D, U}
+use Rattle.regex_ast.specs.declared.lexc.FlagKind.TheVariants.{P, N, C, R, D, U}
 use Rattle.regex_ast.specs.declared.lexc.FlagOp.{FlagOp}
 use Rattle.regex_ast.specs.declared.lexc.Piece.{Piece}
 use Rattle.regex_ast.specs.declared.lexc.Piece.TheVariants.{Flag}
@@ -29,11 +29,12 @@ use Rattle.lexc_grammar.specs.Lexicons.{form_of, piece_of}
 -- Flags.
 
 kind_of : ℕ → FlagKind
-kind_of n = cond (n == 80) P (cond (n == 67) C (cond (n == 82) R (cond (n == 68) D U)))
+kind_of n = cond (n == 80) P (cond (n == 78) N (cond (n == 67) C (cond (n == 82) R (cond (n == 68) D U))))
 
 kind_again : (kind : FlagKind) → kind_of (letter_of kind) ≡ kind
 unfolding kind_of
 kind_again P = refl
+kind_again N = refl
 kind_again C = refl
 kind_again R = refl
 kind_again D = refl

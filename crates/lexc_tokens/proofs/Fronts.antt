@@ -1,13 +1,12 @@
 -- The token that begins a text.
-use Rattle.std.proofs.Common.{◌≡◌, ◌≢◌, ◌+◌, ◌<◌, ◌≤◌, ◌==◌, ◌&&◌, ◌⊎◌, min, ℕ, suc, Bool, true, false, List, [], ◌∷◌, Vec, Global, vec_len, length, take, drop, refl, sym, ap, subst, ◌∙◌, inl, inr, arith, length-drop}
+use Rattle.std.proofs.Common.{◌≡◌, ◌≢◌, ◌+◌, ◌<◌, ◌≤◌, ◌==◌, ◌&&◌, min, ℕ, suc, Bool, true, false, List, [], ◌∷◌, Vec, Global, vec_len, length, take, drop, refl, sym, ap, subst, ◌∙◌, arith, length-drop}
 use Rattle.std.proofs.lemmas.Bool.Decides.{Decides-eqb, nat_tests}
 use Rattle.std.specs.Str.{encode_utf8_all}
 use Rattle.regex_tokens.specs.Bytes.{begins}
 use Rattle.lexc_forms.specs.declared.letters.Letter.{Letter}
-use Rattle.lexc_tokens.specs.Tokens.{IsWord, HasNegativeFlag, Stands, NoneStands, begins_expression, inner_len}
+use Rattle.lexc_tokens.specs.Tokens.{IsWord, NoneStands, begins_expression, inner_len}
 use Rattle.lexc_tokens.specs.Steps.{IsTokenFront}
 use Rattle.lexc_tokens.specs.declared.expressions.Inside.TheVariants.{Nothing}
-use Rattle.lexc_tokens.specs.declared.token.Token.{Token}
 use Rattle.lexc_tokens.specs.declared.token.Token.TheVariants.{Word as word, Semicolon as semicolon, Expression as expression}
 use Rattle.lexc_tokens.proofs.Letters.{one_word, word_length}
 use Rattle.lexc_tokens.proofs.Insides.{drop-min}
@@ -20,22 +19,17 @@ not_equal a b other = by (a == b) refl
     by false is = is
 
 module _ (opens : Bool) (text : List ℕ) (no_end : begins (λ c. c == 59) text ≡ false) (no_expression : begins_expression opens text ≡ false) (letters : List Letter) (rest : List ℕ) (is : IsWord text letters rest) where
-  -- there is no word, or one that is none
-  pub none_stands : (letters ≡ []) ⊎ HasNegativeFlag letters → NoneStands opens text
-  none_stands why (word other) behind stands =
-      let same : other ≡ letters = one_word text other letters behind rest stands.2 is in
-      elim why as (λ _. ⊥) [
-        | inl none ↦ stands.0 (same ∙ none)
-        | inr negative ↦ stands.3 (subst HasNegativeFlag (sym same) negative)
-      ]
-  none_stands why semicolon behind stands = let clash : false ≡ true = sym no_end ∙ ap (begins (λ c. c == 59)) stands in cc
-  none_stands why (expression e) behind stands = let clash : false ≡ true = sym no_expression ∙ ap (λ (b : Bool). begins_expression b text) stands.0 ∙ ap (λ (t : List ℕ). begins_expression true t) stands.2 in cc
+  -- there is no word
+  pub none_stands : letters ≡ [] → NoneStands opens text
+  none_stands none (word other) behind stands = stands.0 (one_word text other letters behind rest stands.2 is ∙ none)
+  none_stands none semicolon behind stands = let clash : false ≡ true = sym no_end ∙ ap (begins (λ c. c == 59)) stands in cc
+  none_stands none (expression e) behind stands = let clash : false ≡ true = sym no_expression ∙ ap (λ (b : Bool). begins_expression b text) stands.0 ∙ ap (λ (t : List ℕ). begins_expression true t) stands.2 in cc
 
-  pub word_stands : (n : ℕ) → rest ≡ drop n text → n ≤ length text → (letters ≢ []) → (HasNegativeFlag letters → ⊥) → IsTokenFront opens text (word letters) n
-  word_stands n rest_is within some none = record {
+  pub word_stands : (n : ℕ) → rest ≡ drop n text → n ≤ length text → (letters ≢ []) → IsTokenFront opens text (word letters) n
+  word_stands n rest_is within some = record {
     some = some_by letters some (word_length text letters rest is);
     within = within;
-    stands = (some, no_expression, subst (IsWord text letters) rest_is is, none);
+    stands = (some, no_expression, subst (IsWord text letters) rest_is is);
   }
     where
       some_by : (ls : List Letter) → ls ≢ [] → length rest + length ls ≤ length text → 0 < n

@@ -1,5 +1,4 @@
 pub mod Blanks
 pub mod Letters
 pub mod Insides
-pub mod Negatives
 pub mod Fronts

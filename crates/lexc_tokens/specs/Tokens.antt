@@ -1,12 +1,10 @@
 -- The tokens of a lexc text (Beesley and Karttunen, Finite State Morphology, 2003, chapter 4), over its characters: words, `;` and
 -- expressions `<EXPRESSION>`.
-use Rattle.std.specs.Prelude.{◌≡◌, ◌≢◌, ◌≤◌, ◌+◌, ◌==◌, ◌&&◌, ◌||◌, ℕ, Bool, true, false, not, List, [], ◌∷◌, length, take, drop, Option, None, Some, if◌then◌else◌}
+use Rattle.std.specs.Prelude.{◌≡◌, ◌≢◌, ◌+◌, ◌==◌, ◌&&◌, ◌||◌, ℕ, Bool, true, false, not, List, [], ◌∷◌, take, drop, Option, None, Some, if◌then◌else◌}
 use Rattle.std.specs.Str.{encode_utf8_all}
-use Rattle.regex_ast.specs.Flags.{IsNegativeFlag}
 use Rattle.regex_tokens.specs.Bytes.{begins, is_blank}
 use Rattle.regex_tokens.specs.Cuts.{behind_gap}
 use Rattle.regex_tokens.specs.declared.comments.Comments.TheVariants.{OfEntries}
-use Rattle.lexc_forms.specs.Letters.{characters_of}
 use Rattle.lexc_forms.specs.declared.letters.Letter.{Letter}
 use Rattle.lexc_forms.specs.declared.letters.Letter.TheVariants.{Plain, Escaped}
 use Rattle.lexc_tokens.specs.declared.expressions.Inside.{Inside}
@@ -37,13 +35,6 @@ letter_front (c ∷ cs) = if is_plain c then Some (Plain c, 1) else if c == 37 t
 abbrev pub IsWord : List ℕ → List Letter → List ℕ → Type 0
 IsWord text [] rest = (letter_front text ≡ None) × (rest ≡ text)
 IsWord text (letter ∷ letters) rest = (n : ℕ) × (letter_front text ≡ Some (letter, n)) × IsWord (drop n text) letters rest
-
--- a negative flag `@N.F.V@` begins a text, or stands in a word, whose escapes are undone
-abbrev pub HasNegativeFront : List ℕ → Type 0
-HasNegativeFront text = (m : ℕ) × (m ≤ length text) × IsNegativeFlag (encode_utf8_all (take m text))
-
-abbrev pub HasNegativeFlag : List Letter → Type 0
-HasNegativeFlag letters = (n : ℕ) × HasNegativeFront (drop n (characters_of letters))
 
 -- Expressions.
 
@@ -76,7 +67,7 @@ begins_expression opens text = opens && begins (λ c. c == 60) text
 -- the token begins the text, and this is behind it. A `<` begins an expression where `opens` says so, which ends with the
 -- text where no `>` does end it
 abbrev pub Stands : Bool → List ℕ → Token → List ℕ → Type 0
-Stands opens text (word letters) rest = (letters ≢ []) × (begins_expression opens text ≡ false) × IsWord text letters rest × (HasNegativeFlag letters → ⊥)
+Stands opens text (word letters) rest = (letters ≢ []) × (begins_expression opens text ≡ false) × IsWord text letters rest
 Stands opens text semicolon rest = text ≡ 59 ∷ rest
 Stands opens text (expression e) rest =
     (opens ≡ true) × (inner : List ℕ) × (text ≡ 60 ∷ inner) × (e ≡ encode_utf8_all (take (inner_len Nothing inner) inner)) × (rest ≡ drop (inner_len Nothing inner + 1) inner)

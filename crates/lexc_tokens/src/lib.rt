@@ -8,7 +8,6 @@
 
 mod expressions;
 mod gaps;
-mod negative;
 mod scanning;
 mod token;
 mod words;

@@ -6,7 +6,6 @@ ghost use Rattle.lexc_tokens.specs.Steps.{IsNext, IsTokenFront};
 
 use crate::expressions::inner_len;
 use crate::gaps::{gap_len, newlines};
-use crate::negative::has_negative_flag;
 use crate::token::{Token, Word};
 use crate::words::word;
 use lexc_forms::encode;
@@ -63,7 +62,7 @@ fn token_front(
     word_front(alloc, text, opens)
 }
 
-/// The word that begins a text, and how many characters it has; `None` where none begins, or where it has a negative flag.
+/// The word that begins a text, and how many characters it has; `None` where none begins.
 fn word_front(
     alloc: Global,
     text: &[char],
@@ -77,10 +76,6 @@ fn word_front(
     if letters.is_empty() {
         return Ok(None);
     }
-    let has = has_negative_flag(alloc, &letters)?;
-    if has {
-        return Ok(None);
-    }
     Ok(Some((Token::Word(Word::from(letters)), len)))
 }
 
@@ -88,7 +83,7 @@ fn word_front(
 /// line. A `<` begins an expression where `opens` says so.
 ///
 /// - A word has one or more letters: characters other than blanks, `;`, `!` and `%`, or other than tab and newline and
-///   with a `%` before them. A text `@N.F.V@` in it, a negative flag, makes it none.
+///   with a `%` before them.
 /// - `;` is a token of its own.
 /// - An expression goes from `<` to the next `>` that isn't escaped, in quotes or in a comment, or to the end of the text.
 pub fn scan(alloc: Global, text: &[char], line: u32, opens: bool) -> Result<Next, AllocError>

@@ -2,6 +2,7 @@
 use Rattle.std.proofs.Common.{◌≡◌, ◌↔◌, ℕ, Bool, ◌&&◌, List, [], ◌∷◌, ◌++◌, Option, None, Some, codes, map, refl, sym, ap, ◌∙◌}
 use Rattle.std.specs.List.{Contains, flat_map, slice_get}
 use Rattle.std.specs.Option.{option_to_list}
+use Rattle.std.specs.Str.{bytes_eq}
 use Rattle.word_relations.specs.Relations.{AreSame}
 use Rattle.word_relations.specs.Words.{IsDistinct}
 use Rattle.fsm_base.specs.declared.letters.Sym.{Sym}
@@ -12,7 +13,8 @@ use Rattle.fst_algebra.specs.Relation.{IsRelated, uppers, lowers}
 use Rattle.regex_ast.specs.declared.expr.Atom.{Atom}
 use Rattle.regex_ast.specs.declared.lexc.FlagOp.{FlagOp}
 use Rattle.project_meaning.specs.Trees.{Piece, letter, flag, Lexicon}
-use Rattle.project_meaning.specs.Lexicons.{run_passes, passes, features_behind, letters_of, LexiconsRelate}
+use Rattle.project_meaning.specs.Settings.{Setting, neutral, passes}
+use Rattle.project_meaning.specs.Lexicons.{run_passes, features_behind, letters_of, LexiconsRelate}
 use Rattle.flag_diacritics.specs.Tapes.{flag_of, upper_flag, lower_flag, pairs_of, TapesRelate, UsesPair}
 use Rattle.flag_diacritics.specs.declared.tape.Tape.{Tape}
 use Rattle.flag_diacritics.specs.declared.tape.Tape.TheVariants.{Pair as OfPair, UpFlag, LowFlag}
@@ -29,23 +31,23 @@ use Rattle.network_lexicons.specs.Entries.{AreLexiconsFor}
 use Rattle.network_lexicons.proofs.Walked.{walks, pairs_over}
 
 -- symbols don't count for flags
-symbols_pass : (now : List ℕ → Option (List ℕ)) (o : Option Sym) (rest : List (Piece Sym)) → run_passes now (map letter (option_to_list o) ++ rest) ≡ run_passes now rest
+symbols_pass : (now : List ℕ → Setting (List ℕ)) (o : Option Sym) (rest : List (Piece Sym)) → run_passes now (map letter (option_to_list o) ++ rest) ≡ run_passes now rest
 symbols_pass now None rest = refl
 symbols_pass now (Some x) rest = refl
 
-flags_alike : (now : List ℕ → Option (List ℕ)) (o : Option FlagOp) (xs : List (Piece Sym)) (ys : List (Piece (List ℕ))) → ((then : List ℕ → Option (List ℕ)) → run_passes then xs ≡ run_passes then ys)
+flags_alike : (now : List ℕ → Setting (List ℕ)) (o : Option FlagOp) (xs : List (Piece Sym)) (ys : List (Piece (List ℕ))) → ((then : List ℕ → Setting (List ℕ)) → run_passes then xs ≡ run_passes then ys)
     → run_passes now (map (λ f. flag (flag_of f)) (option_to_list o) ++ xs) ≡ run_passes now (map (λ f. flag (flag_of f)) (option_to_list o) ++ ys)
 flags_alike now None xs ys same = same now
-flags_alike now (Some f) xs ys same = ap (λ (b : Bool). passes (now f.feature) f.kind f.value && b) (same (features_behind now (flag_of f)))
+flags_alike now (Some f) xs ys same = ap (λ (b : Bool). passes bytes_eq (now f.feature) f.kind f.value && b) (same (features_behind now (flag_of f)))
 
 module _ (flags : List FlagOp) where
-  upper_runs : (tape : List Tape) (now : List ℕ → Option (List ℕ)) → run_passes now (flat_map (upper_pieces flags) tape) ≡ run_passes now (flat_map (upper_flag flags) tape)
+  upper_runs : (tape : List Tape) (now : List ℕ → Setting (List ℕ)) → run_passes now (flat_map (upper_pieces flags) tape) ≡ run_passes now (flat_map (upper_flag flags) tape)
   upper_runs [] now = refl
   upper_runs (OfPair pair ∷ tape) now = symbols_pass now pair.up (flat_map (upper_pieces flags) tape) ∙ upper_runs tape now
   upper_runs (UpFlag n ∷ tape) now = flags_alike now (slice_get flags n) (flat_map (upper_pieces flags) tape) (flat_map (upper_flag flags) tape) (upper_runs tape)
   upper_runs (LowFlag n ∷ tape) now = upper_runs tape now
 
-  lower_runs : (tape : List Tape) (now : List ℕ → Option (List ℕ)) → run_passes now (flat_map (lower_pieces flags) tape) ≡ run_passes now (flat_map (lower_flag flags) tape)
+  lower_runs : (tape : List Tape) (now : List ℕ → Setting (List ℕ)) → run_passes now (flat_map (lower_pieces flags) tape) ≡ run_passes now (flat_map (lower_flag flags) tape)
   lower_runs [] now = refl
   lower_runs (OfPair pair ∷ tape) now = symbols_pass now pair.low (flat_map (lower_pieces flags) tape) ∙ lower_runs tape now
   lower_runs (UpFlag n ∷ tape) now = lower_runs tape now
@@ -83,8 +85,8 @@ module _ (parts : List Part) (alphabet : List Sym) (lexicons : List (Lexicon Ato
           upper_side flags tape,
           lower_side flags tape,
           found.1,
-          upper_runs flags tape (λ feature. None) ∙ up,
-          lower_runs flags tape (λ feature. None) ∙ low,
+          upper_runs flags tape (λ feature. neutral) ∙ up,
+          lower_runs flags tape (λ feature. neutral) ∙ low,
           sym u_is ∙ sym (upper_left flags tape),
           sym w_is ∙ sym (lower_left flags tape),
         ),
@@ -94,8 +96,8 @@ module _ (parts : List Part) (alphabet : List Sym) (lexicons : List (Lexicon Ato
           tape,
           (language tape).1 found.1,
           (
-            sym (upper_runs flags tape (λ feature. None)) ∙ ap (λ (s : List (Piece Sym)). run_passes (λ feature. None) s) (sym found.2) ∙ up,
-            sym (lower_runs flags tape (λ feature. None)) ∙ ap (λ (s : List (Piece Sym)). run_passes (λ feature. None) s) (sym found.3) ∙ low,
+            sym (upper_runs flags tape (λ feature. neutral)) ∙ ap (λ (s : List (Piece Sym)). run_passes (λ feature. neutral) s) (sym found.2) ∙ up,
+            sym (lower_runs flags tape (λ feature. neutral)) ∙ ap (λ (s : List (Piece Sym)). run_passes (λ feature. neutral) s) (sym found.3) ∙ low,
           ),
           sym (upper_left flags tape) ∙ ap (flat_map letters_of) (sym found.2) ∙ sym u_is,
           sym (lower_left flags tape) ∙ ap (flat_map letters_of) (sym found.3) ∙ sym w_is,

@@ -98,6 +98,7 @@ fn text_of(alloc: Global, flag: &FlagOp) -> Result<String, AllocError> {
 fn kind_text(kind: FlagKind) -> &'static str {
     match kind {
         FlagKind::P => "P.",
+        FlagKind::N => "N.",
         FlagKind::C => "C.",
         FlagKind::R => "R.",
         FlagKind::D => "D.",

@@ -85,15 +85,9 @@ pub record IsFileName (name : List ℕ) : Type 0 where
   pub first : slice_get name 0 ≢ Some 46
   pub other : name ≢ project_name
 
--- a flag that sources may have, which a negative flag `@N.F.V@` isn't yet
-abbrev pub is_known_flag : List ℕ → Bool
-is_known_flag [] = false
-is_known_flag (a ∷ []) = false
-is_known_flag (a ∷ kind ∷ text) = not (kind == 78) && is_flag (a ∷ kind ∷ text)
-
--- a text that may be a symbol: it isn't empty, and it is no such flag
+-- a text that may be a symbol: it isn't empty, and it is no flag
 abbrev pub may_be_symbol : List ℕ → Bool
-may_be_symbol text = not (length text == 0) && not (is_known_flag text)
+may_be_symbol text = not (length text == 0) && not (is_flag text)
 
 -- a word that stands for a symbol: each `%` takes something, and its text may be one
 abbrev pub is_symbol_word : List ℕ → Bool

@@ -3,7 +3,7 @@ ghost use Rattle.std.specs.List.{list_all};
 ghost use Rattle.std.specs.Str.{IsUtf8};
 ghost use Rattle.regex_reader.specs.Files.{is_name};
 ghost use Rattle.project_manifest.specs.Sayings.{AreTexts, as_written};
-ghost use Rattle.project_manifest.specs.Manifests.{begins_with_mark, is_blank, is_known_flag, is_epsilon, is_symbol_word, may_be_symbol, lines_from, lines_of, some_of, takes_nothing, taken_from, text_of, words_from, words_of};
+ghost use Rattle.project_manifest.specs.Manifests.{begins_with_mark, is_blank, is_epsilon, is_symbol_word, may_be_symbol, lines_from, lines_of, some_of, takes_nothing, taken_from, text_of, words_from, words_of};
 
 use fsm_base::Text;
 use regex_reader::is_name;
@@ -187,21 +187,11 @@ fn take_byte(byte: u8, taking: bool, text: &mut Vec<u8>) -> Result<bool, AllocEr
     Ok(false)
 }
 
-/// Whether a text is a flag diacritic that sources may have. A negative flag, `@N.F.V@`, isn't one yet.
-fn is_known_flag(text: &[u8]) -> bool
-    ensures { result ≡ is_known_flag text.now }
-{
-    match text {
-        [_, kind, ..] => *kind != b'N' && is_flag(text),
-        _ => false,
-    }
-}
-
 /// Whether a text isn't empty and is no flag.
 fn may_be_symbol(text: &[u8]) -> bool
     ensures { result ≡ may_be_symbol text.now }
 {
-    !text.is_empty() && !is_known_flag(text)
+    !text.is_empty() && !is_flag(text)
 }
 
 /// The symbol that a word stands for, or `None` where it stands for none.

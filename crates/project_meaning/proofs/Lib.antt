@@ -5,3 +5,4 @@ pub mod Forms
 pub mod Closed
 pub mod Touching
 pub mod Example
+pub mod Positive

@@ -4,11 +4,14 @@ use Rattle.word_relations.specs.Relations.{AreSame}
 use Rattle.regex_ast.specs.Terms.{Term, atom, concat, no_term, then_term}
 use Rattle.regex_ast.specs.declared.expr.Raw.{Raw}
 use Rattle.regex_ast.specs.declared.expr.Raw.TheVariants.{Run}
-use Rattle.project_meaning.specs.Trees.{xfst}
+use Rattle.project_meaning.specs.Trees.{Piece, xfst}
 use Rattle.project_meaning.specs.Forms.{definition_of, found_kind, found_weight, kind_in, weight_in}
 use Rattle.project_meaning.specs.Projects.{Written, Project, HasNoCycle, IsClosed, project_of}
 use Rattle.project_meaning.specs.Meaning.{NameRelates, MeansTo, Meaning}
 use Rattle.project_meaning.specs.Touched.{Touched}
+use Rattle.project_meaning.specs.Lexicons.{flags_pass}
+use Rattle.project_meaning.specs.PositiveFlags.{ArePositive}
+use Rattle.project_meaning.specs.PositiveFlags as positive
 
 -- where no name reaches itself, names mean the same to every greater depth
 abbrev pub DepthIsEnough : Type 0
@@ -30,6 +33,10 @@ WeightsUnfold = (project : Project) → HasNoCycle project → IsClosed project 
 -- between equal projects no name is touched
 abbrev pub NothingTouched : Type 0
 NothingTouched = (project : Project) (name : List ℕ) → Touched project project name → ⊥
+
+-- flags of which none is negative pass where they pass by the table without negative flags
+abbrev pub PositiveFlagsAsBefore : Type 0
+PositiveFlagsAsBefore = (pieces : List (Piece (List ℕ))) → ArePositive pieces → flags_pass pieces ≡ positive.flags_pass pieces
 
 -- `define A B C ;`, `define B b ;`, `define C c ;`
 abbrev pub run : List ℕ → Term Raw

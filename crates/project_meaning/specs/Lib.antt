@@ -1,7 +1,9 @@
 pub mod Trees
 pub mod Leaves
 pub mod Projects
+pub mod Settings
 pub mod Lexicons
+pub mod PositiveFlags
 pub mod TwoLevel
 pub mod Grammars
 pub mod Meaning

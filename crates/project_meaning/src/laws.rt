@@ -1,4 +1,4 @@
-ghost use Rattle.project_meaning.specs.Laws.{DepthIsEnough, KindsUnfold, NamesMayComeLater, NamesUnfold, NothingTouched, WeightsUnfold};
+ghost use Rattle.project_meaning.specs.Laws.{DepthIsEnough, KindsUnfold, NamesMayComeLater, NamesUnfold, NothingTouched, PositiveFlagsAsBefore, WeightsUnfold};
 
 /// Where no name reaches itself, names mean the same to every depth that isn't less than the number of definitions.
 pub fn depth_is_enough()
@@ -28,4 +28,9 @@ pub fn names_may_come_later()
 /// Between equal projects no name is touched.
 pub fn nothing_touched()
     ensures { NothingTouched }
+{}
+
+/// Flags of which none is negative, `@N.F.V@`, pass where they pass by the table without negative flags.
+pub fn positive_flags_as_before()
+    ensures { PositiveFlagsAsBefore }
 {}

@@ -9,9 +9,10 @@ IsFeatureByte b = (b ≢ 9) × (b ≢ 10) × (b ≢ 32) × (b ≢ 46) × (b ≢ 
 abbrev pub IsFeature : List ℕ → Type 0
 IsFeature feature = (0 < length feature) × All IsFeatureByte feature
 
--- the kinds of flag, by their letters `P`, `U`, `R`, `D`, which may have a value
+-- the kinds of flag, by their letters `P`, `N`, `U`, `R`, `D`, which may have a value
 pub data HasValue : ℕ → Type 0 where
   sets : HasValue 80
+  negates : HasValue 78
   unifies : HasValue 85
   requires_value : HasValue 82
   bars_value : HasValue 68
@@ -26,11 +27,3 @@ pub data HasNoValue : ℕ → Type 0 where
 pub data IsFlag (text : List ℕ) : Type 0 where
   valued : (kind : ℕ) (feature value : List ℕ) → HasValue kind → IsFeature feature → IsFeature value → text ≡ 64 ∷ kind ∷ 46 ∷ feature ++ 46 ∷ value ++ 64 ∷ [] → IsFlag text
   plain : (kind : ℕ) (feature : List ℕ) → HasNoValue kind → IsFeature feature → text ≡ 64 ∷ kind ∷ 46 ∷ feature ++ 64 ∷ [] → IsFlag text
-
--- `@N.F.V@`, a negative flag. No xfst text has one as a token; the line `alphabet` of a manifest may name one as a symbol
-pub record IsNegativeFlag (text : List ℕ) : Type 0 where
-  pub feature : List ℕ
-  pub value : List ℕ
-  pub feature_is : IsFeature feature
-  pub value_is : IsFeature value
-  pub spelled : text ≡ 64 ∷ 78 ∷ 46 ∷ feature ++ 46 ∷ value ++ 64 ∷ []

@@ -81,6 +81,8 @@ impl Clone for FlagOp {
 pub enum FlagKind {
     /// Sets the feature to the value.
     P,
+    /// Sets the feature negatively: bars it from the value.
+    N,
     /// Makes the feature neutral.
     C,
     /// Requires the value, or any value.

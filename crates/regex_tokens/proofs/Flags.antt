@@ -1,9 +1,9 @@
 -- The test of a flag and what a flag is.
-use Rattle.std.proofs.Common.{◌≡◌, ◌↔◌, ◌≢◌, ℕ, ◌<◌, ◌==◌, Bool, true, false, not, ◌&&◌, ◌||◌, ◌⊎◌, inl, inr, List, [], ◌∷◌, ◌++◌, length, All, refl, sym, ap, subst, ◌∙◌, arith, append_assoc}
+use Rattle.std.proofs.Common.{◌≡◌, ◌↔◌, ◌≢◌, ℕ, ◌<◌, ◌==◌, Bool, true, false, not, ◌&&◌, ◌||◌, List, [], ◌∷◌, ◌++◌, length, All, refl, sym, ap, subst, ◌∙◌, arith, append_assoc}
 use Rattle.std.specs.Bool.{Decides}
 use Rattle.std.specs.List.{list_all}
 use Rattle.std.proofs.lemmas.Bool.Decides.{Decides-eqb, Decides-by_and, nat_tests}
-use Rattle.regex_ast.specs.Flags.{IsFeatureByte, IsFeature, HasValue, sets, unifies, requires_value, bars_value, HasNoValue, clears, requires_any, bars_any, IsFlag, valued, plain, IsNegativeFlag}
+use Rattle.regex_ast.specs.Flags.{IsFeatureByte, IsFeature, HasValue, sets, negates, unifies, requires_value, bars_value, HasNoValue, clears, requires_any, bars_any, IsFlag, valued, plain}
 use Rattle.regex_tokens.specs.Reading.{is_feature_byte}
 use Rattle.regex_tokens.specs.Reading.{taken, left, has_value, has_no_value, is_at, is_value, is_behind_feature, is_behind_kind, is_flag}
 use Rattle.regex_tokens.proofs.Lists.{and_left, and_right, and_true, taken-left, list_all-taken, taken-front, left-front}
@@ -63,8 +63,8 @@ spelled_plain a k dot rest feature after c ea ed er ec en = rw (ea, ed, ← er, 
 spelled_valued : (a k dot : ℕ) (rest feature after value end : List ℕ) (c : ℕ) → a ≡ 64 → dot ≡ 46 → feature ++ c ∷ after ≡ rest → c ≡ 46 → value ++ end ≡ after → end ≡ 64 ∷ [] → a ∷ k ∷ dot ∷ rest ≡ 64 ∷ k ∷ 46 ∷ feature ++ 46 ∷ value ++ 64 ∷ []
 spelled_valued a k dot rest feature after value end c ea ed er ec ev ee = rw (ea, ed, ← er, ec, ← ev, ee) (ap (λ t. 64 ∷ k ∷ 46 ∷ t) (sym (append_assoc feature (46 ∷ value) (64 ∷ []))))
 
-kind_valued : {P : Type 0} (k : ℕ) → has_value k ≡ true → (HasValue k → P) → (k ≡ 78 → P) → P
-kind_valued k e flag negative = or_cases _ _ e (λ h. flag (at 80 sets h)) (λ e. or_cases _ _ e (λ h. flag (at 85 unifies h)) (λ e. or_cases _ _ e (λ h. flag (at 82 requires_value h)) (λ e. or_cases _ _ e (λ h. flag (at 68 bars_value h)) (λ h. negative ((Decides-eqb k 78).0 h))))) where
+kind_valued : {P : Type 0} (k : ℕ) → has_value k ≡ true → (HasValue k → P) → P
+kind_valued k e flag = or_cases _ _ e (λ h. flag (at 80 sets h)) (λ e. or_cases _ _ e (λ h. flag (at 85 unifies h)) (λ e. or_cases _ _ e (λ h. flag (at 82 requires_value h)) (λ e. or_cases _ _ e (λ h. flag (at 68 bars_value h)) (λ h. flag (at 78 negates h))))) where
   at : (n : ℕ) → HasValue n → (k == n) ≡ true → HasValue k
   at n h e = subst HasValue (sym ((Decides-eqb k n).0 e)) h
 
@@ -73,22 +73,21 @@ kind_plain k e flag = or_cases _ _ e (λ h. flag (at 67 clears h)) (λ e. or_cas
   at : (n : ℕ) → HasNoValue n → (k == n) ≡ true → HasNoValue k
   at n h e = subst HasNoValue (sym ((Decides-eqb k n).0 e)) h
 
-flag_behind : (a k dot : ℕ) (rest feature behind : List ℕ) → a ≡ 64 → dot ≡ 46 → feature ++ behind ≡ rest → IsFeature feature → is_behind_feature k behind ≡ true → IsFlag (a ∷ k ∷ dot ∷ rest) ⊎ IsNegativeFlag (a ∷ k ∷ dot ∷ rest)
+flag_behind : (a k dot : ℕ) (rest feature behind : List ℕ) → a ≡ 64 → dot ≡ 46 → feature ++ behind ≡ rest → IsFeature feature → is_behind_feature k behind ≡ true → IsFlag (a ∷ k ∷ dot ∷ rest)
 flag_behind a k dot rest feature [] ea ed er hf e = absurd cc
 flag_behind a k dot rest feature (c ∷ after) ea ed er hf e = or_cases _ _ e
     (λ h. let ends : (has_no_value k && length after == 0) ≡ true = and_right (c == 64) _ h in
-    kind_plain k (and_left _ _ ends) (λ kind. inl (plain k feature kind hf
-    (spelled_plain a k dot rest feature after c ea ed er ((Decides-eqb c 64).0 (and_left _ _ h)) (no_bytes after (and_right (has_no_value k) _ ends))))))
+    kind_plain k (and_left _ _ ends) (λ kind. plain k feature kind hf
+    (spelled_plain a k dot rest feature after c ea ed er ((Decides-eqb c 64).0 (and_left _ _ h)) (no_bytes after (and_right (has_no_value k) _ ends)))))
     (λ h. let goes : (has_value k && is_value after) ≡ true = and_right (c == 46) _ h in
     let value_is : is_value after ≡ true = and_right (has_value k) _ goes in
     let hv : IsFeature (taken is_feature_byte after) = feature_of after (and_left _ _ value_is) in
     let spelled : a ∷ k ∷ dot ∷ rest ≡ 64 ∷ k ∷ 46 ∷ feature ++ 46 ∷ taken is_feature_byte after ++ 64 ∷ [] =
     spelled_valued a k dot rest feature after (taken is_feature_byte after) (left is_feature_byte after) c ea ed er ((Decides-eqb c 46).0 (and_left _ _ h)) (taken-left is_feature_byte after) (at_end _ (and_right (not (length (taken is_feature_byte after) == 0)) _ value_is)) in
     kind_valued k (and_left _ _ goes)
-    (λ kind. inl (valued k feature (taken is_feature_byte after) kind hf hv spelled))
-    (λ negative. inr (record { feature = feature; value = taken is_feature_byte after; feature_is = hf; value_is = hv; spelled = spelled ∙ ap (λ n. 64 ∷ n ∷ 46 ∷ feature ++ 46 ∷ taken is_feature_byte after ++ 64 ∷ []) negative })))
+    (λ kind. valued k feature (taken is_feature_byte after) kind hf hv spelled))
 
-pub flag_takes : (text : List ℕ) → is_flag text ≡ true → IsFlag text ⊎ IsNegativeFlag text
+pub flag_takes : (text : List ℕ) → is_flag text ≡ true → IsFlag text
 flag_takes [] e = absurd cc
 flag_takes (a ∷ []) e = absurd cc
 flag_takes (a ∷ k ∷ []) e = absurd cc
@@ -123,6 +122,7 @@ plain_again k feature hk hf = behind_kind_again k feature [] 64 hf refl (or_left
 
 value_kind : (k : ℕ) → HasValue k → has_value k ≡ true
 value_kind _ sets = refl
+value_kind _ negates = refl
 value_kind _ unifies = refl
 value_kind _ requires_value = refl
 value_kind _ bars_value = refl
@@ -136,23 +136,20 @@ flag_again : (text : List ℕ) → IsFlag text → is_flag text ≡ true
 flag_again text (valued k feature value hk hf hv e) = ap is_flag e ∙ valued_again k feature value (value_kind k hk) hf hv
 flag_again text (plain k feature hk hf e) = ap is_flag e ∙ plain_again k feature (plain_kind k hk) hf
 
-negative_again : (text : List ℕ) → IsNegativeFlag text → is_flag text ≡ true
-negative_again text n = ap is_flag n.spelled ∙ valued_again 78 n.feature n.value refl n.feature_is n.value_is
-
--- just the flags and the negative flags pass the test
-pub flags_pass : (text : List ℕ) → is_flag text ≡ true ↔ (IsFlag text ⊎ IsNegativeFlag text)
-flags_pass text = (flag_takes text, λ either. elim either [ inl f ↦ flag_again text f | inr n ↦ negative_again text n ])
+-- just the flags pass the test
+pub flags_pass : (text : List ℕ) → is_flag text ≡ true ↔ IsFlag text
+flags_pass text = (flag_takes text, flag_again text)
 
 -- a text that passes is no flag, and a text that is no flag passes
-pub no_flag : (text : List ℕ) → Decides (not (is_flag text)) ((IsFlag text → ⊥) × (IsNegativeFlag text → ⊥))
+pub no_flag : (text : List ℕ) → Decides (not (is_flag text)) (IsFlag text → ⊥)
 no_flag text = (
-  (λ e. ((λ f. clash (is_flag text) e (flag_again text f)), (λ n. clash (is_flag text) e (negative_again text n)))),
+  (λ e f. clash (is_flag text) e (flag_again text f)),
   (λ h. fails (is_flag text) refl h),
 ) where
   clash : (b : Bool) → not b ≡ true → b ≡ true → ⊥
   clash true e f = cc
   clash false e f = cc
 
-  fails : (b : Bool) → is_flag text ≡ b → (IsFlag text → ⊥) × (IsNegativeFlag text → ⊥) → not b ≡ true
-  fails true e h = elim (flag_takes text e) [ inl f ↦ absurd (h.0 f) | inr n ↦ absurd (h.1 n) ]
+  fails : (b : Bool) → is_flag text ≡ b → (IsFlag text → ⊥) → not b ≡ true
+  fails true e h = absurd (h (flag_takes text e))
   fails false e h = refl

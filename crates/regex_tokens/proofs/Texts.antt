@@ -2,7 +2,7 @@
 use Rattle.std.proofs.Common.{◌≡◌, ◌≤◌, ℕ, ◌+◌, true, false, cond, not, List, [], ◌∷◌, ◌++◌, length, take, drop, Option, Some, None, refl, sym, ap, subst, ◌∙◌, ◌⊎◌, inl, inr, arith, append-nil, length-append}
 use Rattle.std.specs.List.{list_any}
 use Rattle.std.specs.Str.{bytes_eq}
-use Rattle.regex_ast.specs.Flags.{IsFlag, IsNegativeFlag}
+use Rattle.regex_ast.specs.Flags.{IsFlag}
 use Rattle.regex_tokens.specs.Bytes.{is_quoted_byte, is_braced_byte, is_run_byte}
 use Rattle.regex_tokens.specs.Spelling.{spelling, IsSpaced, is_escape, written, meant, IsQuoted, IsBraced, IsRun, Spells}
 use Rattle.regex_tokens.specs.declared.comments.Comments.{Comments}
@@ -143,8 +143,8 @@ refused (quoted text) e = flag_takes text e
 refused (braced cs) e = absurd cc
 refused (run r) e = flag_takes r.text e
 
-not_flag : (text : List ℕ) → is_flag text ≡ false → IsFlag text ⊎ IsNegativeFlag text → ⊥
-not_flag text e h = elim h [ inl f ↦ ((no_flag text).0 (ap not e)).0 f | inr n ↦ ((no_flag text).0 (ap not e)).1 n ]
+not_flag : (text : List ℕ) → is_flag text ≡ false → IsFlag text → ⊥
+not_flag text e = (no_flag text).0 (ap not e)
 
 accepted : (t : Token) → is_refused t ≡ false → IsRefused t → ⊥
 accepted (operator o) e h = h

@@ -1,7 +1,7 @@
 -- The cut of a text into tokens: at each place the longest token is taken, behind the blanks and comments that
 -- stand there (Beesley and Karttunen, Finite State Morphology, 2003, chapters 2 and 3).
-use Rattle.std.specs.Prelude.{◌≡◌, ◌≢◌, ◌≤◌, ◌+◌, ℕ, Bool, true, false, not, ◌⊎◌, ◌==◌, List, [], ◌∷◌, ◌++◌, length, count_by, if◌then◌else◌}
-use Rattle.regex_ast.specs.Flags.{IsFlag, IsNegativeFlag}
+use Rattle.std.specs.Prelude.{◌≡◌, ◌≢◌, ◌≤◌, ◌+◌, ℕ, Bool, true, false, not, ◌==◌, List, [], ◌∷◌, ◌++◌, length, count_by, if◌then◌else◌}
+use Rattle.regex_ast.specs.Flags.{IsFlag}
 use Rattle.regex_tokens.specs.Bytes.{is_blank, begins_comment}
 use Rattle.regex_tokens.specs.Spelling.{Spells}
 use Rattle.regex_tokens.specs.declared.comments.Comments.{Comments}
@@ -41,9 +41,9 @@ pub record IsLongest (text : List ℕ) (token : Token) (front rest : List ℕ) :
 -- a quoted text or run that is a flag is no token
 abbrev pub IsRefused : Token → Type 0
 IsRefused (operator o) = ⊥
-IsRefused (quoted text) = IsFlag text ⊎ IsNegativeFlag text
+IsRefused (quoted text) = IsFlag text
 IsRefused (braced characters) = ⊥
-IsRefused (run r) = IsFlag r.text ⊎ IsNegativeFlag r.text
+IsRefused (run r) = IsFlag r.text
 
 -- The token is the text's first: the longest one, which is then refused where it is a flag, whatever a shorter
 -- front may spell.

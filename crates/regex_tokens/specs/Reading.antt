@@ -58,7 +58,7 @@ is_behind_feature k (c ∷ rest) = (c == 64 && (has_no_value k && length rest ==
 abbrev pub is_behind_kind : ℕ → List ℕ → Bool
 is_behind_kind k text = not (length (taken is_feature_byte text) == 0) && is_behind_feature k (left is_feature_byte text)
 
--- `@X.F.V@` or `@X.F@`, a negative flag too
+-- `@X.F.V@` or `@X.F@`
 abbrev pub is_flag : List ℕ → Bool
 is_flag [] = false
 is_flag (a ∷ []) = false

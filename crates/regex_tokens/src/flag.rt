@@ -1,13 +1,13 @@
-ghost use Rattle.std.specs.Prelude.{◌≡◌, ◌⊎◌, ◌↔◌, IsTrue};
-ghost use Rattle.regex_ast.specs.Flags.{IsFlag, IsNegativeFlag};
+ghost use Rattle.std.specs.Prelude.{◌≡◌, ◌↔◌, IsTrue};
+ghost use Rattle.regex_ast.specs.Flags.{IsFlag};
 ghost use Rattle.regex_tokens.specs.Reading.{is_flag, is_behind_kind, is_behind_feature, is_value, has_value, has_no_value};
 
 use crate::bytes::{ByteClass, split};
 
-/// Whether the text is a flag diacritic, `@X.F.V@` or `@X.F@`, or a negative flag `@N.F.V@` (Beesley and
-/// Karttunen, Finite State Morphology, 2003, chapter 7).
+/// Whether the text is a flag diacritic, `@X.F.V@` or `@X.F@` (Beesley and Karttunen, Finite State Morphology,
+/// 2003, chapter 7).
 pub fn is_flag(text: &[u8]) -> bool
-    ensures flag { IsTrue result ↔ (IsFlag text.now ⊎ IsNegativeFlag text.now) }
+    ensures flag { IsTrue result ↔ IsFlag text.now }
     ensures test { result ≡ is_flag text.now }
 {
     passes(text)

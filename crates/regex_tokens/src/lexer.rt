@@ -26,7 +26,7 @@ use std::alloc::{AllocError, Global};
 ///   newline, and no `}` without `%`.
 /// - A run is one or more characters other than blanks and `[ ] ( ) { } | / \ & - ~ $ * + ^ : ; , ? _ . < > = ! # @ " %`,
 ///   or other than tab and newline and with a `%` before them.
-/// - A quoted text or run that is a flag diacritic, `@X.F.V@` or `@X.F@`, is no token, nor is a negative flag `@N.F.V@`.
+/// - A quoted text or run that is a flag diacritic, `@X.F.V@` or `@X.F@`, is no token.
 ///
 /// The tokens end before the first place at which none begins.
 ///

@@ -9,7 +9,7 @@ syn match lexcNext /\%(%.\|[^%;! \t]\)\+\ze\s*;/ contains=lexcEscape
 syn match lexcEnd /\%(%\)\@1<!#\ze\s*;/
 syn match lexcSign /[:;]/
 syn match lexcZero /%\@1<!0/ contained
-syn match lexcFlag /@[PU]\.[^.@ \t]\+\.[^.@ \t]\+@\|@C\.[^.@ \t]\+@\|@[RD]\.[^.@ \t]\+\%(\.[^.@ \t]\+\)\?@/
+syn match lexcFlag /@[PNU]\.[^.@ \t]\+\.[^.@ \t]\+@\|@C\.[^.@ \t]\+@\|@[RD]\.[^.@ \t]\+\%(\.[^.@ \t]\+\)\?@/
 " a text like a flag that is none
 syn match lexcNoFlag /@N\.[^@ \t]*@/
 syn region lexcExpression start=/\%(^\|;\)\s*\zs</ skip=/%.\|"[^"]*"/ end=/>/ contains=lexcString,lexcEscape

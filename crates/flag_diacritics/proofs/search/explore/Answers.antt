@@ -1,20 +1,21 @@
-use Rattle.std.proofs.Common.{◌≡◌, ◌≤◌, Some, None, length, replicate, ap, refl, subst, rules}
+use Rattle.std.proofs.Common.{◌≡◌, ◌≤◌, Some, length, replicate, ap, refl, subst, rules}
 use Rattle.std.specs.List.{slice_get, Contains}
 use Rattle.std.proofs.lemmas.Option.{slice_get_within}
 use Rattle.fsa.specs.declared.automaton.Edge.{Edge}
 use Rattle.fsa_rational.proofs.Walks.{same_elements}
 use Rattle.flag_diacritics.specs.declared.tape.Tape.{Tape}
+use Rattle.flag_diacritics.specs.declared.setting.Setting.TheVariants.{Neutral}
 use Rattle.flag_diacritics.specs.Numbers.{Features}
 use Rattle.flag_diacritics.specs.Idle.{live_behind}
 use Rattle.flag_diacritics.specs.Search.{Names, IsAt, AddsEdges}
-use Rattle.flag_diacritics.proofs.Passing.{neutral}
+use Rattle.flag_diacritics.proofs.Passing.{all_neutral}
 use Rattle.flag_diacritics.proofs.Searching.{AddsEdges-same, exploring_none, exploring_more, exploring_all}
 use Rattle.flag_diacritics.proofs.search.explore.Goals as goal
 
 pub places-init : goal.places-init
 places-init c =
-    let first : slice_get c.in_ok-found.found.features 0 ≡ Some (replicate c.args.actions.now.features None) = ap (λ fs. slice_get fs 0) c.in_ok-found.ensures.features in
-    exploring_none (live_behind c.args.actions.now.list.items c.args.idle.now) c.args.net.now (neutral c.args.actions.now.features) (record { places = c.in_ok-found.found.places; features = c.in_ok-found.found.features })
+    let first : slice_get c.in_ok-found.found.features 0 ≡ Some (replicate c.args.actions.now.features Neutral) = ap (λ fs. slice_get fs 0) c.in_ok-found.ensures.features in
+    exploring_none (live_behind c.args.actions.now.list.items c.args.idle.now) c.args.net.now (all_neutral c.args.actions.now.features) (record { places = c.in_ok-found.found.places; features = c.in_ok-found.found.features })
     c.in_ok-found.found.edges.items c.new-finals.result.items c.in_ok-found.ensures.places (record { upper = first; lower = first }) c.in_ok-found.ensures.edges c.new-finals.ensures.items
 
 pub add_edges-requires-clause-upper : goal.add_edges-requires-clause-upper
@@ -49,7 +50,7 @@ places-preserved c =
     let same = same_elements net.edges c.in_ok-rows.rows (rw c.edges.ensures.edges at c.in_ok-rows.ensures) e in
     (λ h. let r = out.0 h in (same.0 r.0, r.1), λ h. out.1 (same.1 h.0, h.1)))
     added in
-    exploring_more step net (neutral c.args.actions.now.features) old new old_edges edges finals c.push.new.self.items place.state now c.is_final.result c.places.invariant here
+    exploring_more step net (all_neutral c.args.actions.now.features) old new old_edges edges finals c.push.new.self.items place.state now c.is_final.result c.places.invariant here
     (rw c.finals.ensures.finals at c.is_final.ensures) c.in_ok-push.ensures.items
     (subst (λ n. AddsEdges step n now (λ (e : Edge Tape). Contains net.edges e × (e.from ≡ place.state)) old old_edges new edges) number of_net)
 
@@ -57,4 +58,4 @@ pub returns : goal.returns
 returns c =
     let past : length c.places.found.places ≤ length c.places.finals.items = search (rules, c.places-test.false) in
     let names : Names = record { places = c.places.found.places; features = c.places.found.features } in
-    (names, exploring_all (live_behind c.args.actions.now.list.items c.args.idle.now) c.args.net.now (neutral c.args.actions.now.features) names c.places.found.edges.items c.places.finals.items past c.places.invariant)
+    (names, exploring_all (live_behind c.args.actions.now.list.items c.args.idle.now) c.args.net.now (all_neutral c.args.actions.now.features) names c.places.found.edges.items c.places.finals.items past c.places.invariant)

@@ -1,11 +1,11 @@
-use Rattle.std.proofs.Common.{◌⊎◌, inl, List, ℕ, sym, subst, ◌∙◌}
+use Rattle.std.proofs.Common.{sym, subst, ◌∙◌}
 use Rattle.std.proofs.lemmas.Bool.{false≢true}
-use Rattle.regex_ast.specs.Flags.{IsFlag, IsNegativeFlag}
-use Rattle.flag_texts.proofs.Shapes.{is_no_negative, no_between, no_letter, no_kind, parts_alone, parts_both, spelled_alone, spelled_both}
+use Rattle.regex_ast.specs.Flags.{IsFlag}
+use Rattle.flag_texts.proofs.Shapes.{no_between, no_letter, no_kind, parts_alone, parts_both, spelled_alone, spelled_both}
 use Rattle.flag_texts.proofs.reading.parts_of.Goals as goal
 
 pub returns-then-not-is_flag : goal.returns-then-not-is_flag
-returns-then-not-is_flag c = λ flag. false≢true (sym c.if-not-is_flag.true ∙ c.is_flag.ensures.flag.1 (inl (subst IsFlag (sym c.as_bytes.ensures.value) flag)))
+returns-then-not-is_flag c = λ flag. false≢true (sym c.if-not-is_flag.true ∙ c.is_flag.ensures.flag.1 (subst IsFlag (sym c.as_bytes.ensures.value) flag))
 
 pub returns-in_err-between : goal.returns-in_err-between
 returns-in_err-between c = rw c.from_residual.ensures (λ (flag : IsFlag c.args.text.now). no_between c.args.text.now flag c.in_err-between.ensures)
@@ -19,8 +19,7 @@ returns-in_err-kind c = rw c.from_residual-in_err-kind.ensures
 
 pub returns-in-Some : goal.returns-in-Some
 returns-in-Some c =
-    let either = subst (λ (text : List ℕ). IsFlag text ⊎ IsNegativeFlag text) c.as_bytes.ensures.value (c.is_flag.ensures.flag.0 c.if-not-is_flag.false) in
-    let flag = is_no_negative c.args.text.now c.in_ok-between.field-0.now c.in_ok-letter.letter.now c.in_ok-letter.rest.now c.in_ok-kind.kind c.in_ok-between.ensures c.in_ok-letter.ensures.1 c.in_ok-kind.ensures either in
+    let flag = subst IsFlag c.as_bytes.ensures.value (c.is_flag.ensures.flag.0 c.if-not-is_flag.false) in
     let parts = parts_both c.args.text.now flag c.in_ok-between.field-0.now c.in_ok-between.ensures c.in_ok-letter.letter.now c.in_ok-letter.rest.now c.in_ok-letter.ensures.0 c.in_ok-letter.ensures.1 c.in_ok-kind.kind c.in_ok-kind.ensures c.in-Some.feature.now c.in-Some.value.now c.in-Some.ensures.0 c.in-Some.ensures.1 in (
       parts.0,
       spelled_both c.args.text.now c.in_ok-between.field-0.now c.in_ok-letter.letter.now c.in_ok-letter.rest.now c.in-Some.feature.now c.in-Some.value.now c.in_ok-kind.kind c.in_ok-between.ensures c.in_ok-letter.ensures.1 c.in_ok-kind.ensures c.in-Some.ensures.1,
@@ -29,8 +28,7 @@ returns-in-Some c =
 
 pub returns-in-None : goal.returns-in-None
 returns-in-None c =
-    let either = subst (λ (text : List ℕ). IsFlag text ⊎ IsNegativeFlag text) c.as_bytes.ensures.value (c.is_flag.ensures.flag.0 c.if-not-is_flag.false) in
-    let flag = is_no_negative c.args.text.now c.in_ok-between.field-0.now c.in_ok-letter.letter.now c.in_ok-letter.rest.now c.in_ok-kind.kind c.in_ok-between.ensures c.in_ok-letter.ensures.1 c.in_ok-kind.ensures either in
+    let flag = subst IsFlag c.as_bytes.ensures.value (c.is_flag.ensures.flag.0 c.if-not-is_flag.false) in
     let parts = parts_alone c.args.text.now flag c.in_ok-between.field-0.now c.in_ok-between.ensures c.in_ok-letter.letter.now c.in_ok-letter.rest.now c.in_ok-letter.ensures.0 c.in_ok-letter.ensures.1 c.in_ok-kind.kind c.in_ok-kind.ensures c.in-None.ensures in (
       parts.0,
       spelled_alone c.args.text.now c.in_ok-between.field-0.now c.in_ok-letter.letter.now c.in_ok-letter.rest.now c.in_ok-kind.kind c.in_ok-between.ensures c.in_ok-letter.ensures.1 c.in_ok-kind.ensures,

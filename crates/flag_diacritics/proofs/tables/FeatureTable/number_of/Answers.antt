@@ -1,6 +1,7 @@
-use Rattle.std.proofs.Common.{List, Option, ℕ, subst}
-use Rattle.flag_diacritics.specs.Idle.{HasValued}
-use Rattle.flag_diacritics.proofs.Finding.{listed_at, keeps_inserted, are_valued_more}
+use Rattle.std.proofs.Common.{List, ℕ, subst}
+use Rattle.flag_diacritics.specs.declared.setting.Setting.{Setting}
+use Rattle.flag_diacritics.specs.Idle.{HasSettled}
+use Rattle.flag_diacritics.proofs.Finding.{listed_at, keeps_inserted, are_settled_more}
 use Rattle.flag_diacritics.proofs.tables.FeatureTable.number_of.Goals as goal
 
 pub returns-clause-number : goal.returns-clause-number
@@ -11,9 +12,9 @@ returns-clause-number c =
 pub invariant_of-self-2 : goal.invariant_of-self-2
 invariant_of-self-2 c =
     let ok = c.in_ok-number.ensures in
-    let list : List (Option ℕ) = c.args.list.items in
-    let bits : ℕ = c.valued-bits.result in
-    let has : HasValued bits list = subst (HasValued bits) c.deref.ensures.value c.valued-bits.ensures in
-    are_valued_more _ _ c.self.inside.valued.items c.note.new.valued.items c.in_ok-number.number bits list c.self.invariant
+    let list : List Setting = c.args.list.items in
+    let bits : ℕ = c.settled-bits.result in
+    let has : HasSettled bits list = subst (HasSettled bits) c.deref.ensures.value c.settled-bits.ensures in
+    are_settled_more _ _ c.self.inside.settled.items c.note.new.settled.items c.in_ok-number.number bits list c.self.invariant
     (keeps_inserted (λ k. k.items) _ c.self.inside.lists.keys c.insert_full.new.self.keys c.args.list ok.keys)
     (listed_at (λ k. k.items) list _ c.in_ok-number.number ok.stored.0 ok.stored.1 ok.stored.2) has c.note.ensures

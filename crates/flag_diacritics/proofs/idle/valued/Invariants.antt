@@ -1,7 +1,0 @@
-use Rattle.std.proofs.Common.{◌≡◌, ◌<◌, ℕ, None}
-use Rattle.std.specs.Prelude.{slice_index_or}
-use Rattle.std.specs.Int.{bit_at}
-use Rattle.flag_diacritics.proofs.idle.valued.Given as goal
-
-abbrev pub invariant-features : goal.invariant-features
-invariant-features l = (f : ℕ) → f < l.feature → f < 64 → bit_at l.bits f ≡ 0 → slice_index_or l.now f None ≡ None
