@@ -3,3 +3,4 @@ pub mod Numbers
 pub mod Search
 pub mod Idle
 pub mod Marks
+pub mod Changes

@@ -92,7 +92,7 @@ pub fn behind_action(
 }
 
 /// What a feature is; a feature that isn't there is neutral.
-fn setting_at(now: &[Setting], feature: usize) -> Setting
+pub fn setting_at(now: &[Setting], feature: usize) -> Setting
     ensures { result ≡ slice_index_or now.now feature settings.Neutral }
 {
     if feature < now.len() {

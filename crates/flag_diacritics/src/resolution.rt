@@ -1,4 +1,4 @@
-ghost use Rattle.std.specs.Prelude.{◌↔◌, List, IfOk};
+ghost use Rattle.std.specs.Prelude.{◌≡◌, ◌<◌, ◌↔◌, ◌-◌, ◌^◌, List, None, IfOk, IfSome};
 ghost use Rattle.word_relations.specs.Relations.{AreSame};
 ghost use Rattle.fsm_base.specs.declared.letters.Pair.{Pair};
 ghost use Rattle.fsa.specs.Automaton.{UsesLetter};
@@ -26,9 +26,30 @@ pub fn resolve(alloc: Global, net: &Fsa<Tape>, flags: &[FlagOp]) -> Result<Fsa<P
     ensures language { IfOk result (λ m. (pairs : List Pair) → Accepts m pairs ↔ HasPairs net.now flags.now pairs) }
     ensures relation { IfOk result (λ m. AreSame (IsRelated m) (TapesRelate net.now flags.now)) }
 {
+    match resolve_within(alloc, net, flags, usize::MAX)? {
+        Some(resolved) => Ok(resolved),
+        None => unreachable!(),
+    }
+}
+
+/// The same where it takes at most so many steps: each place that the search finds, a state with what the features are there, is one, and so
+/// is each edge between two of them. None where it takes more.
+pub fn resolve_within(
+    alloc: Global,
+    net: &Fsa<Tape>,
+    flags: &[FlagOp],
+    steps: usize,
+) -> Result<Option<Fsa<Pair>>, AllocError>
+    ensures whole { IfOk result (λ found. found ≡ None → steps < 2 ^ 64 - 1) }
+    ensures pairs { IfOk result (λ found. IfSome found (λ m. (x : Pair) → UsesLetter m x → UsesPair net.now x)) }
+    ensures language { IfOk result (λ found. IfSome found (λ m. (pairs : List Pair) → Accepts m pairs ↔ HasPairs net.now flags.now pairs)) }
+    ensures relation { IfOk result (λ found. IfSome found (λ m. AreSame (IsRelated m) (TapesRelate net.now flags.now))) }
+{
     let actions = actions_of(alloc, flags)?;
     let idle = idle_features(alloc, net, &actions)?;
-    let built = explore(alloc, net, &actions, &idle)?;
+    let Some(built) = explore(alloc, net, &actions, &idle, steps)? else {
+        return Ok(None);
+    };
     let m = Fsa::of(built.finals, built.edges);
-    trim(alloc, &m)
+    Ok(Some(trim(alloc, &m)?))
 }

@@ -1,4 +1,4 @@
-ghost use Rattle.std.specs.Prelude.{◌≡◌, ◌<◌, ◌↔◌, ℕ, List, [], ◌∷◌, Option, Some, None, true, Contains, IfOk, OnOk, IsTrue, length, slice_get, replicate};
+ghost use Rattle.std.specs.Prelude.{◌≡◌, ◌<◌, ◌↔◌, ◌-◌, ◌^◌, ℕ, List, [], ◌∷◌, Option, Some, None, true, Contains, IfOk, IfSome, OnOk, IsTrue, length, slice_get, replicate};
 ghost use Rattle.fsa.specs.declared.automaton.Edge.{Edge};
 ghost use Rattle.flag_diacritics.specs.declared.tape.Tape.{Tape};
 ghost use Rattle.flag_diacritics.specs.declared.setting.Setting.{Setting};
@@ -38,20 +38,25 @@ pub struct Explored {
 }
 
 /// The automaton of the places that edges whose flags pass lead to, from the start with all features neutral. A place
-/// is final where its state is.
+/// is final where its state is. None where that takes more than so many steps, of which each place and each edge is one.
 pub fn explore(
     alloc: Global,
     net: &Fsa<Tape>,
     actions: &Actions,
     idle: &Idle,
-) -> Result<Explored, AllocError>
-    ensures { IfOk result (λ built. (names : Names) × IsResolved (live_behind actions.now.list.items idle.now) net.now (record { upper = replicate actions.now.features settings.Neutral; lower = replicate actions.now.features settings.Neutral }) names built.edges.items built.finals.items) }
+    steps: usize,
+) -> Result<Option<Explored>, AllocError>
+    ensures whole { IfOk result (λ found. found ≡ None → steps < 2 ^ 64 - 1) }
+    ensures found { IfOk result (λ found. IfSome found (λ built. (names : Names) × IsResolved (live_behind actions.now.list.items idle.now) net.now (record { upper = replicate actions.now.features settings.Neutral; lower = replicate actions.now.features settings.Neutral }) names built.edges.items built.finals.items)) }
 {
     let rows = EdgesByState::of(alloc, net.edges())?;
     let mut found = start(alloc, actions.features)?;
     let mut finals = Vec::new(alloc);
     'places: while finals.len() < found.places.len() {
         let number = finals.len();
+        if found.edges.len().saturating_add(number) > steps {
+            return Ok(None);
+        }
         let place = found.places.get(number);
         finals.push(is_final(net.finals(), place.state))?;
         add_edges(
@@ -64,10 +69,10 @@ pub fn explore(
             rows.out(place.state),
         )?;
     }
-    Ok(Explored {
+    Ok(Some(Explored {
         edges: found.edges,
         finals,
-    })
+    }))
 }
 
 /// The place of the start alone.

@@ -54,8 +54,8 @@ places-preserved c =
     (rw c.finals.ensures.finals at c.is_final.ensures) c.in_ok-push.ensures.items
     (subst (λ n. AddsEdges step n now (λ (e : Edge Tape). Contains net.edges e × (e.from ≡ place.state)) old old_edges new edges) number of_net)
 
-pub returns : goal.returns
-returns c =
+pub returns-clause-found : goal.returns-clause-found
+returns-clause-found c =
     let past : length c.places.found.places ≤ length c.places.finals.items = search (rules, c.places-test.false) in
     let names : Names = record { places = c.places.found.places; features = c.places.found.features } in
     (names, exploring_all (live_behind c.args.actions.now.list.items c.args.idle.now) c.args.net.now (all_neutral c.args.actions.now.features) names c.places.found.edges.items c.places.finals.items past c.places.invariant)

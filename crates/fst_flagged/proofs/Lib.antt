@@ -1,0 +1,9 @@
+pub mod Runs
+pub mod Words
+pub mod Carried
+pub mod Loads
+pub mod Letters
+pub mod Moved
+pub mod Stands
+pub mod Resolved
+pub mod Joined

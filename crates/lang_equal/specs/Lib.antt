@@ -1,0 +1,4 @@
+pub mod Difference
+pub mod Comparison
+pub mod Search
+pub mod Pairs
