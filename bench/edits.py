@@ -3,11 +3,12 @@
 
   edits.py [PROGRAM] [--edits N] [--seed N]
 
-Puts, splices and drops, with and without faults, are sent to `serve` one after another. After each, the reply must be the one that the
-definitions give: `refused` with the fault that `check` names in the edited files, or that the edit itself has, and nothing is changed; or `ok`,
-the next number, and just the names that the edit touches, which are worked out here by their definition. Then each network is looked up
-in both directions, and the replies must be those of `up` and `down` on the same files, at the version's number. Prints how many edits were
-accepted and refused, and the first difference, if there is one."""
+Puts, splices and drops, with and without faults, are sent to `serve` one after another, each by itself or up to four in a batch, which is
+committed, dropped or lost. After each change the reply must be the one that the definitions give: `refused` with the fault that `check` names in
+the files that it makes, or that one of its edits has, and nothing is changed; or `ok`, the next number, and just the names that the change
+touches, which are worked out here by their definition. Then each network is looked up in both directions, also before a batch ends, and the
+replies must be those of `up` and `down` on the same files, at the version's number. Prints how many changes were accepted, refused and given up,
+and the first difference, if there is one."""
 import os
 import random
 import re
@@ -111,6 +112,25 @@ def some_edit(random, files):
     start = random.randint(0, many + 2) if random.random() < 0.2 else random.randint(1, many + 1)
     count = random.randint(0, 2) if start <= many else random.randint(0, 1)
     return ('splice', file, start, count, [some_line(random, file) for _ in range(random.randint(0, 2))])
+
+
+def some_change(random, files):
+    """Edits of a batch, each of the files that those before it leave."""
+    change = []
+    for _ in range(random.randint(0, 4)):
+        change.append(some_edit(random, files))
+        files = fault_of(files, change[-1])[1]
+    return change
+
+
+def fault_of_change(files, change):
+    """The first fault of edits, one after another, as FILE LINE WHY, or what the files are after them."""
+    after = files
+    for edit in change:
+        fault, after = fault_of(after, edit)
+        if fault is not None:
+            return fault, files
+    return None, after
 
 
 def command_of(edit):
@@ -237,39 +257,56 @@ def walk(program, edits, seed, folder):
              'g.twolc': 'Alphabet a b c a:b ;\nRules\n"r" a:b => _ c ;\n'}
     walk = Walk(program, folder)
     walk.write(files)
-    accepted = refused = 0
+    accepted = refused = given_up = 0
     with subprocess.Popen([program, 'serve', folder], stdin=subprocess.PIPE, stdout=subprocess.PIPE, text=True) as serve:
         first = serve.stdout.readline()
         if first != 'ok 1 rebuilt A B Lex Two\n':
             return 'the first line is %r' % first
         meaning = meaning_of(files)
         for number in range(edits):
-            edit = some_edit(draw, files)
-            fault, after = fault_of(files, edit)
-            if fault is None:
+            in_batch = draw.random() < 0.3
+            change = some_change(draw, files) if in_batch else [some_edit(draw, files)]
+            ends = draw.choice(['commit'] * 6 + ['abandon', 'look']) if in_batch else 'commit'
+            if in_batch:
+                said = walk.ask(serve, 'begin\n' + ''.join(map(command_of, change)), 1 + len(change))
+                if said != 'begun\n' + 'held\n' * len(change):
+                    return 'change %d, %r: serve answers %r' % (number, change, said)
+                found = walk.look_up(serve, draw.sample(sorted(meaning[0]), min(1, len(meaning[0]))))
+                if found:
+                    return 'in batch %d, %r: %s' % (number, change, found)
+            fault, after = fault_of_change(files, change)
+            if fault is None and ends == 'commit':
                 walk.write(after)
                 told = walk.run(['check', folder])
                 if told.startswith('refused '):
                     fault = told[len('refused '):-1]
-            if fault is not None:
-                wanted = 'refused %s\n' % fault
-                refused += 1
+            if ends == 'abandon':
+                order, wanted = 'abandon\ncommit\n', 'dropped\nnone\n'
+                given_up += 1
+            elif ends == 'look':
+                order, wanted = 'look\n' + ''.join(map(command_of, change)) + 'begin\ncommit\n', 'bad\n' + 'lost\n' * len(change) + 'open\nlost\n'
+                given_up += 1
             else:
-                new = meaning_of(after)
-                names = touched(meaning, new)
-                files, meaning, accepted = after, new, accepted + 1
-                walk.version += 1
-                wanted = ' '.join(['ok %d rebuilt' % walk.version, *names]) + '\n'
-            got = walk.ask(serve, command_of(edit))
+                order = 'commit\n' if in_batch else command_of(change[0])
+                if fault is not None:
+                    wanted = 'refused %s\n' % fault
+                    refused += 1
+                else:
+                    new = meaning_of(after)
+                    names = touched(meaning, new)
+                    files, meaning, accepted = after, new, accepted + 1
+                    walk.version += 1
+                    wanted = ' '.join(['ok %d rebuilt' % walk.version, *names]) + '\n'
+            got = walk.ask(serve, order, len(lines_of(wanted)))
             if got != wanted:
-                return 'edit %d, %r: serve answers %r, and it is %r; the files are %r' % (number, edit, got, wanted, after)
+                return 'change %d, %r, %s: serve answers %r, and it is %r; the files are %r' % (number, change, ends, got, wanted, after)
             walk.write(files)
             found = walk.look_up(serve, meaning[0])
             if found:
-                return 'after edit %d, %r: %s' % (number, edit, found)
+                return 'after change %d, %r: %s' % (number, change, found)
         serve.stdin.write('end\n')
         serve.stdin.close()
-    print('%d edits: %d accepted, %d refused, all answered as from nothing' % (edits, accepted, refused))
+    print('%d changes: %d accepted, %d refused, %d given up, all answered as from nothing' % (edits, accepted, refused, given_up))
     return None
 
 

@@ -11,6 +11,9 @@ module _ (keyword rest : List ℕ) where
   no_put is none (commands.Drop f) h = let clash = sym is ∙ h.0 in cc
   no_put is none (commands.Up n w) h = let clash = sym is ∙ h.0 in cc
   no_put is none (commands.Down n w) h = let clash = sym is ∙ h.0 in cc
+  no_put is none commands.Begin h = absurd h
+  no_put is none commands.Commit h = absurd h
+  no_put is none commands.Abandon h = absurd h
   no_put is none commands.End h = absurd h
 
   pub no_splice : keyword ≡ codes "splice" → ((file : List ℕ) (from count lines : ℕ) → IsSplice file from count lines rest → ⊥) → (c : EditCommand) → Orders keyword rest c → ⊥
@@ -19,4 +22,7 @@ module _ (keyword rest : List ℕ) where
   no_splice is none (commands.Drop f) h = let clash = sym is ∙ h.0 in cc
   no_splice is none (commands.Up n w) h = let clash = sym is ∙ h.0 in cc
   no_splice is none (commands.Down n w) h = let clash = sym is ∙ h.0 in cc
+  no_splice is none commands.Begin h = absurd h
+  no_splice is none commands.Commit h = absurd h
+  no_splice is none commands.Abandon h = absurd h
   no_splice is none commands.End h = absurd h

@@ -7,16 +7,15 @@ use Rattle.std.proofs.lemmas.Slice.Eq.{bytes_eq-Decides}
 use Rattle.std.proofs.lemmas.Str.{IsUtf8-from_is_utf8, is_utf8-from_IsUtf8}
 use Rattle.fsm_io.specs.Lines.{most_line}
 use Rattle.reply_meaning.specs.Replies.{without_return}
-use Rattle.edit_script.specs.Commands.{HasNoSpace, IsText, Orders, SpellsCommand, Asks, SpellsLook, IsCommand, IsLook, HasLines, of_command, of_none, lines_behind, ends, orders, rests, asks, spaced}
+use Rattle.edit_script.specs.Commands.{HasNoSpace, IsAlone, IsText, Orders, SpellsCommand, Asks, SpellsLook, IsCommand, IsLook, HasLines, of_command, of_none, lines_behind, alone, orders, rests, asks, spaced}
 use Rattle.edit_script.specs.Reading.{command_of, look_of}
 use Rattle.edit_script.specs.declared.commands.EditCommand.{EditCommand}
-use Rattle.edit_script.specs.declared.commands.EditCommand.TheVariants as commands
 use Rattle.edit_script.specs.declared.commands.CommandOf.{CommandOf}
 use Rattle.edit_script.specs.declared.looks.Look.{Look}
 use Rattle.edit_script.specs.declared.looks.Look.TheVariants as looks
 use Rattle.edit_script.specs.declared.looks.LookOf.{LookOf}
 use Rattle.edit_script.proofs.Splits.{one_split, no_split, spelled_out}
-use Rattle.edit_script.proofs.Unique.{ordered_word, asked_word}
+use Rattle.edit_script.proofs.Unique.{alone_word, ordered_word, asked_word}
 
 -- the text of a line
 pub text_read : {X : Type 0} (line bytes : List ℕ) (r : Result (Bor (List ℕ)) X) (Q : X → Type 0) → length line ≤ most_line → bytes ≡ without_return line
@@ -41,7 +40,7 @@ module _ (line text : List ℕ) (is_text : IsText line) (is : text ≡ without_r
   -- a text with a space
   module _ (keyword rest : List ℕ) (no_space : HasNoSpace keyword) (words : text ≡ spaced keyword rest) where
     ordered_parts : (c : EditCommand) → SpellsCommand (without_return line) c → Orders keyword rest c
-    ordered_parts commands.End (ends x) = absurd (no_split (codes "end") keyword rest (spelled_out (codes "end") refl) (sym x ∙ sym is ∙ words))
+    ordered_parts c (alone x) = absurd (no_split (without_return line) keyword rest (alone_word (without_return line) c x) (sym is ∙ words))
     ordered_parts c (orders k r x h) =
         let parts = one_split k keyword r rest (ordered_word k r c h) no_space (sym x ∙ sym is ∙ words) in
         subst (λ (w : List ℕ). Orders w rest c) parts.0 (subst (λ (w : List ℕ). Orders k w c) parts.1 h)
@@ -64,12 +63,14 @@ module _ (line text : List ℕ) (is_text : IsText line) (is : text ≡ without_r
 
   -- a text without one
   module _ (no_space : HasNoSpace text) where
-    pub no_command : (text ≡ codes "end" → ⊥) → (c : EditCommand) → IsCommand line c → ⊥
-    no_command other c h = by c h.1
-      where
-        by : (c : EditCommand) → SpellsCommand (without_return line) c → ⊥
-        by commands.End (ends x) = other (is ∙ x)
-        by c (orders k r x h) = no_split text k r no_space (is ∙ x)
+    alone_part : (c : EditCommand) → SpellsCommand (without_return line) c → IsAlone text c
+    alone_part c (alone x) = subst (λ (w : List ℕ). IsAlone w c) (sym is) x
+    alone_part c (orders k r x h) = absurd (no_split text k r no_space (is ∙ x))
+
+    pub line_alone : (r : Option CommandOf) → MatchOption r ((c : EditCommand) → IsAlone text c → ⊥) (λ parts. IsAlone text (command_of parts))
+        → MatchOption r ((c : EditCommand) → IsCommand line c → ⊥) (λ parts. IsCommand line (command_of parts))
+    line_alone None none = λ c h. none c (alone_part c h.1)
+    line_alone (Some parts) h = (is_text, alone (subst (λ (w : List ℕ). IsAlone w (command_of parts)) is h))
 
     pub no_look : (text ≡ codes "---" → ⊥) → (l : Look) → IsLook line l → ⊥
     no_look other l h = by l h.1
@@ -77,9 +78,6 @@ module _ (line text : List ℕ) (is_text : IsText line) (is : text ≡ without_r
         by : (l : Look) → SpellsLook (without_return line) l → ⊥
         by looks.Rest (rests x) = other (is ∙ x)
         by l (asks k r x h) = no_split text k r no_space (is ∙ x)
-
-  pub is_end : text ≡ codes "end" → IsCommand line commands.End
-  is_end x = (is_text, ends (sym is ∙ x))
 
   pub is_rest : text ≡ codes "---" → IsLook line looks.Rest
   is_rest x = (is_text, rests (sym is ∙ x))

@@ -59,11 +59,26 @@ Orders keyword rest (commands.Splice file from count lines) = (keyword ≡ codes
 Orders keyword rest (commands.Drop file) = (keyword ≡ codes "drop") × IsFile file × (rest ≡ file)
 Orders keyword rest (commands.Up net word) = (keyword ≡ codes "up") × IsNetAndWord net word rest
 Orders keyword rest (commands.Down net word) = (keyword ≡ codes "down") × IsNetAndWord net word rest
+Orders keyword rest commands.Begin = ⊥
+Orders keyword rest commands.Commit = ⊥
+Orders keyword rest commands.Abandon = ⊥
 Orders keyword rest commands.End = ⊥
+
+-- the command that a word alone spells
+abbrev pub IsAlone : List ℕ → EditCommand → Type 0
+IsAlone text (commands.Put file lines) = ⊥
+IsAlone text (commands.Splice file from count lines) = ⊥
+IsAlone text (commands.Drop file) = ⊥
+IsAlone text (commands.Up net word) = ⊥
+IsAlone text (commands.Down net word) = ⊥
+IsAlone text commands.Begin = text ≡ codes "begin"
+IsAlone text commands.Commit = text ≡ codes "commit"
+IsAlone text commands.Abandon = text ≡ codes "abandon"
+IsAlone text commands.End = text ≡ codes "end"
 
 -- the text spells the command
 pub data SpellsCommand (text : List ℕ) : EditCommand → Type 0 where
-  ends : text ≡ codes "end" → SpellsCommand text commands.End
+  alone : {command : EditCommand} → IsAlone text command → SpellsCommand text command
   orders : {command : EditCommand} (keyword rest : List ℕ) → text ≡ spaced keyword rest → Orders keyword rest command → SpellsCommand text command
 
 -- the same of a lane's line
@@ -89,10 +104,26 @@ IsCommand line command = IsText line × SpellsCommand (without_return line) comm
 abbrev pub IsLook : List ℕ → Look → Type 0
 IsLook line look = IsText line × SpellsLook (without_return line) look
 
--- why there is no command: the line is none, or there was no memory for its texts, which `end` has none of
+-- what kind a command is of
+abbrev pub kind_of : EditCommand → CommandKind
+kind_of (commands.Put file lines) = kinds.Edit
+kind_of (commands.Splice file from count lines) = kinds.Edit
+kind_of (commands.Drop file) = kinds.Edit
+kind_of (commands.Up net word) = kinds.LookUp
+kind_of (commands.Down net word) = kinds.LookUp
+kind_of commands.Begin = kinds.Word
+kind_of commands.Commit = kinds.Word
+kind_of commands.Abandon = kinds.Word
+kind_of commands.End = kinds.Word
+
+-- the line is a command with texts, which a word alone has none of
+abbrev pub HasTexts : List ℕ → Type 0
+HasTexts line = (command : EditCommand) × IsCommand line command × (kind_of command ≢ kinds.Word)
+
+-- why there is no command: the line is none, or there was no memory for its texts
 abbrev pub IsWhyNoCommand : List ℕ → CommandError → Type 0
 IsWhyNoCommand line Bad = (command : EditCommand) → IsCommand line command → ⊥
-IsWhyNoCommand line (Memory refused) = (command : EditCommand) × IsCommand line command × (command ≢ commands.End)
+IsWhyNoCommand line (Memory refused) = HasTexts line
 
 abbrev pub IsWhyNoLook : List ℕ → CommandError → Type 0
 IsWhyNoLook line Bad = (look : Look) → IsLook line look → ⊥
@@ -105,21 +136,15 @@ lines_behind (commands.Splice file from count lines) = lines
 lines_behind (commands.Drop file) = 0
 lines_behind (commands.Up net word) = 0
 lines_behind (commands.Down net word) = 0
+lines_behind commands.Begin = 0
+lines_behind commands.Commit = 0
+lines_behind commands.Abandon = 0
 lines_behind commands.End = 0
 
 -- and how many follow a line: none where it is no command
 pub data HasLines (line : List ℕ) (n : ℕ) : Type 0 where
   of_command : (command : EditCommand) → IsCommand line command → n ≡ lines_behind command → HasLines line n
   of_none : ((command : EditCommand) → IsCommand line command → ⊥) → n ≡ 0 → HasLines line n
-
--- what kind a command is of
-abbrev pub kind_of : EditCommand → CommandKind
-kind_of (commands.Put file lines) = kinds.Edit
-kind_of (commands.Splice file from count lines) = kinds.Edit
-kind_of (commands.Drop file) = kinds.Edit
-kind_of (commands.Up net word) = kinds.LookUp
-kind_of (commands.Down net word) = kinds.LookUp
-kind_of commands.End = kinds.End
 
 -- the line is a command of this kind
 abbrev pub HasKind : List ℕ → CommandKind → Type 0

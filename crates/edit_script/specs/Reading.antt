@@ -14,6 +14,9 @@ command_of (parts.Splice file from count lines) = commands.Splice file.now from 
 command_of (parts.Drop file) = commands.Drop file.now
 command_of (parts.Up net word) = commands.Up net.now word.now
 command_of (parts.Down net word) = commands.Down net.now word.now
+command_of parts.Begin = commands.Begin
+command_of parts.Commit = commands.Commit
+command_of parts.Abandon = commands.Abandon
 command_of parts.End = commands.End
 
 abbrev pub look_of : LookOf → Look

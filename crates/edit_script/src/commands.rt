@@ -1,8 +1,8 @@
 ghost use Rattle.std.specs.Prelude.{◌≡◌, ◌≢◌, List, ℕ, MatchOption, MatchResult};
-ghost use Rattle.edit_script.specs.Commands.{HasKind, HasLines, HasNoSpace, IsCommand, IsPut, IsSplice, IsWhyNoCommand, Orders, kind_of, lines_behind};
+ghost use Rattle.edit_script.specs.Commands.{HasKind, HasLines, HasNoSpace, IsAlone, IsCommand, IsPut, IsSplice, IsWhyNoCommand, Orders, kind_of, lines_behind};
 ghost use Rattle.edit_script.specs.Reading.{command_of};
 ghost use Rattle.edit_script.specs.declared.commands.EditCommand.{EditCommand};
-ghost use Rattle.edit_script.specs.declared.commands.EditCommand.TheVariants.{End};
+ghost use Rattle.edit_script.specs.declared.commands.CommandKind.TheVariants.{Word};
 
 use crate::errors::CommandError;
 use crate::words::{is_file, net_and_word, number, split, text_of};
@@ -49,6 +49,12 @@ pub enum EditCommand {
         /// The word, as it is written.
         word: Text,
     },
+    /// `begin`: a batch begins, whose edits are accepted or refused as one.
+    Begin,
+    /// `commit`: the edits of the batch are one change.
+    Commit,
+    /// `abandon`: the batch is dropped.
+    Abandon,
     /// `end`: the last command.
     End,
 }
@@ -72,8 +78,8 @@ pub enum CommandKind {
     Edit,
     /// A look-up: `up` or `down`.
     LookUp,
-    /// `end`.
-    End,
+    /// A word alone, which has no texts: `begin`, `commit`, `abandon` or `end`.
+    Word,
 }
 
 /// A command whose texts are parts of its line.
@@ -105,6 +111,12 @@ pub enum CommandOf<'a> {
         net: &'a str,
         word: &'a str,
     },
+    /// `begin`.
+    Begin,
+    /// `commit`.
+    Commit,
+    /// `abandon`.
+    Abandon,
     /// `end`.
     End,
 }
@@ -129,13 +141,15 @@ impl CommandOf<'_> {
                 CommandKind::Edit
             }
             CommandOf::Up { .. } | CommandOf::Down { .. } => CommandKind::LookUp,
-            CommandOf::End => CommandKind::End,
+            CommandOf::Begin | CommandOf::Commit | CommandOf::Abandon | CommandOf::End => {
+                CommandKind::Word
+            }
         }
     }
 
     /// The command with texts of its own.
     fn keep(self, alloc: Global) -> Result<EditCommand, AllocError>
-        ensures { MatchResult result (λ command. command ≡ command_of self.entry) (λ refused. command_of self.entry ≢ End) }
+        ensures { MatchResult result (λ command. command ≡ command_of self.entry) (λ refused. kind_of (command_of self.entry) ≢ Word) }
     {
         Ok(match self {
             CommandOf::Put { file, lines } => EditCommand::Put {
@@ -164,6 +178,9 @@ impl CommandOf<'_> {
                 net: Text::of(alloc, net)?,
                 word: Text::of(alloc, word)?,
             },
+            CommandOf::Begin => EditCommand::Begin,
+            CommandOf::Commit => EditCommand::Commit,
+            CommandOf::Abandon => EditCommand::Abandon,
             CommandOf::End => EditCommand::End,
         })
     }
@@ -225,6 +242,19 @@ fn ordered<'a>(keyword: &str, rest: &'a str) -> Option<CommandOf<'a>>
     }
 }
 
+/// The command that is a word alone, or `None` where it is none.
+fn word_alone(text: &str) -> Option<CommandOf<'_>>
+    ensures { MatchOption result ((command : EditCommand) → IsAlone text.now command → ⊥) (λ parts. IsAlone text.now (command_of parts)) }
+{
+    match text {
+        "begin" => Some(CommandOf::Begin),
+        "commit" => Some(CommandOf::Commit),
+        "abandon" => Some(CommandOf::Abandon),
+        "end" => Some(CommandOf::End),
+        _ => None,
+    }
+}
+
 /// The command of a line, or `None` where it is none.
 fn command_in(line: &[u8]) -> Option<CommandOf<'_>>
     ensures { MatchOption result ((command : EditCommand) → IsCommand line.now command → ⊥) (λ parts. IsCommand line.now (command_of parts)) }
@@ -232,12 +262,12 @@ fn command_in(line: &[u8]) -> Option<CommandOf<'_>>
     let text = text_of(line)?;
     match split(text) {
         Some((keyword, rest)) => ordered(keyword, rest),
-        None if text == "end" => Some(CommandOf::End),
-        None => None,
+        None => word_alone(text),
     }
 }
 
-/// Reads an editor's command: `put FILE N`, `splice FILE FROM COUNT N`, `drop FILE`, `up NET WORD`, `down NET WORD` or `end`.
+/// Reads an editor's command: `put FILE N`, `splice FILE FROM COUNT N`, `drop FILE`, `begin`, `commit`, `abandon`, `up NET WORD`,
+/// `down NET WORD` or `end`.
 ///
 /// One space separates. FILE is `project` or a file's name as in a manifest. NET isn't empty; WORD is all the rest, and the
 /// space before an empty one may be left out. A number is in decimal, without a leading zero, and at most 1,048,576. A carriage
@@ -246,7 +276,7 @@ fn command_in(line: &[u8]) -> Option<CommandOf<'_>>
 /// # Errors
 ///
 /// `Bad` where the line is in none of these forms, isn't UTF-8 or has more than 4,096 bytes, and `Memory` where it is such a
-/// command other than `end` and there was no memory for its texts.
+/// command and there was no memory for its texts; `begin`, `commit`, `abandon` and `end` have none.
 pub fn read_command(alloc: Global, line: &[u8]) -> Result<EditCommand, CommandError>
     ensures { MatchResult result (IsCommand line.now) (IsWhyNoCommand line.now) }
 {

@@ -2,7 +2,7 @@
 //! behind it words that one space separates.
 //!
 //! - [`read_command`]: the [`EditCommand`] of a line; [`command_lines`]: how many lines follow it; [`command_kind`]: whether it
-//!   is an edit or a look-up.
+//!   is an edit, a look-up or a word alone.
 //! - [`read_look`]: the [`Look`] of a lane's line.
 //! - [`one_command`], [`one_look`]: the laws that a line is one command, and one look-up, only.
 //!

@@ -1,3 +1,4 @@
 pub mod Orders
+pub mod Batches
 pub mod Editing
 pub mod Laws

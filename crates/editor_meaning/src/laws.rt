@@ -1,18 +1,18 @@
 ghost use Rattle.project_sources.specs.Faults.{rows};
 ghost use Rattle.project_sources.specs.Laws.{all_readers};
-ghost use Rattle.editor_meaning.specs.Laws.{NumbersCount, OneReading, OneReplyToEdit, RefusedMakesNone};
+ghost use Rattle.editor_meaning.specs.Laws.{NumbersCount, OneReading, OneReplyToOrder, RefusedMakesNone};
 
 /// Lines are one list of orders only.
 pub fn one_reading()
     ensures { OneReading }
 {}
 
-/// An edit has one reply, but for want of memory.
-pub fn one_reply_to_edit()
-    ensures { OneReplyToEdit all_readers rows }
+/// An order that looks nothing up has one reply and leaves one batch, but for want of memory.
+pub fn one_reply_to_order()
+    ensures { OneReplyToOrder all_readers rows }
 {}
 
-/// An edit that is refused makes no version.
+/// A change that is refused makes no version.
 pub fn refused_makes_none()
     ensures { RefusedMakesNone all_readers rows }
 {}

@@ -3,10 +3,12 @@ use denote.Param.Send.{IsSend, IsSync, sendable}
 use Rattle.std.proofs.Crossing.{crosses}
 use Rattle.fsm_base.proofs.alphabet.Alphabet.TheSendSync as alphabet
 use Rattle.fsm_base.proofs.text.Text.TheSendSync as text
+use Rattle.editor_session.specs.contracts.batches.Batch as batch
 use Rattle.interlinear.proofs.table.GlossTable.TheSendSync as table
 use Rattle.network_build.proofs.compiled.Compiled.TheSendSync as compiled
 use Rattle.project_definitions.specs.contracts.definition.Body as body
 use Rattle.project_sources.proofs.sources.Sources.TheSendSync as sources
+use Rattle.project_edits.specs.contracts.edit.Edit as edit
 use Rattle.project_model.specs.contracts.plan.Plan as plan
 use Rattle.project_store.specs.contracts.project.Project as project
 use Rattle.project_versions.specs.contracts.version.Version as version
@@ -65,3 +67,10 @@ plan_sync = let b = body_sync in search (sendable, crosses, text.the_sync, table
 
 pub version_sync : IsSync version.the_row
 version_sync = let p = plan_sync in search (sendable, crosses, alphabet.the_sync, sources.the_sync, compiled.the_send, compiled.the_sync) depth 20
+
+-- a batch may go to another thread, too
+edit_send : IsSend edit.the_field.row
+edit_send = search (sendable, crosses, text.the_send) depth 20
+
+pub batch_send : IsSend batch.the_field.row
+batch_send = let e = edit_send in search (sendable, crosses) depth 20

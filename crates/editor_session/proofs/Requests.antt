@@ -12,7 +12,7 @@ use Rattle.project_sources.specs.Faults.{rows}
 use Rattle.project_sources.specs.Laws.{all_readers}
 use Rattle.project_sources.specs.Limits.{most_bytes}
 use Rattle.lookup_answers.specs.declared.direction.Direction.TheVariants.{Up, Down}
-use Rattle.edit_script.specs.Commands.{HasKind, HasLines, IsCommand, kind_of, lines_behind, of_command as lines_of_command, of_none as lines_of_none}
+use Rattle.edit_script.specs.Commands.{HasKind, HasLines, HasTexts, IsCommand, kind_of, lines_behind, of_command as lines_of_command, of_none as lines_of_none}
 use Rattle.edit_script.specs.declared.commands.CommandKind.{CommandKind}
 use Rattle.edit_script.specs.declared.commands.CommandKind.TheVariants as kinds
 use Rattle.edit_script.specs.declared.commands.EditCommand.{EditCommand}
@@ -22,59 +22,87 @@ use Rattle.reply_meaning.specs.Replies.{no_memory as no_memory_word}
 use Rattle.reply_meaning.specs.declared.ending.Ending.{Ending}
 use Rattle.reply_meaning.specs.declared.ending.Ending.TheVariants.{Finished, WriteFailed, ReadFailed, Spent}
 use Rattle.editor_meaning.specs.Orders.{AreOrders, Order, bad, cut, cut_by, cut_off, no_command, none, ordered, stopped, whole}
-use Rattle.editor_meaning.specs.Editing.{RepliesToEdit, content_of, no_memory}
-use Rattle.editor_session.specs.Reading.{Follows, HasFollowed, HasHeard, HasNext, HasStopped, IsAsked, IsFor, IsSettled, Obeys, Say, all, cuts, ends, fails, most_kept, of_command, of_none, requests, spends}
+use Rattle.editor_meaning.specs.Batches.{Batch, spoilt}
+use Rattle.editor_meaning.specs.Editing.{RepliesToEdit, content_of}
+use Rattle.editor_session.specs.Keeping.{kept_batch, kept_of, most_kept}
+use Rattle.editor_session.specs.Replying.{RepliesToRequest}
+use Rattle.editor_session.specs.Reading.{Follows, HasFollowed, HasHeard, HasNext, HasStopped, IsAsked, IsFor, IsSettled, Obeys, Say, all, cuts, ends, fails, of_command, of_none, requests, spends}
 use Rattle.editor_session.specs.declared.payload.Payload.TheVariants as payloads
 use Rattle.editor_session.specs.declared.request.Next.{Next}
 use Rattle.editor_session.specs.declared.request.Next.TheVariants.{Asks, Ends}
 use Rattle.editor_session.specs.declared.request.Request.{Request}
 use Rattle.editor_session.specs.declared.request.Request.TheVariants as wanted
 use Rattle.editor_session.proofs.Hearing.{going_before, heard_line, heard_none, is_long, piece_told, text_is}
-use Rattle.editor_session.proofs.Long.{cut_put, cut_splice}
+use Rattle.editor_session.proofs.Long.{kept_abandon, kept_begin, kept_commit, kept_edit, kept_spoilt}
 use Rattle.editor_session.proofs.Shortness.{too_long}
 
 -- ---- what a command with all its lines asks for
-
-kept_beyond : most_bytes < most_kept
-unfolding most_kept
-kept_beyond = omega arith
 
 pub no_lines : (more : List (List ℕ)) → length more ≡ 0 → more ≡ []
 no_lines [] e = refl
 no_lines (x ∷ more) e = absurd (omega (arith, e))
 
-same_edit : (present : Version) (a b : Edit) (reply : List ℕ) (new : Option Version) → a ≡ b → RepliesToEdit all_readers rows present a reply new → RepliesToEdit all_readers rows present b reply new
-same_edit present a b reply new same h = subst (λ (e : Edit). RepliesToEdit all_readers rows present e reply new) same h
+-- a reply to the edit as it is kept
+for_edit : (edit : Edit) (present : Version) (batch : Batch) (reply : List ℕ) (new : Option Version) (kept : Batch) → RepliesToEdit all_readers rows present (kept_batch batch) (kept_of edit) reply new kept
+    → (next : Batch) × (kept ≡ kept_batch next) × RepliesToEdit all_readers rows present batch edit reply new next
+for_edit edit present batch reply new kept h = kept_edit all_readers rows present batch edit reply new kept h
+
+as_kept : (edit : Edit) (change : EditOf) → edit_of change ≡ kept_of edit → (present : Version) (batch : Batch) (reply : List ℕ) (new : Option Version) (kept : Batch)
+    → RepliesToRequest present (kept_batch batch) (wanted.Edit change) reply new kept → (next : Batch) × (kept ≡ kept_batch next) × RepliesToEdit all_readers rows present batch edit reply new next
+as_kept edit change is present batch reply new kept h = for_edit edit present batch reply new kept (subst (λ (e : Edit). RepliesToEdit all_readers rows present (kept_batch batch) e reply new kept) is h)
 
 module _ (more : List (List ℕ)) (bytes : List ℕ) (kept : bytes ≡ take most_kept (content_of more)) (change : EditOf) (file : List ℕ) where
   pub for_put : (n : ℕ) → edit_of change ≡ put file bytes → IsFor (whole (commands.Put file n) more) (wanted.Edit change)
-  for_put n is present reply new h =
-      cut_put all_readers rows present most_kept kept_beyond file (content_of more) reply new
-      (same_edit present (edit_of change) (put file (take most_kept (content_of more))) reply new (is ∙ ap (put file) kept) h)
+  for_put n is = as_kept (put file (content_of more)) change (is ∙ ap (put file) kept)
 
   pub for_splice : (from count n : ℕ) → edit_of change ≡ splice file from count bytes → IsFor (whole (commands.Splice file from count n) more) (wanted.Edit change)
-  for_splice from count n is present reply new h =
-      cut_splice all_readers rows present most_kept kept_beyond file (content_of more) reply new from count
-      (same_edit present (edit_of change) (splice file from count (take most_kept (content_of more))) reply new (is ∙ ap (splice file from count) kept) h)
+  for_splice from count n is = as_kept (splice file from count (content_of more)) change (is ∙ ap (splice file from count) kept)
 
 pub for_drop : (more : List (List ℕ)) (change : EditOf) (file : List ℕ) → edit_of change ≡ drops file → IsFor (whole (commands.Drop file) more) (wanted.Edit change)
-for_drop more change file is present reply new h = same_edit present (edit_of change) (drops file) reply new is h
+for_drop more change file is = as_kept (drops file) change is
+
+pub for_up : (more : List (List ℕ)) (net word : List ℕ) → IsFor (whole (commands.Up net word) more) (wanted.LookUp Up net word)
+for_up more net word present batch reply new kept h = (batch, h.2, (h.0, h.1, refl))
+
+pub for_down : (more : List (List ℕ)) (net word : List ℕ) → IsFor (whole (commands.Down net word) more) (wanted.LookUp Down net word)
+for_down more net word present batch reply new kept h = (batch, h.2, (h.0, h.1, refl))
+
+pub for_begin : (more : List (List ℕ)) → IsFor (whole commands.Begin more) wanted.Begin
+for_begin more present batch reply new kept h = let (next, is, replies) = kept_begin all_readers rows present batch reply kept h.0 in (next, is, (replies, h.1))
+
+pub for_commit : (more : List (List ℕ)) → IsFor (whole commands.Commit more) wanted.Commit
+for_commit more present batch reply new kept h = kept_commit all_readers rows present batch reply new kept h
+
+pub for_abandon : (more : List (List ℕ)) → IsFor (whole commands.Abandon more) wanted.Abandon
+for_abandon more present batch reply new kept h = let (next, is, replies) = kept_abandon all_readers rows present batch reply kept h.0 in (next, is, (replies, h.1))
+
+for_bad : IsFor bad wanted.Bad
+for_bad present batch reply new kept h = (spoilt batch, h.2 ∙ kept_spoilt batch, (h.0, h.1, refl))
+
+for_cut : IsFor cut wanted.Cut
+for_cut present batch reply new kept h = (batch, h.2, (h.0, h.1, refl))
 
 pub for_unkept_edit : (command : EditCommand) (more : List (List ℕ)) → kind_of command ≡ kinds.Edit → IsFor (whole command more) wanted.UnkeptEdit
-for_unkept_edit (commands.Put file n) more is present reply new h = no_memory h.0 h.1
-for_unkept_edit (commands.Splice file from count n) more is present reply new h = no_memory h.0 h.1
-for_unkept_edit (commands.Drop file) more is present reply new h = no_memory h.0 h.1
-for_unkept_edit (commands.Up net word) more is present reply new h = cc
-for_unkept_edit (commands.Down net word) more is present reply new h = cc
-for_unkept_edit commands.End more is present reply new h = cc
+for_unkept_edit (commands.Put file n) more is present batch reply new kept h = for_edit (put file (content_of more)) present batch reply new kept (h _)
+for_unkept_edit (commands.Splice file from count n) more is present batch reply new kept h = for_edit (splice file from count (content_of more)) present batch reply new kept (h _)
+for_unkept_edit (commands.Drop file) more is present batch reply new kept h = for_edit (drops file) present batch reply new kept (h _)
+for_unkept_edit (commands.Up net word) more is present batch reply new kept h = cc
+for_unkept_edit (commands.Down net word) more is present batch reply new kept h = cc
+for_unkept_edit commands.Begin more is present batch reply new kept h = cc
+for_unkept_edit commands.Commit more is present batch reply new kept h = cc
+for_unkept_edit commands.Abandon more is present batch reply new kept h = cc
+for_unkept_edit commands.End more is present batch reply new kept h = cc
 
 pub for_unkept_look_up : (command : EditCommand) (more : List (List ℕ)) → kind_of command ≡ kinds.LookUp → IsFor (whole command more) wanted.UnkeptLookUp
-for_unkept_look_up (commands.Put file n) more is present reply new h = cc
-for_unkept_look_up (commands.Splice file from count n) more is present reply new h = cc
-for_unkept_look_up (commands.Drop file) more is present reply new h = cc
-for_unkept_look_up (commands.Up net word) more is present reply new h = (no_memory_word h.0, h.1)
-for_unkept_look_up (commands.Down net word) more is present reply new h = (no_memory_word h.0, h.1)
-for_unkept_look_up commands.End more is present reply new h = cc
+for_unkept_look_up (commands.Put file n) more is present batch reply new kept h = cc
+for_unkept_look_up (commands.Splice file from count n) more is present batch reply new kept h = cc
+for_unkept_look_up (commands.Drop file) more is present batch reply new kept h = cc
+for_unkept_look_up (commands.Up net word) more is present batch reply new kept h = (batch, h.2, (no_memory_word h.0, h.1, refl))
+for_unkept_look_up (commands.Down net word) more is present batch reply new kept h = (batch, h.2, (no_memory_word h.0, h.1, refl))
+for_unkept_look_up commands.Begin more is present batch reply new kept h = cc
+for_unkept_look_up commands.Commit more is present batch reply new kept h = cc
+for_unkept_look_up commands.Abandon more is present batch reply new kept h = cc
+for_unkept_look_up commands.End more is present batch reply new kept h = cc
 
 -- a command that lines follow is an edit
 pub edit_kind : (command : EditCommand) → 0 < lines_behind command → kind_of command ≡ kinds.Edit
@@ -83,6 +111,9 @@ edit_kind (commands.Splice file from count n) some = refl
 edit_kind (commands.Drop file) some = refl
 edit_kind (commands.Up net word) some = absurd (omega (arith, some))
 edit_kind (commands.Down net word) some = absurd (omega (arith, some))
+edit_kind commands.Begin some = absurd (omega (arith, some))
+edit_kind commands.Commit some = absurd (omega (arith, some))
+edit_kind commands.Abandon some = absurd (omega (arith, some))
 edit_kind commands.End some = absurd (omega (arith, some))
 
 pub look_up_lines : (command : EditCommand) → kind_of command ≡ kinds.LookUp → lines_behind command ≡ 0
@@ -91,17 +122,12 @@ look_up_lines (commands.Splice file from count n) is = cc
 look_up_lines (commands.Drop file) is = refl
 look_up_lines (commands.Up net word) is = refl
 look_up_lines (commands.Down net word) is = refl
+look_up_lines commands.Begin is = refl
+look_up_lines commands.Commit is = refl
+look_up_lines commands.Abandon is = refl
 look_up_lines commands.End is = refl
 
-pub end_kind : (command : EditCommand) → kind_of command ≡ kinds.End → command ≡ commands.End
-end_kind (commands.Put file n) is = cc
-end_kind (commands.Splice file from count n) is = cc
-end_kind (commands.Drop file) is = cc
-end_kind (commands.Up net word) is = cc
-end_kind (commands.Down net word) is = cc
-end_kind commands.End is = refl
-
-pub not_end : (command : EditCommand) (kind : CommandKind) → kind_of command ≡ kind → kind ≢ kinds.End → command ≢ commands.End
+pub not_end : (command : EditCommand) (kind : CommandKind) → kind_of command ≡ kind → kind ≢ kinds.Word → command ≢ commands.End
 not_end command kind is other end = other (sym is ∙ ap kind_of end)
 
 -- the lines that are said to follow a line are those that follow its command
@@ -162,7 +188,7 @@ module _ (line : List ℕ) where
         heard_all = record { read = read; settled = settled };
         order = cut;
         says = says_cut few new.ended closed;
-        is_for = λ present reply made h. h;
+        is_for = for_cut;
       }
       obeyed next (fails few failed) = record { more = line ∷ more; read = read; last = (cut_off command is_command few, going, failed) }
       obeyed next (spends few failed spent) = record { more = line ∷ more; read = read; last = (cut_off command is_command few, going, failed, spent) }
@@ -176,7 +202,7 @@ module _ (left0 left : Option (List ℕ)) (budget : ℕ) (old new : LinesView) (
     heard_all = all_heard;
     order = bad;
     says = says_bad line apart new.ended;
-    is_for = λ present reply made h. h;
+    is_for = for_bad;
   }
 
   pub followed : (more : List (List ℕ)) (next : Next) → HasRead left0 left budget new (heard ++ line ∷ more) → Follows line more new next → HasNext left0 left budget old new heard next
@@ -201,10 +227,19 @@ module _ (command : EditCommand) (more : List (List ℕ)) (len : length more ≡
   asked_drop file change is same = asks_as (commands.Drop file) (wanted.Edit change) is (λ (e : commands.Drop file ≡ commands.End). cc) (for_drop more change file same)
 
   pub asked_up : (net word : List ℕ) → command ≡ commands.Up net word → IsAsked command more (Asks (wanted.LookUp Up net word))
-  asked_up net word is = asks_as (commands.Up net word) (wanted.LookUp Up net word) is (λ (e : commands.Up net word ≡ commands.End). cc) (λ present reply made h. h)
+  asked_up net word is = asks_as (commands.Up net word) (wanted.LookUp Up net word) is (λ (e : commands.Up net word ≡ commands.End). cc) (for_up more net word)
 
   pub asked_down : (net word : List ℕ) → command ≡ commands.Down net word → IsAsked command more (Asks (wanted.LookUp Down net word))
-  asked_down net word is = asks_as (commands.Down net word) (wanted.LookUp Down net word) is (λ (e : commands.Down net word ≡ commands.End). cc) (λ present reply made h. h)
+  asked_down net word is = asks_as (commands.Down net word) (wanted.LookUp Down net word) is (λ (e : commands.Down net word ≡ commands.End). cc) (for_down more net word)
+
+  pub asked_begin : command ≡ commands.Begin → IsAsked command more (Asks wanted.Begin)
+  asked_begin is = asks_as commands.Begin wanted.Begin is (λ (e : commands.Begin ≡ commands.End). cc) (for_begin more)
+
+  pub asked_commit : command ≡ commands.Commit → IsAsked command more (Asks wanted.Commit)
+  asked_commit is = asks_as commands.Commit wanted.Commit is (λ (e : commands.Commit ≡ commands.End). cc) (for_commit more)
+
+  pub asked_abandon : command ≡ commands.Abandon → IsAsked command more (Asks wanted.Abandon)
+  asked_abandon is = asks_as commands.Abandon wanted.Abandon is (λ (e : commands.Abandon ≡ commands.End). cc) (for_abandon more)
 
   pub asked_end : command ≡ commands.End → IsAsked command more (Ends Finished)
   asked_end is = ends is (no_lines more (len ∙ ap lines_behind is))
@@ -220,7 +255,7 @@ kept_so more bytes is = is ∙ ap (λ (n : ℕ). take n (content_of more)) kept_
 
 module _ (command : EditCommand) (n : ℕ) (count : n ≡ lines_behind command) (more : List (List ℕ)) (reader : LinesView) where
   pub obeys_unkept : kind_of command ≡ kinds.Edit → length more ≡ n → IsSettled reader → Obeys command more reader (Asks wanted.UnkeptEdit)
-  obeys_unkept kind len settled = all (requests wanted.UnkeptEdit (not_end command kinds.Edit kind (λ (e : kinds.Edit ≡ kinds.End). cc)) (len ∙ count) (for_unkept_edit command more kind)) settled
+  obeys_unkept kind len settled = all (requests wanted.UnkeptEdit (not_end command kinds.Edit kind (λ (e : kinds.Edit ≡ kinds.Word). cc)) (len ∙ count) (for_unkept_edit command more kind)) settled
 
   pub obeys_some : length more ≡ n → IsSettled reader → 0 < n → Obeys command more reader (Asks wanted.UnkeptEdit)
   obeys_some len settled some = obeys_unkept (edit_kind command (omega (arith, some, count))) len settled
@@ -259,14 +294,15 @@ module _ (left0 left : Option (List ℕ)) (budget : ℕ) (reader : LinesView) (h
     read = nothing_more;
     follows =
         of_command command is
-        (all (requests wanted.UnkeptLookUp (not_end command kinds.LookUp (sym kind) (λ (e : kinds.LookUp ≡ kinds.End). cc)) (sym (look_up_lines command (sym kind))) (for_unkept_look_up command [] (sym kind))) h.settled);
+        (all (requests wanted.UnkeptLookUp (not_end command kinds.LookUp (sym kind) (λ (e : kinds.LookUp ≡ kinds.Word). cc)) (sym (look_up_lines command (sym kind))) (for_unkept_look_up command [] (sym kind))) h.settled);
   }
-
-  pub followed_end : HasKind line kinds.End → HasFollowed left0 left budget reader heard line (Ends Finished)
-  followed_end (command, is, kind) = record { more = []; read = nothing_more; follows = of_command command is (all (ends (end_kind command (sym kind)) refl) h.settled) }
 
   pub followed_none : ((command : EditCommand) → IsCommand line command → ⊥) → HasFollowed left0 left budget reader heard line (Asks wanted.Bad)
   followed_none apart = record { more = []; read = nothing_more; follows = of_none apart refl h.settled }
+
+-- a line with texts is no word alone
+pub no_word : (line : List ℕ) → HasTexts line → HasKind line kinds.Word → ⊥
+no_word line (command, is, texts) (other, is_other, kind) = texts (ap kind_of (one_command line command other is is_other) ∙ sym kind)
 
 -- ---- what comes next, by the event
 

@@ -14,8 +14,10 @@ use Rattle.project_sources.specs.Laws.{all_readers}
 use Rattle.reply_text.specs.Projects.{accepted_line}
 use Rattle.reply_meaning.specs.declared.ending.Ending.{Ending}
 use Rattle.reply_meaning.specs.declared.ending.Ending.TheVariants.{Finished, WriteFailed, ReadFailed, Spent}
+use Rattle.editor_meaning.specs.Batches.{Batch, no_batch}
 use Rattle.editor_meaning.specs.Orders.{AreOrders, Order}
-use Rattle.editor_meaning.specs.Editing.{AreNames, AreReplies}
+use Rattle.editor_meaning.specs.Editing.{AreNames, AreReplies, RepliesToOrder}
+use Rattle.editor_session.specs.Keeping.{kept_batch}
 use Rattle.editor_session.specs.Reading.{HasAsked, HasEnded, HasFailed, HasHeard, IsSettled, Say}
 use Rattle.editor_session.specs.Replying.{RepliesToRequest}
 use Rattle.editor_session.specs.Running.{AreRepliesSofar, Sofar}
@@ -57,18 +59,20 @@ module _ (left0 left : Option (List ℕ)) (budget : ℕ) (reader : LinesView) (l
 
 -- ---- what was written
 
-module _ (loaded present : Version) (made : List Version) (budget : ℕ) (left0 left held0 held : Option (List ℕ)) (reader : LinesView) (s : Sofar loaded present made budget left0 left held0 held reader) where
+module _ (loaded present : Version) (made : List Version) (kept : Batch) (budget : ℕ) (left0 left held0 held : Option (List ℕ)) (reader : LinesView) (s : Sofar loaded present made kept budget left0 left held0 held reader) where
   -- whatever is known of the output
-  untold : Sofar loaded present made budget left0 left None None reader
+  untold : Sofar loaded present made kept budget left0 left None None reader
   untold = record {
     lines = s.lines;
     orders = s.orders;
     names = s.names;
     replies = s.replies;
+    batch = s.batch;
     heard = s.heard;
     says = s.says;
     are_names = s.are_names;
     are_replies = s.are_replies;
+    kept_is = s.kept_is;
     appended = tt;
   }
 
@@ -105,16 +109,18 @@ module _ (loaded present : Version) (made : List Version) (budget : ℕ) (left0 
 
 -- the first line is written, and nothing was read
 pub sofar_start : (loaded : Version) (names : List (List ℕ)) (budget : ℕ) (left held0 held : Option (List ℕ)) (reader : LinesView) → reader ≡ at_start budget → AreNames (Defines loaded.project) names
-    → Appends held0 held (accepted_line loaded.number names) → Sofar loaded loaded [] budget left left held0 held reader
+    → Appends held0 held (accepted_line loaded.number names) → Sofar loaded loaded [] no_batch budget left left held0 held reader
 sofar_start loaded names budget left held0 held reader start are_names appended = record {
   lines = [];
   orders = [];
   names = names;
   replies = [];
+  batch = no_batch;
   heard = heard_start left budget reader start;
   says = λ ended more later last orders. orders;
   are_names = are_names;
   are_replies = λ later rest more h. h;
+  kept_is = refl;
   appended = subst (λ (l : List ℕ). Appends held0 held l) (sym (append-nil (accepted_line loaded.number names))) appended;
 }
 
@@ -123,12 +129,12 @@ pub failed_start : (loaded : Version) (names : List (List ℕ)) (budget : ℕ) (
     → accepted_line loaded.number names ≡ written ++ rest → Appends held1 held2 written → HasEdited loaded (loaded ∷ []) budget left left held1 held2 WriteFailed
 unfolding sofar_start
 failed_start loaded names budget left held1 held2 reader written rest start are_names is appended =
-    cut_short loaded loaded [] budget left left None None reader (sofar_start loaded names budget left None None reader start are_names tt) held1 held2 written rest (append-nil (accepted_line loaded.number names) ∙ is) appended
+    cut_short loaded loaded [] no_batch budget left left None None reader (sofar_start loaded names budget left None None reader start are_names tt) held1 held2 written rest (append-nil (accepted_line loaded.number names) ∙ is) appended
 
 -- ---- a reply more
 
-module _ (loaded present : Version) (made : List Version) (budget : ℕ) (left0 left1 left held0 held1 held : Option (List ℕ)) (old new : LinesView) (s : Sofar loaded present made budget left0 left1 held0 held1 old) (request : Request)
-    (a : HasAsked left0 left budget old new s.lines request) (reply : List ℕ) (next : Option Version) (replies : RepliesToRequest present request reply next) where
+module _ (loaded present : Version) (made : List Version) (kept : Batch) (budget : ℕ) (left0 left1 left held0 held1 held : Option (List ℕ)) (old new : LinesView) (s : Sofar loaded present made kept budget left0 left1 held0 held1 old) (request : Request)
+    (a : HasAsked left0 left budget old new s.lines request) (reply : List ℕ) (next : Option Version) (leaves : Batch) (replies : RepliesToRequest present kept request reply next leaves) where
   says_more : Say new.ended (s.lines ++ a.more) (s.orders ++ a.order ∷ [])
   says_more ended more later last orders =
       let inner = a.says ended more later last orders in
@@ -137,43 +143,49 @@ module _ (loaded present : Version) (made : List Version) (budget : ℕ) (left0 
       subst (λ (l : List (List ℕ)). AreOrders ended l ((s.orders ++ a.order ∷ []) ++ later)) (sym (append_assoc s.lines a.more more))
       (subst (λ (l : List Order). AreOrders ended (s.lines ++ (a.more ++ more)) l) (sym (append_assoc s.orders (a.order ∷ []) later)) outer)
 
-  replies_more : AreRepliesSofar loaded (s.orders ++ a.order ∷ []) (s.replies ++ reply) (made ++ option_to_list next) (unwrap_or next present)
-  replies_more later rest more h =
-      let inner : AreReplies all_readers rows present (a.order ∷ later) (reply ++ rest) (option_to_list next ++ more) = (reply, rest, next, more, refl, refl, a.is_for present reply next replies, h) in
-      let outer = s.are_replies (a.order ∷ later) (reply ++ rest) (option_to_list next ++ more) inner in
-      subst (λ (l : List Order). AreReplies all_readers rows loaded l ((s.replies ++ reply) ++ rest) ((made ++ option_to_list next) ++ more)) (sym (append_assoc s.orders (a.order ∷ []) later))
-      (subst (λ (l : List ℕ). AreReplies all_readers rows loaded (s.orders ++ (a.order ∷ later)) l ((made ++ option_to_list next) ++ more)) (sym (append_assoc s.replies reply rest))
-      (subst (λ (l : List Version). AreReplies all_readers rows loaded (s.orders ++ (a.order ∷ later)) (s.replies ++ (reply ++ rest)) l) (sym (append_assoc made (option_to_list next) more)) outer))
+  -- as a reply to the order
+  meant : (batch : Batch) × (leaves ≡ kept_batch batch) × RepliesToOrder all_readers rows present s.batch a.order reply next batch
+  meant = a.is_for present s.batch reply next leaves (subst (λ (b : Batch). RepliesToRequest present b request reply next leaves) s.kept_is replies)
 
-  pub sofar_more : Appends held1 held reply → Sofar loaded (unwrap_or next present) (made ++ option_to_list next) budget left0 left held0 held new
+  replies_more : AreRepliesSofar loaded (s.orders ++ a.order ∷ []) (s.replies ++ reply) (made ++ option_to_list next) (unwrap_or next present) meant.0
+  replies_more later rest more h =
+      let inner : AreReplies all_readers rows present s.batch (a.order ∷ later) (reply ++ rest) (option_to_list next ++ more) = (reply, rest, next, meant.0, more, refl, refl, meant.2, h) in
+      let outer = s.are_replies (a.order ∷ later) (reply ++ rest) (option_to_list next ++ more) inner in
+      subst (λ (l : List Order). AreReplies all_readers rows loaded no_batch l ((s.replies ++ reply) ++ rest) ((made ++ option_to_list next) ++ more)) (sym (append_assoc s.orders (a.order ∷ []) later))
+      (subst (λ (l : List ℕ). AreReplies all_readers rows loaded no_batch (s.orders ++ (a.order ∷ later)) l ((made ++ option_to_list next) ++ more)) (sym (append_assoc s.replies reply rest))
+      (subst (λ (l : List Version). AreReplies all_readers rows loaded no_batch (s.orders ++ (a.order ∷ later)) (s.replies ++ (reply ++ rest)) l) (sym (append_assoc made (option_to_list next) more)) outer))
+
+  pub sofar_more : Appends held1 held reply → Sofar loaded (unwrap_or next present) (made ++ option_to_list next) leaves budget left0 left held0 held new
   sofar_more appended = record {
     lines = s.lines ++ a.more;
     orders = s.orders ++ a.order ∷ [];
     names = s.names;
     replies = s.replies ++ reply;
+    batch = meant.0;
     heard = a.heard_all;
     says = says_more;
     are_names = s.are_names;
     are_replies = replies_more;
+    kept_is = meant.1;
     appended = subst (λ (l : List ℕ). Appends held0 held l) (append_assoc (accepted_line loaded.number s.names) s.replies reply)
         (appends_more held0 held1 held (accepted_line loaded.number s.names ++ s.replies) reply s.appended appended);
   }
 
 -- the reply failed
-pub failed_more : (loaded present : Version) (made : List Version) (budget : ℕ) (left0 left1 left held0 held1 held : Option (List ℕ)) (old new : LinesView) (s : Sofar loaded present made budget left0 left1 held0 held1 old) (request : Request)
-    → HasAsked left0 left budget old new s.lines request → (reply : List ℕ) (next : Option Version) → RepliesToRequest present request reply next
+pub failed_more : (loaded present : Version) (made : List Version) (kept : Batch) (budget : ℕ) (left0 left1 left held0 held1 held : Option (List ℕ)) (old new : LinesView) (s : Sofar loaded present made kept budget left0 left1 held0 held1 old) (request : Request)
+    → HasAsked left0 left budget old new s.lines request → (reply : List ℕ) (next : Option Version) (leaves : Batch) → RepliesToRequest present kept request reply next leaves
     → (front rest : List ℕ) → reply ≡ front ++ rest → Appends held1 held front → HasEdited loaded (loaded ∷ made ++ option_to_list next) budget left0 left held0 held WriteFailed
 unfolding untold sofar_more
-failed_more loaded present made budget left0 left1 left held0 held1 held old new s request a reply next replies front rest is appended =
+failed_more loaded present made kept budget left0 left1 left held0 held1 held old new s request a reply next leaves replies front rest is appended =
     let first = accepted_line loaded.number s.names in
-    let grown = sofar_more loaded present made budget left0 left1 left None None None old new (untold loaded present made budget left0 left1 held0 held1 old s) request a reply next replies tt in
-    cut_short loaded (unwrap_or next present) (made ++ option_to_list next) budget left0 left None None new grown held0 held ((first ++ s.replies) ++ front) rest
+    let grown = sofar_more loaded present made kept budget left0 left1 left None None None old new (untold loaded present made kept budget left0 left1 held0 held1 old s) request a reply next leaves replies tt in
+    cut_short loaded (unwrap_or next present) (made ++ option_to_list next) leaves budget left0 left None None new grown held0 held ((first ++ s.replies) ++ front) rest
     (sym (append_assoc first s.replies reply) ∙ ap (λ (l : List ℕ). (first ++ s.replies) ++ l) is ∙ sym (append_assoc (first ++ s.replies) front rest))
     (appends_more held0 held1 held (first ++ s.replies) front s.appended appended)
 
 -- ---- the end of it all
 
-module _ (loaded present : Version) (made : List Version) (budget : ℕ) (left0 left1 left held0 held : Option (List ℕ)) (old new : LinesView) (s : Sofar loaded present made budget left0 left1 held0 held old) where
+module _ (loaded present : Version) (made : List Version) (kept : Batch) (budget : ℕ) (left0 left1 left held0 held : Option (List ℕ)) (old new : LinesView) (s : Sofar loaded present made kept budget left0 left1 held0 held old) where
   hears : (more : List (List ℕ)) (read : HasRead left0 left budget new (s.lines ++ more)) → ((new.ended ≡ true) ⊎ (IsSettled new × EndsByCommand more)) → (closed : Bool) → new.ended ≡ closed → HearsAll left read.taken (s.lines ++ more)
   hears more read last true is = let ends = read.ends is in to_end ends.3 ends.0
   hears more read (inl closed) false is = let both : true ≡ false = sym closed ∙ is in absurd (cc)
@@ -192,7 +204,7 @@ module _ (loaded present : Version) (made : List Version) (budget : ℕ) (left0 
       → Edits loaded false (raw_lines false read.taken) (accepted_line loaded.number s.names ++ s.replies) (loaded ∷ made)
   so_far more read orders going failed =
       subst (λ (l : List (List ℕ)). Edits loaded false l (accepted_line loaded.number s.names ++ s.replies) (loaded ∷ made)) (sym (all_read left0 left budget new (s.lines ++ more) read failed))
-      (edits loaded present made budget left0 left1 held0 held old s false more (not_closed more going) orders)
+      (edits loaded present made kept budget left0 left1 held0 held old s false more (not_closed more going) orders)
 
   pub ended : (ending : Ending) → HasEnded left0 left budget old new s.lines ending → HasEdited loaded (loaded ∷ made) budget left0 left held0 held ending
   ended Finished e = record {
@@ -200,7 +212,7 @@ module _ (loaded present : Version) (made : List Version) (budget : ℕ) (left0 
     written = accepted_line loaded.number s.names ++ s.replies;
     consumed = e.read.consumed;
     appended = s.appended;
-    output = (s.lines ++ e.more, hears e.more e.read e.last.2 new.ended refl, edits loaded present made budget left0 left1 held0 held old s true e.more (λ closed. (refl, e.last.1 closed)) e.last.0);
+    output = (s.lines ++ e.more, hears e.more e.read e.last.2 new.ended refl, edits loaded present made kept budget left0 left1 held0 held old s true e.more (λ closed. (refl, e.last.1 closed)) e.last.0);
     spends = λ (is : Finished ≡ Spent). cc;
   }
   ended WriteFailed e = absurd e.last
@@ -227,26 +239,27 @@ appended_all : {T E : Type 0} (held1 held : Option (List ℕ)) (reply : List ℕ
 appended_all held1 held reply v w = subst (λ (l : List ℕ). Appends held1 held l) (sym (w.whole ∙ ap (λ (l : List ℕ). w.front ++ l) w.all ∙ append-nil w.front)) w.appended
 
 -- of a fact of the present version, and of two of all versions: one that holds where the answering goes on, and one that holds always
-pub turned : {T E : Type 0} (Stand : Version → Type 0) (Shown Standing : List Version → Type 0) (loaded present : Version) (made : List Version) (budget : ℕ) (left0 left1 left held0 held1 held : Option (List ℕ)) (old new : LinesView)
-    (s : Sofar loaded present made budget left0 left1 held0 held1 old) (request : Request) → HasAsked left0 left budget old new s.lines request → (reply : List ℕ) (next : Option Version) → RepliesToRequest present request reply next
+pub turned : {T E : Type 0} (Stand : Version → Type 0) (Shown Standing : List Version → Type 0) (loaded present : Version) (made : List Version) (kept : Batch) (budget : ℕ) (left0 left1 left held0 held1 held : Option (List ℕ)) (old new : LinesView)
+    (s : Sofar loaded present made kept budget left0 left1 held0 held1 old) (request : Request) → HasAsked left0 left budget old new s.lines request → (reply : List ℕ) (next : Option Version) (leaves : Batch) → RepliesToRequest present kept request reply next leaves
     → Stand (unwrap_or next present) → Shown (loaded ∷ made ++ option_to_list next) → Standing (loaded ∷ made ++ option_to_list next)
     → (r : Result T E) (o : Option Ending) → o ≡ (if is_ok r then None else Some WriteFailed) → WritesAll held1 held reply r
-    → MatchOption o ((later : Version) × (all : List Version) × Stand later × Shown (loaded ∷ all) × Sofar loaded later all budget left0 left held0 held new)
+    → MatchOption o ((later : Version) × (all : List Version) × Stand later × Shown (loaded ∷ all) × Sofar loaded later all leaves budget left0 left held0 held new)
     (λ ending. (all : List Version) × Standing (loaded ∷ all) × HasEdited loaded (loaded ∷ all) budget left0 left held0 held ending)
-turned {T} {E} Stand Shown Standing loaded present made budget left0 left1 left held0 held1 held old new s request a reply next replies stand shown standing (Ok v) o is w =
-    subst (λ (o : Option Ending). MatchOption o ((later : Version) × (all : List Version) × Stand later × Shown (loaded ∷ all) × Sofar loaded later all budget left0 left held0 held new)
+turned {T} {E} Stand Shown Standing loaded present made kept budget left0 left1 left held0 held1 held old new s request a reply next leaves replies stand shown standing (Ok v) o is w =
+    subst (λ (o : Option Ending). MatchOption o ((later : Version) × (all : List Version) × Stand later × Shown (loaded ∷ all) × Sofar loaded later all leaves budget left0 left held0 held new)
     (λ ending. (all : List Version) × Standing (loaded ∷ all) × HasEdited loaded (loaded ∷ all) budget left0 left held0 held ending)) (sym is)
-    (unwrap_or next present, made ++ option_to_list next, stand, shown, sofar_more loaded present made budget left0 left1 left held0 held1 held old new s request a reply next replies (appended_all held1 held reply v w))
-turned {T} {E} Stand Shown Standing loaded present made budget left0 left1 left held0 held1 held old new s request a reply next replies stand shown standing (Err e) o is w =
-    subst (λ (o : Option Ending). MatchOption o ((later : Version) × (all : List Version) × Stand later × Shown (loaded ∷ all) × Sofar loaded later all budget left0 left held0 held new)
+    (unwrap_or next present, made ++ option_to_list next, stand, shown, sofar_more loaded present made kept budget left0 left1 left held0 held1 held old new s request a reply next leaves replies (appended_all held1 held reply v w))
+turned {T} {E} Stand Shown Standing loaded present made kept budget left0 left1 left held0 held1 held old new s request a reply next leaves replies stand shown standing (Err e) o is w =
+    subst (λ (o : Option Ending). MatchOption o ((later : Version) × (all : List Version) × Stand later × Shown (loaded ∷ all) × Sofar loaded later all leaves budget left0 left held0 held new)
     (λ ending. (all : List Version) × Standing (loaded ∷ all) × HasEdited loaded (loaded ∷ all) budget left0 left held0 held ending)) (sym is)
-    (made ++ option_to_list next, standing, failed_more loaded present made budget left0 left1 left held0 held1 held old new s request a reply next replies w.front w.rest w.whole w.appended)
+    (made ++ option_to_list next, standing, failed_more loaded present made kept budget left0 left1 left held0 held1 held old new s request a reply next leaves replies w.front w.rest w.whole w.appended)
 
 -- the first line, by whether it was written
-pub started : {T E : Type 0} (loaded : Version) (names : List (List ℕ)) (budget : ℕ) (left held1 held : Option (List ℕ)) (reader : LinesView) (bytes : List ℕ) (v : T) → reader ≡ at_start budget → AreNames (Defines loaded.project) names
-    → bytes ≡ accepted_line loaded.number names → WritesAll {T = T} {E = E} held1 held bytes (Ok v) → Sofar loaded loaded [] budget left left held1 held reader
-started {T} {E} loaded names budget left held1 held reader bytes v start are_names is w =
-    sofar_start loaded names budget left held1 held reader start are_names (subst (λ (l : List ℕ). Appends held1 held l) is (appended_all {T = T} {E = E} held1 held bytes v w))
+pub started : {T E : Type 0} (loaded : Version) (names : List (List ℕ)) (kept : Batch) (budget : ℕ) (left held1 held : Option (List ℕ)) (reader : LinesView) (bytes : List ℕ) (v : T) → reader ≡ at_start budget → kept ≡ no_batch
+    → AreNames (Defines loaded.project) names → bytes ≡ accepted_line loaded.number names → WritesAll {T = T} {E = E} held1 held bytes (Ok v) → Sofar loaded loaded [] kept budget left left held1 held reader
+started {T} {E} loaded names kept budget left held1 held reader bytes v start nothing are_names is w =
+    subst (λ (b : Batch). Sofar loaded loaded [] b budget left left held1 held reader) (sym nothing)
+    (sofar_start loaded names budget left held1 held reader start are_names (subst (λ (l : List ℕ). Appends held1 held l) is (appended_all {T = T} {E = E} held1 held bytes v w)))
 
 pub not_started : {T E : Type 0} (loaded : Version) (names : List (List ℕ)) (budget : ℕ) (left held1 held : Option (List ℕ)) (reader : LinesView) (bytes : List ℕ) (e : E) → reader ≡ at_start budget → AreNames (Defines loaded.project) names
     → bytes ≡ accepted_line loaded.number names → WritesAll {T = T} {E = E} held1 held bytes (Err e) → HasEdited loaded (loaded ∷ []) budget left left held1 held WriteFailed

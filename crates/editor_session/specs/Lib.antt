@@ -1,4 +1,5 @@
 pub mod Sessions
+pub mod Keeping
 pub mod Replying
 pub mod Reading
 pub mod Running

@@ -7,15 +7,16 @@ use Rattle.fsm_io.specs.Taking.{filled}
 use Rattle.project_sources.specs.Edits.{Version}
 use Rattle.project_sources.specs.Faults.{rows}
 use Rattle.project_sources.specs.Laws.{all_readers}
-use Rattle.project_sources.specs.Limits.{most_bytes}
 use Rattle.edit_script.specs.Commands.{IsCommand, lines_behind}
 use Rattle.edit_script.specs.declared.commands.EditCommand.{EditCommand}
 use Rattle.edit_script.specs.declared.commands.EditCommand.TheVariants as commands
 use Rattle.reply_meaning.specs.Replies.{line_of}
 use Rattle.reply_meaning.specs.declared.ending.Ending.{Ending}
 use Rattle.reply_meaning.specs.declared.ending.Ending.TheVariants.{Finished, WriteFailed, ReadFailed, Spent}
+use Rattle.editor_meaning.specs.Batches.{Batch}
 use Rattle.editor_meaning.specs.Orders.{AreOrders, Order, whole}
 use Rattle.editor_meaning.specs.Editing.{RepliesToOrder, content_of}
+use Rattle.editor_session.specs.Keeping.{kept_batch}
 use Rattle.editor_session.specs.Replying.{IsShort, RepliesToRequest}
 use Rattle.editor_session.specs.Sessions.{EndsByCommand}
 use Rattle.editor_session.specs.declared.payload.Payload.{Payload}
@@ -25,10 +26,6 @@ use Rattle.editor_session.specs.declared.request.Next.{Next}
 use Rattle.editor_session.specs.declared.request.Next.TheVariants.{Asks, Ends}
 use Rattle.editor_session.specs.declared.request.Request.{Request}
 use Rattle.editor_session.specs.declared.request.Request.TheVariants as wanted
-
--- the most bytes that are kept of the lines that follow a command: one more than a file may have
-unfoldable pub most_kept : ℕ
-most_kept = most_bytes + 1
 
 -- nothing was read of a further line
 pub record IsSettled (reader : LinesView) : Type 0 where
@@ -77,9 +74,11 @@ pub record HasTaken (left0 left : Option (List ℕ)) (budget : ℕ) (reader : Li
 
 -- ---- a command
 
--- each reply to the request is one to the order
+-- each reply to the request is one to the order, where a batch is kept
 abbrev pub IsFor : Order → Request → Type 0
-IsFor order request = (present : Version) (reply : List ℕ) (new : Option Version) → RepliesToRequest present request reply new → RepliesToOrder all_readers rows present order reply new
+IsFor order request =
+    (present : Version) (batch : Batch) (reply : List ℕ) (new : Option Version) (kept : Batch) → RepliesToRequest present (kept_batch batch) request reply new kept
+    → (next : Batch) × (kept ≡ kept_batch next) × RepliesToOrder all_readers rows present batch order reply new next
 
 -- what a command with all its lines asks for
 pub data IsAsked (command : EditCommand) (more : List (List ℕ)) : Next → Type 0 where
@@ -155,4 +154,7 @@ IsShortCommand (commands.Splice file from count lines) = ⊤
 IsShortCommand (commands.Drop file) = ⊤
 IsShortCommand (commands.Up net word) = length word ≤ most_line
 IsShortCommand (commands.Down net word) = length word ≤ most_line
+IsShortCommand commands.Begin = ⊤
+IsShortCommand commands.Commit = ⊤
+IsShortCommand commands.Abandon = ⊤
 IsShortCommand commands.End = ⊤

@@ -5,6 +5,7 @@ ghost use Rattle.project_sources.specs.Edits.{Version as Meant};
 ghost use Rattle.project_versions.specs.Versions.{Stands};
 ghost use Rattle.reply_meaning.specs.declared.ending.Ending.{Ending as Ended};
 
+use crate::batches::Batch;
 use crate::seating::{lines_for, sit_all};
 use crate::session::{EditorSession, loaded_line};
 use crate::working::work_all;
@@ -59,6 +60,10 @@ pub fn serve<
     let rows = lines_for(alloc, lanes.len(), budget)?;
     let (editor, seats) = open(rt, alloc, first, lanes.len().max(1))?;
     sit_all(lanes, seats, rows);
-    let session = EditorSession { version, lines };
+    let session = EditorSession {
+        version,
+        batch: Batch::NoBatch,
+        lines,
+    };
     Ok(work_all(rt, alloc, &line, editor, session, input, output, lanes))
 }

@@ -1,9 +1,10 @@
 ghost use Rattle.std.specs.Prelude.{◌≡◌, ◌≢◌, ◌≤◌, ◌<◌, ℕ, List, Option, length, take};
 ghost use Rattle.editor_meaning.specs.Editing.{content_of};
-ghost use Rattle.edit_script.specs.Commands.{HasKind, lines_behind};
+ghost use Rattle.edit_script.specs.Commands.{HasKind, HasTexts, lines_behind};
 ghost use Rattle.fsm_io.specs.Causes.{Rose};
 ghost use Rattle.fsm_io.specs.Reading.{LinesView, size_of};
-ghost use Rattle.editor_session.specs.Reading.{HasFollowed, HasHeard, HasNext, HasObeyed, IsAsked, IsGoing, IsShortCommand, IsShortNext, most_kept};
+ghost use Rattle.editor_session.specs.Keeping.{most_kept};
+ghost use Rattle.editor_session.specs.Reading.{HasFollowed, HasHeard, HasNext, HasObeyed, IsAsked, IsGoing, IsShortCommand, IsShortNext};
 
 use crate::payload::{Payload, take_lines};
 use edit_script::{
@@ -35,6 +36,12 @@ pub enum Request {
         /// The word.
         word: Text,
     },
+    /// A batch is to begin.
+    Begin,
+    /// The edits of the batch are to be one change.
+    Commit,
+    /// The batch is to be dropped.
+    Abandon,
     /// A line in no form.
     Bad,
     /// A command behind which the input ended before its lines.
@@ -85,6 +92,9 @@ fn asked(command: EditCommand, bytes: Vec<u8>) -> Next
             net,
             word,
         }),
+        EditCommand::Begin => Next::Asks(Request::Begin),
+        EditCommand::Commit => Next::Asks(Request::Commit),
+        EditCommand::Abandon => Next::Asks(Request::Abandon),
         EditCommand::End => Next::Ends(Ending::Finished),
     }
 }
@@ -129,6 +139,7 @@ fn unkept_edit<I: Source>(alloc: Global, lines: &mut Lines, input: &mut I) -> Ne
 
 /// Goes on behind a command for whose texts there was no memory.
 fn unkept<I: Source>(alloc: Global, lines: &mut Lines, input: &mut I) -> Next
+    requires texts { HasTexts lines.old.text }
     ensures short { IsShortNext result }
     ensures followed { (left0 : Option (List ℕ)) (budget : ℕ) (heard : List (List ℕ)) → HasHeard left0 (I.left input.old) budget lines.old heard
         → HasFollowed left0 (I.left input.new) budget lines.new heard lines.old.text result }
@@ -140,8 +151,8 @@ fn unkept<I: Source>(alloc: Global, lines: &mut Lines, input: &mut I) -> Next
     match command_kind(lines.text()) {
         Some(CommandKind::Edit) => unkept_edit(alloc, lines, input),
         Some(CommandKind::LookUp) => Next::Asks(Request::UnkeptLookUp),
-        Some(CommandKind::End) => Next::Ends(Ending::Finished),
-        None => Next::Asks(Request::Bad),
+        Some(CommandKind::Word) => unreachable!(),
+        None => unreachable!(),
     }
 }
 

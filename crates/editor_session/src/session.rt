@@ -4,10 +4,13 @@ ghost use Rattle.fsm_io.specs.Causes.{Rose};
 ghost use Rattle.fsm_io.specs.Reading.{at_start, size_of};
 ghost use Rattle.project_sources.specs.Edits.{Version as Meant};
 ghost use Rattle.project_versions.specs.Versions.{Stands};
+ghost use Rattle.editor_meaning.specs.Batches.{no_batch};
+ghost use Rattle.editor_session.specs.Keeping.{batch_of};
 ghost use Rattle.editor_session.specs.Sessions.{HasEdited};
 ghost use Rattle.editor_session.specs.Publishing.{ArePublished, AreStanding};
 ghost use Rattle.editor_session.specs.Running.{IsLoadedLine, Sofar};
 
+use crate::batches::Batch;
 use crate::reply::reply_to;
 use crate::request::{Next, next_request};
 use fsm_io::{Failed, Lines, Sink, Source, write_all};
@@ -28,11 +31,13 @@ fn ending_of(written: Result<(), Failed>) -> Option<Ending>
     }
 }
 
-/// An editor's session: its present version, which is the last one that is published, and the lines of its input.
+/// An editor's session: its present version, which is the last one that is published, its batch, and the lines of its input.
 #[derive(Drop)]
 pub struct EditorSession {
     /// The present version.
     pub version: Arc<Version>,
+    /// The batch.
+    pub batch: Batch,
     /// The lines of the input.
     pub lines: Lines,
 }
@@ -49,9 +54,9 @@ impl EditorSession {
     ) -> Option<Ending>
         requires number { (arc_value self.old.version).number ≡ length editor.old.values }
         ensures turns { (loaded present : Meant) (made : List Meant) (budget : ℕ) (left0 held0 : Option (List ℕ)) → Stands (arc_value self.old.version) present → ArePublished editor.old.values (loaded ∷ made) (arc_value self.old.version)
-            → Sofar loaded present made budget left0 (I.left input.old) held0 (O.held output.old) self.old.lines
+            → Sofar loaded present made (batch_of self.old.batch) budget left0 (I.left input.old) held0 (O.held output.old) self.old.lines
             → MatchOption result
-            ((next : Meant) × (all : List Meant) × Stands (arc_value self.new.version) next × ArePublished editor.new.values (loaded ∷ all) (arc_value self.new.version) × Sofar loaded next all budget left0 (I.left input.new) held0 (O.held output.new) self.new.lines)
+            ((next : Meant) × (all : List Meant) × Stands (arc_value self.new.version) next × ArePublished editor.new.values (loaded ∷ all) (arc_value self.new.version) × Sofar loaded next all (batch_of self.new.batch) budget left0 (I.left input.new) held0 (O.held output.new) self.new.lines)
             (λ ending. (all : List Meant) × AreStanding editor.new.values (loaded ∷ all) × HasEdited loaded (loaded ∷ all) budget left0 (I.left input.new) held0 (O.held output.new) ending) }
         ensures board { editor.new.board ≡ editor.old.board }
         ensures number { (arc_value self.new.version).number ≡ length editor.new.values }
@@ -63,7 +68,14 @@ impl EditorSession {
     {
         match next_request(alloc, &mut self.lines, input) {
             Next::Asks(request) => {
-                let reply = reply_to(rt, alloc, editor, &mut self.version, &request);
+                let reply = reply_to(
+                    rt,
+                    alloc,
+                    editor,
+                    &mut self.version,
+                    &mut self.batch,
+                    request,
+                );
                 ending_of(reply.write(output))
             }
             Next::Ends(ending) => Some(ending),
@@ -81,7 +93,7 @@ impl EditorSession {
     ) -> Ending
         requires number { (arc_value self.old.version).number ≡ length editor.old.values }
         ensures edited { (loaded present : Meant) (made : List Meant) (budget : ℕ) (left0 held0 : Option (List ℕ)) → Stands (arc_value self.old.version) present → ArePublished editor.old.values (loaded ∷ made) (arc_value self.old.version)
-            → Sofar loaded present made budget left0 (I.left input.old) held0 (O.held output.old) self.old.lines
+            → Sofar loaded present made (batch_of self.old.batch) budget left0 (I.left input.old) held0 (O.held output.old) self.old.lines
             → (all : List Meant) × AreStanding editor.new.values (loaded ∷ all) × HasEdited loaded (loaded ∷ all) budget left0 (I.left input.new) held0 (O.held output.new) result }
         ensures board { editor.new.board ≡ editor.old.board }
         ensures read { result ≡ Ending.ReadFailed → Rose (I.faults input.old) (I.faults input.new) }
@@ -97,8 +109,8 @@ impl EditorSession {
     }
 
     /// Writes the first line, which says that the version is loaded, and answers the commands of the input, one after another,
-    /// until `end` or the end of the input. Each accepted edit is published before its reply is written, and each reply is written
-    /// before the next command is read. After a failed write no further command is read. It may wait as the editor does.
+    /// until `end` or the end of the input, which drop a batch without a reply. Each accepted change is published before its reply is
+    /// written, and each reply is written before the next command is read. After a failed write no further command is read. It may wait as the editor does.
     pub fn answer<I: Source, O: Sink, R: Wait>(
         &mut self,
         rt: &R,
@@ -109,6 +121,7 @@ impl EditorSession {
         output: &mut O,
     ) -> Ending
         requires start { self.old.lines ≡ at_start self.old.lines.budget }
+        requires batch { batch_of self.old.batch ≡ no_batch }
         requires number { (arc_value self.old.version).number ≡ length editor.old.values }
         ensures edited { (loaded : Meant) → ArePublished editor.old.values (loaded ∷ []) (arc_value self.old.version) → IsLoadedLine loaded line.now
             → (made : List Meant) × AreStanding editor.new.values (loaded ∷ made) × HasEdited loaded (loaded ∷ made) self.old.lines.budget (I.left input.old) (I.left input.new) (O.held output.old) (O.held output.new) result }

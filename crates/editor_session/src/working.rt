@@ -1,5 +1,7 @@
 ghost use Rattle.std.specs.Prelude.{◌≡◌, ◌<◌, ◌∷◌, [], ℕ, List, Some, length, slice_index_or};
 ghost use Rattle.std.specs.Arc.{arc_value};
+ghost use Rattle.editor_meaning.specs.Batches.{no_batch};
+ghost use Rattle.editor_session.specs.Keeping.{batch_of};
 ghost use Rattle.editor_session.specs.Publishing.{ArePublished, AreStanding};
 ghost use Rattle.editor_session.specs.Running.{IsLoadedLine};
 ghost use Rattle.editor_session.specs.Sessions.{HasEdited};
@@ -44,6 +46,7 @@ fn work<
     lanes: &mut [Lane<S, K>],
 ) -> Ending
     requires start { session.old.lines ≡ at_start session.old.lines.budget }
+    requires batch { batch_of session.old.batch ≡ no_batch }
     requires number { (arc_value session.old.version).number ≡ length editor.old.values }
     ensures edited { (loaded : Meant) → ArePublished editor.old.values (loaded ∷ []) (arc_value session.old.version) → IsLoadedLine loaded line.now
         → (made : List Meant) × AreStanding editor.new.values (loaded ∷ made) × HasEdited loaded (loaded ∷ made) session.old.lines.budget (I.left input.old) (I.left input.new) (O.held output.old) (O.held output.new) result }
@@ -56,6 +59,7 @@ fn work<
         rt,
         &mut ||
             requires start { session.now.lines ≡ at_start session.now.lines.budget }
+            requires batch { batch_of session.now.batch ≡ no_batch }
             requires number { (arc_value session.now.version).number ≡ length editor.now.values }
             ensures edited { (loaded : Meant) → ArePublished editor.entry.now.values (loaded ∷ []) (arc_value session.entry.now.version) → IsLoadedLine loaded line.entry.now
                 → (made : List Meant) × AreStanding editor.exit.now.values (loaded ∷ made) × HasEdited loaded (loaded ∷ made) session.entry.now.lines.budget (I.left input.entry.now) (I.left input.exit.now) (O.held output.entry.now) (O.held output.exit.now) result }
@@ -100,6 +104,7 @@ pub fn work_all<
     lanes: &mut [Lane<S, K>],
 ) -> Ending
     requires start { session.lines ≡ at_start session.lines.budget }
+    requires batch { batch_of session.batch ≡ no_batch }
     requires number { (arc_value session.version).number ≡ length editor.values }
     requires begun { AreBegun (seated editor.board editor.values 0) session.lines.budget lanes.old }
     ensures live { (loaded : Meant) → ArePublished editor.values (loaded ∷ []) (arc_value session.version) → IsLoadedLine loaded line.now

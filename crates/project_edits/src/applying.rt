@@ -1,5 +1,6 @@
+ghost use Rattle.std.specs.Prelude.{◌∷◌, []};
 ghost use Rattle.project_sources.specs.Edits.{drops, put, splice};
-ghost use Rattle.project_edits.specs.Applied.{IsApplied, edit_of};
+ghost use Rattle.project_edits.specs.Applied.{IsApplied, edit_of, edits_of};
 
 use crate::edit::Edit;
 use crate::files::{is_one_too_many, with_file, without_file};
@@ -16,7 +17,7 @@ fn put_file(
     file: &str,
     bytes: &[u8],
 ) -> Result<Sources, PlanError>
-    ensures { IsApplied (put file.now bytes.now) sources.now result }
+    ensures { IsApplied (put file.now bytes.now ∷ []) sources.now result }
 {
     if is_one_too_many(sources, file) {
         return Err(refused(alloc, file, 0, Why::LimitFiles));
@@ -38,7 +39,7 @@ fn splice_file(
     count: u32,
     bytes: &[u8],
 ) -> Result<Sources, PlanError>
-    ensures { IsApplied (splice file.now from count bytes.now) sources.now result }
+    ensures { IsApplied (splice file.now from count bytes.now ∷ []) sources.now result }
 {
     let Some(content) = sources.get(file) else {
         return Err(refused(alloc, file, 0, Why::NoFile));
@@ -54,7 +55,7 @@ fn splice_file(
 
 /// The files without one of them.
 fn drop_file(alloc: Global, sources: &Sources, file: &str) -> Result<Sources, PlanError>
-    ensures { IsApplied (drops file.now) sources.now result }
+    ensures { IsApplied (drops file.now ∷ []) sources.now result }
 {
     if sources.get(file).is_none() {
         return Err(refused(alloc, file, 0, Why::NoFile));
@@ -62,21 +63,9 @@ fn drop_file(alloc: Global, sources: &Sources, file: &str) -> Result<Sources, Pl
     Ok(without_file(sources, file)?)
 }
 
-/// The files after an edit. The contents of the others are shared with those before, so that the time is linear in the file that
-/// is edited and in the number of files.
-///
-/// # Errors
-///
-/// `Refused` with the first fault of the edit, of these in their order, each at the edit's file:
-///
-/// - `NoFile`, where a file that is spliced or dropped isn't there;
-/// - `BadSplice` at the line `from`, where that is 0 or beyond the line behind the last, or lines are replaced that aren't there;
-/// - `LimitFiles`, where a file is put beside 64 others, the manifest not counted;
-/// - `LimitFile`, where the file has more than 1,048,576 bytes then.
-///
-/// `Memory` where there was no memory.
-pub fn apply(alloc: Global, edit: &Edit, sources: &Sources) -> Result<Sources, PlanError>
-    ensures { IsApplied (edit_of edit.now) sources.now result }
+/// The files after one edit.
+fn edited(alloc: Global, edit: &Edit, sources: &Sources) -> Result<Sources, PlanError>
+    ensures { IsApplied (edit_of edit.now ∷ []) sources.now result }
 {
     match edit {
         Edit::Put { file, bytes } => put_file(alloc, sources, file.as_str(), bytes),
@@ -88,4 +77,27 @@ pub fn apply(alloc: Global, edit: &Edit, sources: &Sources) -> Result<Sources, P
         } => splice_file(alloc, sources, file.as_str(), *from, *count, bytes),
         Edit::Drop { file } => drop_file(alloc, sources, file.as_str()),
     }
+}
+
+/// The files after a change: its edits, one after another, each of what the one before has made. The contents of the others are
+/// shared with those before, so that the time is linear in the files that are edited, and for each edit in the number of files.
+///
+/// # Errors
+///
+/// `Refused` with the first fault of the first edit that has one, of these in their order, each at the edit's file:
+///
+/// - `NoFile`, where a file that is spliced or dropped isn't there;
+/// - `BadSplice` at the line `from`, where that is 0 or beyond the line behind the last, or lines are replaced that aren't there;
+/// - `LimitFiles`, where a file is put beside 64 others, the manifest not counted;
+/// - `LimitFile`, where the file has more than 1,048,576 bytes then.
+///
+/// `Memory` where there was no memory.
+pub fn apply(alloc: Global, change: &[Edit], sources: &Sources) -> Result<Sources, PlanError>
+    ensures { IsApplied (edits_of change.now) sources.now result }
+{
+    let mut new = sources.clone()?;
+    'edits: for edit in change {
+        new = edited(alloc, edit, &new)?;
+    }
+    Ok(new)
 }

@@ -1,7 +1,7 @@
--- Why an edit makes no version.
-use Rattle.std.specs.Prelude.{◌<◌, ◌≤◌, [], ◌∷◌, Err}
+-- Why a change makes no version.
+use Rattle.std.specs.Prelude.{◌<◌, ◌≤◌, List, Err}
 use Rattle.editor_meaning.specs.Editing.{most_edits}
-use Rattle.project_edits.specs.Applied.{edit_of}
+use Rattle.project_edits.specs.Applied.{edits_of}
 use Rattle.project_edits.specs.declared.edit.Edit.{Edit}
 use Rattle.project_sources.specs.declared.plan_error.PlanError.{PlanError}
 use Rattle.project_sources.specs.declared.plan_error.PlanError.TheVariants as plans
@@ -21,8 +21,8 @@ abbrev pub of_store_error : StoreError → EditError
 of_store_error (stores.Refused found) = Refused found
 of_store_error (stores.Memory refused) = Memory refused
 
--- so many edits were accepted as may be; or the edit, or the files that it makes, have this first fault; or want of memory
-abbrev pub IsWhyNotEdited : Version → Edit → EditError → Type 0
-IsWhyNotEdited meant edit Full = most_edits < meant.number
-IsWhyNotEdited meant edit (Refused found) = (meant.number ≤ most_edits) × Changes all_readers rows meant (edit_of edit ∷ []) (Err found)
-IsWhyNotEdited meant edit (Memory refused) = Unit {0}
+-- so many changes were accepted as may be; or the change, or the files that it makes, have this first fault; or want of memory
+abbrev pub IsWhyNotEdited : Version → List Edit → EditError → Type 0
+IsWhyNotEdited meant change Full = most_edits < meant.number
+IsWhyNotEdited meant change (Refused found) = (meant.number ≤ most_edits) × Changes all_readers rows meant (edits_of change) (Err found)
+IsWhyNotEdited meant change (Memory refused) = Unit {0}

@@ -4,14 +4,14 @@ use regex_ast::Fault;
 use std::alloc::AllocError;
 use thiserror::Error;
 
-/// Why an edit makes no version.
+/// Why a change makes no version.
 #[derive(Debug, Drop, Error)]
 pub enum EditError {
-    /// As many edits were accepted as may be.
-    #[error("no more edits are accepted")]
+    /// As many changes were accepted as may be.
+    #[error("no more changes are accepted")]
     Full,
-    /// The edit, or the files that it makes, have this first fault.
-    #[error("the edit has a fault")]
+    /// The change, or the files that it makes, have this first fault.
+    #[error("the change has a fault")]
     Refused(Fault),
     /// There was no memory.
     #[error(transparent)]

@@ -1,12 +1,13 @@
-//! Versions of a project: its files with a network for each of its names, and the edits that make one version of another.
+//! Versions of a project: its files with a network for each of its names, and the changes that make one version of another.
 //!
 //! - [`load`]: the first version of sources, or why there is none.
 //! - [`Version`]: its number, its files, its names, and the replies to words and texts in Normalization Form C. A lane is answered
 //!   at it (`specs/Looks.antt`).
 //! - [`reply_to_word`]: the reply to a word as it is written.
-//! - [`edit`]: the next version and the names that are rebuilt, as [`Edited`], or why there is none, an [`EditError`].
+//! - [`edit`]: the next version, which a list of edits makes, and the names that are rebuilt, as [`Edited`]; or why there is none,
+//!   an [`EditError`].
 //!
-//! Inside, `networks` builds the network of each definition, `rebuilt` lists the names that an edit touches, and `looks` answers what
+//! Inside, `networks` builds the network of each definition, `rebuilt` lists the names that a change touches, and `looks` answers what
 //! is asked as it is written, as the lines of a lane.
 #![tactic(auto)]
 

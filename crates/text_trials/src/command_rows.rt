@@ -47,6 +47,9 @@ fn told(alloc: Global, command: &EditCommand) -> Result<String, AllocError> {
         EditCommand::Drop { file } => format!(in alloc; "drop {}", file.as_str()),
         EditCommand::Up { net, word } => said_of_net(alloc, "up", net, word),
         EditCommand::Down { net, word } => said_of_net(alloc, "down", net, word),
+        EditCommand::Begin => String::from_str(alloc, "begin"),
+        EditCommand::Commit => String::from_str(alloc, "commit"),
+        EditCommand::Abandon => String::from_str(alloc, "abandon"),
         EditCommand::End => String::from_str(alloc, "end"),
     }
 }

@@ -1,5 +1,5 @@
 use Rattle.std.proofs.Common.{refl}
-use Rattle.editor_session.proofs.Requests.{asked_down, asked_drop, asked_end, asked_put, asked_splice, asked_up}
+use Rattle.editor_session.proofs.Requests.{asked_abandon, asked_begin, asked_commit, asked_down, asked_drop, asked_end, asked_put, asked_splice, asked_up}
 use Rattle.editor_session.proofs.request.asked.Goals as goal
 
 pub returns-in-Put-clause-asked : goal.returns-in-Put-clause-asked
@@ -19,3 +19,12 @@ returns-in-Down-clause-asked c more len kept = asked_down c.args.command more le
 
 pub returns-in-End-clause-asked : goal.returns-in-End-clause-asked
 returns-in-End-clause-asked c more len kept = asked_end c.args.command more len c.in-End.is
+
+pub returns-in-Begin-clause-asked : goal.returns-in-Begin-clause-asked
+returns-in-Begin-clause-asked c more len kept = asked_begin c.args.command more len c.in-Begin.is
+
+pub returns-in-Commit-clause-asked : goal.returns-in-Commit-clause-asked
+returns-in-Commit-clause-asked c more len kept = asked_commit c.args.command more len c.in-Commit.is
+
+pub returns-in-Abandon-clause-asked : goal.returns-in-Abandon-clause-asked
+returns-in-Abandon-clause-asked c more len kept = asked_abandon c.args.command more len c.in-Abandon.is

@@ -1,7 +1,7 @@
 use Rattle.std.proofs.Common.{ℕ, List, subst}
 use Rattle.edit_script.specs.Commands.{HasKind}
 use Rattle.edit_script.specs.declared.commands.CommandKind.{CommandKind}
-use Rattle.editor_session.proofs.Requests.{followed_end, followed_look_up, followed_none}
+use Rattle.editor_session.proofs.Requests.{followed_look_up, no_word}
 use Rattle.editor_session.proofs.request.unkept.Goals as goal
 
 pub returns-in-Some-LookUp-clause-followed : goal.returns-in-Some-LookUp-clause-followed
@@ -9,10 +9,7 @@ returns-in-Some-LookUp-clause-followed g c left0 budget heard h =
     followed_look_up left0 _ budget _ heard _ h
     (subst (λ (k : CommandKind). HasKind c.args.lines.now.text k) c.in-Some-LookUp.field-0-is (subst (λ (l : List ℕ). HasKind l c.in-Some-LookUp.field-0) c.text.ensures c.in-Some-LookUp.ensures))
 
-pub returns-in-Some-End-clause-followed : goal.returns-in-Some-End-clause-followed
-returns-in-Some-End-clause-followed g c left0 budget heard h =
-    followed_end left0 _ budget _ heard _ h
-    (subst (λ (k : CommandKind). HasKind c.args.lines.now.text k) c.in-Some-End.field-0-is (subst (λ (l : List ℕ). HasKind l c.in-Some-End.field-0) c.text.ensures c.in-Some-End.ensures))
-
-pub returns-in-None-clause-followed : goal.returns-in-None-clause-followed
-returns-in-None-clause-followed g c left0 budget heard h = followed_none left0 _ budget _ heard _ h (rw c.text.ensures at c.in-None.ensures)
+pub unreachable-requires : goal.unreachable-requires
+unreachable-requires g c =
+    no_word c.args.lines.now.text c.requires.texts
+    (subst (λ (k : CommandKind). HasKind c.args.lines.now.text k) c.in-Some-Word.field-0-is (subst (λ (l : List ℕ). HasKind l c.in-Some-Word.field-0) c.text.ensures c.in-Some-Word.ensures))
