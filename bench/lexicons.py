@@ -1,7 +1,7 @@
 #!/usr/bin/env python3
 """Compiles lexc lexicons and looks words up in them, beside foma and hfst-lexc where these are installed, on the same source in one run: 20,000
-and 100,000 entries of stems with two endings, and 16,700 entries whose nouns form compounds of at most three parts and take the endings that flags
-of 23 features ask for. Prints the processor seconds and the peak memory of compiling, of the shortest of some runs, with their ratio to ours, and
+and 100,000 entries of stems with two endings; 16,700 entries whose nouns form compounds of at most three parts and take the endings that flags
+of 23 features ask for; and 2,000 and 16,000 stems that set features which endings test behind compounds of any length, with the flags behind the letters or before them, and with two rules composed behind. Prints the processor seconds and the peak memory of compiling, of the shortest of some runs, with their ratio to ours, and
 what a word takes beside `flookup`, which obeys flags.
 
 usage: bench/lexicons.py [PROGRAM]
@@ -66,6 +66,37 @@ def flagged(entries):
     return '\n'.join(lines), lambda dice: ''.join(dice.choices(endings, k=dice.choice([1, 1, 2, 3])))
 
 
+def syllable(dice):
+    return dice.choice('bcdfghjklmnpqrstvwxz') + dice.choice('aeiouyäö') * dice.choice((1, 1, 2)) + (dice.choice('nlrstk') if dice.random() < .4 else '')
+
+
+def crossed(stems, features, before=False):
+    """The text of a lexicon of so many stems, each of which sets three of the features. Endings test one, behind compounds of any length. The flags of
+    a stem stand behind its letters, or before them. Then the words that it has."""
+    dice = random.Random(20261130)
+    flags = ['@%s.F%d%s@' % (kind, feature, '.' + value if value else '') for feature in range(features)
+             for kind, value in (('P', 'A'), ('P', 'B'), ('P', 'C'), ('R', 'A'), ('D', 'B'), ('U', 'C'), ('C', ''))]
+    lines = ['Multichar_Symbols +N +Sg +Pl ' + ' '.join(flags), 'LEXICON Root', 'Stems ;', 'LEXICON Stems']
+    made, endings = [], ['', 'n', 'lla', 'ssa', 'sta', 'in', 't', 'ksi', 'na', 'tta']
+    for _ in range(stems):
+        made.append(''.join(syllable(dice) for _ in range(dice.randint(2, 5))))
+        sets = ''.join('@P.F%d.%s@' % (feature, dice.choice('ABC')) for feature in dice.sample(range(features), min(3, features)))
+        lines.append('%s Class%d ;' % (sets + made[-1] if before else made[-1] + sets, dice.randint(0, 19)))
+    for number in range(20):
+        lines += ['LEXICON Class%d' % number, '+N:0 Ends%d ;' % dice.randint(0, 9)] + (['-:0 Compound ;'] if number % 2 else [])
+    lines += ['LEXICON Compound'] + ['@D.F%d.B@ Stems ;' % dice.randrange(features) for _ in range(3)]
+    for number in range(10):
+        lines.append('LEXICON Ends%d' % number)
+        for ending_text in endings:
+            flag = '@%s.F%d.%s@' % (dice.choice('RDU'), dice.randrange(features), dice.choice('ABC'))
+            lines.append('%s+Sg:%s%s # ;' % (flag, flag, ending_text or '0'))
+    return '\n'.join(lines + ['END', '']), lambda dice: dice.choice(made) + dice.choice(['', dice.choice(made)]) + dice.choice(endings)
+
+
+# two rules that may stand behind a lexicon
+RULES = 'define Net Lex .o. n -> m || _ p .o. k -> g || a _ a ;\n'
+
+
 def told(name, seconds, memory, ours=None):
     """A line about compiling."""
     line = '%28s %8.3f s %8.1f MiB' % (name, seconds, memory / 2 ** 20)
@@ -80,27 +111,31 @@ def least(*commands):
 
 def main():
     morph, foma = program(sys.argv[1:]), has_foma()
-    sources = [('20,000 entries', *plain(20_000)), ('100,000 entries', *plain(100_000)), ('16,700 with flags', *flagged(16_700))]
-    for name, text, word in sources:
+    sources = [('20,000 entries', *plain(20_000), ''), ('100,000 entries', *plain(100_000), ''), ('16,700 with flags', *flagged(16_700), '')]
+    for stems, features in ((2_000, 8), (2_000, 20), (16_000, 20)):
+        sources.append(('%d stems, %d features tested behind compounds' % (stems, features), *crossed(stems, features), ''))
+    sources.append(('the same 16,000, flags before the letters', *crossed(16_000, 20, before=True), ''))
+    sources.append(('the same 16,000, two rules behind', *crossed(16_000, 20), RULES))
+    for name, text, word, rules in sources:
         with tempfile.TemporaryDirectory() as folder:
-            path = os.path.join(folder, 'n.lexc')
-            for file, content in ((path, text), (os.path.join(folder, 'project'), 'lexc Lex n.lexc\n')):
-                with open(file, 'w') as out:
+            path, net = os.path.join(folder, 'n.lexc'), 'Net' if rules else 'Lex'
+            for file, content in (('n.lexc', text), ('r.xfst', rules), ('project', 'lexc Lex n.lexc\n' + 'xfst r.xfst\n' * bool(rules))):
+                with open(os.path.join(folder, file), 'w', encoding='utf-8') as out:
                     out.write(content)
             dice = random.Random(SEED)
             # a third of the words isn't there, since they are read from their ends
             words = [word(dice)[::1 if number % 3 else -1] for number in range(WORDS)]
             print(name)
             network = os.path.join(folder, 'n.foma')
-            script = 'read lexc %s\nsave stack %s\n' % (path, network)
-            commands = [([morph, 'up', folder, 'Lex'], b''), (['foma', '-p'], script.encode())]
+            script = 'read lexc %s\n%ssave stack %s\n' % (path, 'define Lex\nregex %s' % RULES.partition('Net ')[2] if rules else '', network)
+            commands = [([morph, 'up', folder, net], b''), (['foma', '-p'], script.encode())]
             ours, *others = least(*commands[:1 + foma])
             print(told('morph', *ours), flush=True)
             for other in others:
                 print(told('foma', *other, ours), flush=True)
-            if shutil.which('hfst-lexc'):
+            if shutil.which('hfst-lexc') and not rules:
                 print(told('hfst-lexc', *spent(['hfst-lexc', path, '-o', os.path.join(folder, 'n.hfst')], b'', SECONDS), ours), flush=True)
-            print('%28s %s' % ('morph', of_a_word([morph, 'up', folder, 'Lex'], folder, words)), flush=True)
+            print('%28s %s' % ('morph', of_a_word([morph, 'up', folder, net], folder, words)), flush=True)
             if foma:
                 print('%28s %s' % ('flookup', of_a_word(['flookup', '-b', network], folder, words)), flush=True)
 

@@ -69,9 +69,9 @@ def cascade(chance):
     return 'define N %s ;\n' % ' .o. '.join('[%s]' % rule(chance) for _ in range(chance.randint(1, 5)))
 
 
-def answers(ran, folder, way, words):
+def answers(ran, folder, way, words, net='N'):
     """The replies to the words, without the parts of loops, and the status."""
-    done = subprocess.run([ran, way, folder, 'N'], input='\n'.join(words + ['']).encode(), stdout=subprocess.PIPE, check=False)
+    done = subprocess.run([ran, way, folder, net], input='\n'.join(words + ['']).encode(), stdout=subprocess.PIPE, check=False)
     lines, replies = iter(done.stdout.decode().split('\n')), []
     for line in lines:
         fields = line.split(' ')

@@ -1,7 +1,7 @@
 -- The symbols of a text, and a table that gets them.
-use Rattle.std.proofs.Common.{◌≡◌, ◌⊎◌, ◌+◌, ◌<◌, ◌≤◌, ℕ, Bool, true, false, cond, ◌||◌, List, [], ◌∷◌, ◌++◌, length, Option, Some, None, refl, sym, subst, ap, ◌∙◌, inl, inr, arith, length-append, true≢false}
+use Rattle.std.proofs.Common.{◌≡◌, ◌⊎◌, ◌≤◌, ℕ, Bool, true, false, cond, ◌||◌, List, [], ◌∷◌, ◌++◌, length, Option, Some, None, refl, sym, subst, ap, ◌∙◌, inl, inr, arith, length-append, true≢false}
 use Rattle.std.specs.Prelude.{nat_lt}
-use Rattle.std.specs.List.{list_any, slice_get}
+use Rattle.std.specs.List.{list_any}
 use Rattle.std.specs.Str.{bytes_eq}
 use Rattle.std.proofs.lemmas.Bool.{ltb-false}
 use Rattle.std.proofs.lemmas.List.{append_assoc, append-nil}
@@ -9,8 +9,7 @@ use Rattle.std.proofs.lemmas.List.Folds.{list_any-append}
 use Rattle.std.proofs.lemmas.Slice.Eq.{bytes_eq-Decides}
 use Rattle.fsm_base.specs.Symbols.{with_text}
 use Rattle.regex_tokens.specs.Reading.{is_flag}
-use Rattle.att_text.specs.declared.faults.AttWhy.{AttWhy}
-use Rattle.att_text.specs.declared.faults.AttWhy.TheVariants.{Statement, Flag, OpenSymbol, LimitSymbols}
+use Rattle.att_text.specs.declared.faults.AttWhy.TheVariants.{Flag, OpenSymbol, LimitSymbols}
 use Rattle.att_text.specs.Lines.{Saying, arc, final}
 use Rattle.att_text.specs.Faults.{fault_in, is_open, most_symbols, on_sides, with_said, with_side}
 use Rattle.att_text.specs.Drawing.{Extends, HasRoom, IsBeside}

@@ -1,9 +1,9 @@
 -- A drawing, step by step.
-use Rattle.std.proofs.Common.{◌≡◌, ◌≢◌, ◌⊎◌, ◌+◌, ◌<◌, ◌≤◌, ℕ, zero, suc, Bool, true, false, List, [], ◌∷◌, ◌++◌, length, set, Option, Some, None, refl, sym, subst, ap, ◌∙◌, inl, inr, arith, length-append, length-set}
+use Rattle.std.proofs.Common.{◌≡◌, ◌⊎◌, ◌+◌, ◌<◌, ◌≤◌, ℕ, zero, suc, Bool, true, false, List, [], ◌∷◌, ◌++◌, length, set, Option, Some, None, sym, subst, ap, ◌∙◌, inl, inr, arith, length-append, length-set}
 use Rattle.std.specs.List.{Contains, slice_get}
 use Rattle.std.proofs.lemmas.Bool.{cases_eq}
 use Rattle.std.proofs.lemmas.List.Elements.{Contains-append_left, Contains-push, Contains-push_cases}
-use Rattle.std.proofs.lemmas.Option.{same_Some, slice_get_within}
+use Rattle.std.proofs.lemmas.Option.{slice_get_within}
 use Rattle.word_relations.specs.Words.{IsDistinct}
 use Rattle.word_relations.proofs.Members.{Contains-nil_cases}
 use Rattle.word_relations.proofs.Places.{slice_get-append_left, slice_get-append_cases, slice_get-set_same, slice_get-set_other}

@@ -6,3 +6,5 @@ pub mod Beside
 pub mod Lines
 pub mod Tables
 pub mod Relating
+pub mod Sayable
+pub mod Placed

@@ -1,11 +1,10 @@
 -- What lines say, one after another, and the first fault of them.
 use Rattle.std.proofs.Common.{◌≡◌, ◌+◌, ◌<◌, ◌≤◌, ◌==◌, ◌||◌, ℕ, Bool, true, false, cond, List, [], ◌∷◌, ◌++◌, length, map, Option, Some, None, IfSome, refl, sym, subst, ap, ◌∙◌, arith}
-use Rattle.std.specs.List.{cons_option, filter_map, onto_first, slice_split}
+use Rattle.std.specs.List.{cons_option, filter_map, onto_first}
 use Rattle.std.specs.Option.{option_map}
 use Rattle.std.specs.Str.{bytes_eq}
-use Rattle.std.proofs.lemmas.Bool.{eqb-false, ne_eqb, eq-eqb}
+use Rattle.std.proofs.lemmas.Bool.{eqb-false}
 use Rattle.std.proofs.lemmas.List.{append_assoc, append-nil}
-use Rattle.fsm_base.specs.Symbols.{IsSymbol}
 use Rattle.fsm_base.specs.declared.letters.Pair.{Pair}
 use Rattle.fsa.specs.declared.automaton.Edge.{Edge}
 use Rattle.att_text.specs.declared.faults.AttWhy.{AttWhy}
@@ -13,12 +12,11 @@ use Rattle.att_text.specs.declared.faults.AttError.{AttError}
 use Rattle.att_text.specs.declared.faults.AttError.TheVariants.{Refused, Memory}
 use Rattle.att_text.specs.declared.fields.Said as seen
 use Rattle.att_text.specs.Lines.{Saying, arc, final, arc_between, arc_of, fields_of, final_of, lines_of, no_symbol, said_by, said_in, said_of, side_of, state_of}
-use Rattle.att_text.specs.Faults.{IsWhyRefused, fault_in, fault_of, fault_or, first_fault, line_fault, with_all, with_line, with_said}
+use Rattle.att_text.specs.Faults.{IsWhyRefused, fault_of, fault_or, first_fault, line_fault, with_all, with_line, with_said}
 use Rattle.att_text.specs.Drawing.{Extends, HasSymbols, IsAdded, IsBeside, IsDrawn, IsLineError, MayBeSymbol}
 use Rattle.att_text.specs.Views.{said_seen, HasNo}
 use Rattle.att_text.proofs.Pieces.{field_first, field_alone}
 use Rattle.att_text.proofs.Beside.{beside_none, beside_said, extends_none, extends_then}
-use Rattle.att_text.proofs.Drawn.{drawn_none}
 
 -- the first field of a line
 pub said_behind : (line from behind : List ℕ) → HasNo 9 from → line ≡ from ++ 9 ∷ behind → said_by (from ∷ fields_of behind) ≡ said_of line

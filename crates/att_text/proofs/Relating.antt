@@ -1,15 +1,14 @@
 -- A drawing relates what its lines do.
-use Rattle.std.proofs.Common.{◌≡◌, ◌↔◌, ◌<◌, ℕ, Bool, true, List, Option, Some, Result, Ok, Err, OnOk, length, refl, sym, subst, ap, ◌∙◌, arith}
+use Rattle.std.proofs.Common.{◌≡◌, ◌↔◌, ◌<◌, ℕ, Bool, true, List, Some, Result, Ok, Err, OnOk, length, sym, subst, ◌∙◌, arith}
 use Rattle.std.specs.declared.alloc.AllocError.{AllocError}
 use Rattle.std.specs.List.{Contains, slice_get}
 use Rattle.std.proofs.lemmas.Option.{same_Some, slice_get_within}
-use Rattle.word_relations.proofs.Places.{Contains-from_slice_get, same_at}
+use Rattle.word_relations.proofs.Places.{same_at}
 use Rattle.fsm_base.specs.declared.letters.Pair.{Pair}
 use Rattle.fsa.specs.declared.automaton.Edge.{Edge}
-use Rattle.fsa.specs.Automaton.{Automaton, IsFinal}
 use Rattle.att_text.specs.Lines.{Saying, arc, final}
 use Rattle.att_text.specs.Paths.{HasTextIn, Leads, RelatesTexts}
-use Rattle.att_text.specs.Drawing.{IsDrawn, IsDrawnFor}
+use Rattle.att_text.specs.Drawing.{IsDrawn}
 use Rattle.att_text.proofs.Simulation.{Simulates, relates_same}
 
 module _ (table : List (List ℕ)) (said : List Saying) (states : List ℕ) (edges : List (Edge Pair)) (finals : List Bool) (d : IsDrawn table said states edges finals) where

@@ -1,10 +1,9 @@
 -- A network as it is drawn from lines, one after another. States of the text have places, and those are the states of the network.
-use Rattle.std.specs.Prelude.{◌≡◌, ◌≤◌, ◌<◌, ◌+◌, ⊤, ℕ, List, [], ◌∷◌, ◌++◌, Bool, true, Option, None, Some, length, Contains, slice_get}
+use Rattle.std.specs.Prelude.{◌≡◌, ◌≤◌, ◌+◌, ⊤, ℕ, List, [], ◌∷◌, ◌++◌, Bool, true, Option, None, Some, length, Contains, slice_get}
 use Rattle.std.specs.List.{list_any}
 use Rattle.std.specs.Str.{bytes_eq}
 use Rattle.word_relations.specs.Words.{IsDistinct}
 use Rattle.fsm_base.specs.Symbols.{IsSymbol}
-use Rattle.fsm_base.specs.declared.letters.Sym.{Sym}
 use Rattle.fsm_base.specs.declared.letters.Pair.{Pair}
 use Rattle.fsa.specs.declared.automaton.Edge.{Edge}
 use Rattle.att_text.specs.Lines.{Saying, arc, final, said_of}

@@ -2,7 +2,7 @@
 -- read and write). A text is the list of its bytes in UTF-8. An arc line has the fields FROM, TO, UPPER and LOWER, or FROM, TO and one
 -- symbol for both sides; a final line has a state alone. `@0@` is no symbol. Lines have no weights here: the fourth field of a line is
 -- always its lower symbol.
-use Rattle.std.specs.Prelude.{ℕ, ◌==◌, ◌&&◌, ◌||◌, ◌^◌, nat_lt, Bool, true, false, not, cond, List, [], ◌∷◌, length, Option, Some, None, codes, if◌then◌else◌}
+use Rattle.std.specs.Prelude.{ℕ, ◌==◌, ◌&&◌, ◌||◌, ◌^◌, nat_lt, Bool, false, not, cond, List, [], ◌∷◌, length, Option, Some, None, codes, if◌then◌else◌}
 use Rattle.std.specs.List.{slice_split, onto_first, filter_map}
 use Rattle.std.specs.Char.{is_ascii_digit}
 use Rattle.std.specs.Str.{all_ascii_digits, bytes_eq}

@@ -8,7 +8,6 @@ use Rattle.fsm_base.specs.declared.letters.Sym.{Sym}
 use Rattle.fsm_base.specs.declared.letters.Pair.{Pair}
 use Rattle.fsa.specs.Automaton.{Automaton}
 use Rattle.fst_algebra.specs.Relation.{IsRelated}
-use Rattle.fst_algebra.specs.Relations.{UsesUpper, UsesLower}
 use Rattle.att_text.specs.Lines.{Saying, arc, final, said_in}
 
 -- a path leads from the state, and relates these symbols

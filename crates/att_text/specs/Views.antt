@@ -1,5 +1,5 @@
 -- What the program's values stand for.
-use Rattle.std.specs.Prelude.{◌≢◌, ℕ, List, Option, All}
+use Rattle.std.specs.Prelude.{◌≢◌, ℕ, List, All}
 use Rattle.std.specs.Option.{option_map}
 use Rattle.att_text.specs.Lines.{Saying, arc, final}
 use Rattle.att_text.specs.declared.fields.Arc.{Arc}

@@ -1,4 +1,4 @@
-ghost use Rattle.std.specs.Prelude.{◌≡◌, ◌++◌, ◌∷◌, ◌⊎◌, [], Some, IfOk, OnOk, OnErr, length, slice_get};
+ghost use Rattle.std.specs.Prelude.{◌≡◌, ◌<◌, ◌^◌, ◌++◌, ◌∷◌, ◌⊎◌, [], Some, IfOk, OnOk, OnErr, length, slice_get};
 ghost use Rattle.word_relations.specs.Words.{IsDistinct};
 
 use indexmap::IndexSet;
@@ -38,9 +38,18 @@ impl StateTable {
         self.states.len()
     }
 
+    /// The state at a place.
+    pub(crate) fn state_at(&self, place: usize) -> u64
+        requires { place < length self.now }
+        ensures { slice_get self.now place ≡ Some result }
+    {
+        self.states[place]
+    }
+
     /// The place of a state, which is put behind the others where it isn't there.
     pub(crate) fn place_of(&mut self, state: u64) -> Result<usize, AllocError>
         ensures place { IfOk result (λ place. slice_get self.new place ≡ Some state) }
+        ensures small { IfOk result (λ place. place < 2 ^ 64) }
         ensures kept { OnOk result ((self.new ≡ self.old) ⊎ (self.new ≡ self.old ++ state ∷ [])) }
         ensures once { OnOk result (IsDistinct self.new) }
     {

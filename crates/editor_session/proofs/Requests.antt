@@ -180,7 +180,7 @@ module _ (line : List ℕ) where
           record {
             more = line ∷ more;
             read = read;
-            last = (stopped is_last, not_closed, inr (settled, record { before = []; line = line; lines_are = ap (λ (l : List (List ℕ)). line ∷ l) nothing; is_end = is_last }));
+            last = (stopped is_last, not_closed, inr (settled, record { before = []; line = line; orders = []; lines_are = ap (λ (l : List (List ℕ)). line ∷ l) nothing; are_whole = λ ended more later orders. orders; is_end = is_last }));
           }
       obeyed next (cuts few closed settled) = record {
         going = going;

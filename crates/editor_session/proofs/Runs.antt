@@ -21,7 +21,7 @@ use Rattle.editor_session.specs.Keeping.{kept_batch}
 use Rattle.editor_session.specs.Reading.{HasAsked, HasEnded, HasFailed, HasHeard, IsSettled, Say}
 use Rattle.editor_session.specs.Replying.{RepliesToRequest}
 use Rattle.editor_session.specs.Running.{AreRepliesSofar, Sofar}
-use Rattle.editor_session.specs.Sessions.{Edits, EndsByCommand, HasEdited, HearsAll, IsHeard, to_command, to_end}
+use Rattle.editor_session.specs.Sessions.{AreWhole, Edits, EndsByCommand, HasEdited, HearsAll, IsHeard, WantsOneReply, of_first_line, of_last_order, to_command, to_end}
 use Rattle.editor_session.specs.declared.request.Request.{Request}
 use Rattle.editor_session.proofs.Hearing.{heard_start, none_begun}
 
@@ -91,8 +91,9 @@ module _ (loaded present : Version) (made : List Version) (kept : Batch) (budget
   }
 
   -- the output failed behind a front of it
-  pub cut_short : (held1 held2 : Option (List ℕ)) (written rest : List ℕ) → accepted_line loaded.number s.names ++ s.replies ≡ written ++ rest → Appends held1 held2 written → HasEdited loaded (loaded ∷ made) budget left0 left held1 held2 WriteFailed
-  cut_short held1 held2 written rest is appended = record {
+  pub cut_short : (held1 held2 : Option (List ℕ)) (written rest : List ℕ) → accepted_line loaded.number s.names ++ s.replies ≡ written ++ rest → Appends held1 held2 written
+      → WantsOneReply loaded reader.ended (s.lines ++ []) written → HasEdited loaded (loaded ∷ made) budget left0 left held1 held2 WriteFailed
+  cut_short held1 held2 written rest is appended few = record {
     taken = s.heard.read.taken;
     written = written;
     consumed = s.heard.read.consumed;
@@ -103,6 +104,7 @@ module _ (loaded present : Version) (made : List Version) (kept : Batch) (budget
       rest = rest;
       is_heard = subst (λ (l : List (List ℕ)). IsHeard reader.ended s.heard.read.taken l) (sym (append-nil s.lines)) (heard_so left0 left budget reader s.lines s.heard reader.ended refl);
       edits = subst (λ (l : List ℕ). Edits loaded reader.ended (s.lines ++ []) l (loaded ∷ made)) is (edits reader.ended [] (λ closed. (closed, refl)) Rattle.editor_meaning.specs.Orders.none);
+      few = few;
     };
     spends = λ (is : WriteFailed ≡ Spent). cc;
   }
@@ -129,7 +131,7 @@ pub failed_start : (loaded : Version) (names : List (List ℕ)) (budget : ℕ) (
     → accepted_line loaded.number names ≡ written ++ rest → Appends held1 held2 written → HasEdited loaded (loaded ∷ []) budget left left held1 held2 WriteFailed
 unfolding sofar_start
 failed_start loaded names budget left held1 held2 reader written rest start are_names is appended =
-    cut_short loaded loaded [] no_batch budget left left None None reader (sofar_start loaded names budget left None None reader start are_names tt) held1 held2 written rest (append-nil (accepted_line loaded.number names) ∙ is) appended
+    cut_short loaded loaded [] no_batch budget left left None None reader (sofar_start loaded names budget left None None reader start are_names tt) held1 held2 written rest (append-nil (accepted_line loaded.number names) ∙ is) appended (of_first_line refl)
 
 -- ---- a reply more
 
@@ -171,6 +173,18 @@ module _ (loaded present : Version) (made : List Version) (kept : Batch) (budget
         (appends_more held0 held1 held (accepted_line loaded.number s.names ++ s.replies) reply s.appended appended);
   }
 
+-- the lines of the last order, and those before it, for which the output got all
+wants_last : (loaded present : Version) (made : List Version) (kept : Batch) (budget : ℕ) (left0 left1 left held0 held1 : Option (List ℕ)) (old new : LinesView) (s : Sofar loaded present made kept budget left0 left1 held0 held1 old) (request : Request)
+    (a : HasAsked left0 left budget old new s.lines request) (front : List ℕ) → WantsOneReply loaded new.ended ((s.lines ++ a.more) ++ []) ((accepted_line loaded.number s.names ++ s.replies) ++ front)
+wants_last loaded present made kept budget left0 left1 left held0 held1 old new s request a front =
+    let one = a.says new.ended [] [] (λ closed. (closed, refl)) Rattle.editor_meaning.specs.Orders.none in
+    let none : List (List ℕ) = [] in
+    let going : old.ended ≡ true → (false ≡ true) × (none ≡ []) = λ is. let both : false ≡ true = sym a.going ∙ is in absurd (cc) in
+    let whole = edits loaded present made kept budget left0 left1 held0 held1 old s false none going Rattle.editor_meaning.specs.Orders.none in
+    of_last_order s.lines a.more a.order (accepted_line loaded.number s.names ++ s.replies) front (loaded ∷ made) (append-nil (s.lines ++ a.more))
+    (subst (λ (l : List (List ℕ)). AreOrders new.ended l (a.order ∷ [])) (append-nil a.more) one) refl
+    (subst (λ (l : List (List ℕ)). Edits loaded false l (accepted_line loaded.number s.names ++ s.replies) (loaded ∷ made)) (append-nil s.lines) whole)
+
 -- the reply failed
 pub failed_more : (loaded present : Version) (made : List Version) (kept : Batch) (budget : ℕ) (left0 left1 left held0 held1 held : Option (List ℕ)) (old new : LinesView) (s : Sofar loaded present made kept budget left0 left1 held0 held1 old) (request : Request)
     → HasAsked left0 left budget old new s.lines request → (reply : List ℕ) (next : Option Version) (leaves : Batch) → RepliesToRequest present kept request reply next leaves
@@ -182,18 +196,39 @@ failed_more loaded present made kept budget left0 left1 left held0 held1 held ol
     cut_short loaded (unwrap_or next present) (made ++ option_to_list next) leaves budget left0 left None None new grown held0 held ((first ++ s.replies) ++ front) rest
     (sym (append_assoc first s.replies reply) ∙ ap (λ (l : List ℕ). (first ++ s.replies) ++ l) is ∙ sym (append_assoc (first ++ s.replies) front rest))
     (appends_more held0 held1 held (first ++ s.replies) front s.appended appended)
+    (wants_last loaded present made kept budget left0 left1 left held0 held1 old new s request a front)
 
 -- ---- the end of it all
 
+not_nil : (front : List (List ℕ)) (line : List ℕ) → front ++ line ∷ [] ≡ [] → ⊥
+not_nil [] line is = absurd (cc)
+not_nil (first ∷ front) line is = absurd (cc)
+
 module _ (loaded present : Version) (made : List Version) (kept : Batch) (budget : ℕ) (left0 left1 left held0 held : Option (List ℕ)) (old new : LinesView) (s : Sofar loaded present made kept budget left0 left1 held0 held old) where
-  hears : (more : List (List ℕ)) (read : HasRead left0 left budget new (s.lines ++ more)) → ((new.ended ≡ true) ⊎ (IsSettled new × EndsByCommand more)) → (closed : Bool) → new.ended ≡ closed → HearsAll left read.taken (s.lines ++ more)
-  hears more read last true is = let ends = read.ends is in to_end ends.3 ends.0
-  hears more read (inl closed) false is = let both : true ≡ false = sym closed ∙ is in absurd (cc)
-  hears more read (inr (settled, by)) false is =
+  -- the lines up to `end` are whole orders, and those before them were
+  whole_more : old.ended ≡ false → (before : List (List ℕ)) (orders : List Order) → AreWhole before orders → AreWhole (s.lines ++ before) (s.orders ++ orders)
+  whole_more going before orders are ended more later h =
+      let going_on : old.ended ≡ true → (ended ≡ true) × (before ++ more ≡ []) = λ is. let both : false ≡ true = sym going ∙ is in absurd (cc) in
+      let outer = s.says ended (before ++ more) (orders ++ later) going_on (are ended more later h) in
+      subst (λ (l : List (List ℕ)). AreOrders ended l ((s.orders ++ orders) ++ later)) (sym (append_assoc s.lines before more))
+      (subst (λ (l : List Order). AreOrders ended (s.lines ++ (before ++ more)) l) (sym (append_assoc s.orders orders later)) outer)
+
+  -- a line was heard, so the input hadn't ended
+  was_going : (more : List (List ℕ)) → (old.ended ≡ true → more ≡ []) → EndsByCommand more → (closed : Bool) → old.ended ≡ closed → old.ended ≡ false
+  was_going more last by true is = absurd (not_nil by.before by.line (sym by.lines_are ∙ last is))
+  was_going more last by false is = is
+
+  hears : (more : List (List ℕ)) (read : HasRead left0 left budget new (s.lines ++ more)) → (old.ended ≡ true → more ≡ []) → ((new.ended ≡ true) ⊎ (IsSettled new × EndsByCommand more)) → (closed : Bool) → new.ended ≡ closed
+      → HearsAll left read.taken (s.lines ++ more)
+  hears more read none last true is = let ends = read.ends is in to_end ends.3 ends.0
+  hears more read none (inl closed) false is = let both : true ≡ false = sym closed ∙ is in absurd (cc)
+  hears more read none (inr (settled, by)) false is =
       to_command (heard_going left0 left budget new (s.lines ++ more) (record { read = read; settled = settled }) is false) (record {
         before = s.lines ++ by.before;
         line = by.line;
+        orders = s.orders ++ by.orders;
         lines_are = ap (λ (l : List (List ℕ)). s.lines ++ l) by.lines_are ∙ sym (append_assoc s.lines by.before (by.line ∷ []));
+        are_whole = whole_more (was_going more none by old.ended refl) by.before by.orders by.are_whole;
         is_end = by.is_end;
       })
 
@@ -212,7 +247,7 @@ module _ (loaded present : Version) (made : List Version) (kept : Batch) (budget
     written = accepted_line loaded.number s.names ++ s.replies;
     consumed = e.read.consumed;
     appended = s.appended;
-    output = (s.lines ++ e.more, hears e.more e.read e.last.2 new.ended refl, edits loaded present made kept budget left0 left1 held0 held old s true e.more (λ closed. (refl, e.last.1 closed)) e.last.0);
+    output = (s.lines ++ e.more, hears e.more e.read e.last.1 e.last.2 new.ended refl, edits loaded present made kept budget left0 left1 held0 held old s true e.more (λ closed. (refl, e.last.1 closed)) e.last.0);
     spends = λ (is : Finished ≡ Spent). cc;
   }
   ended WriteFailed e = absurd e.last

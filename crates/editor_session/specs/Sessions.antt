@@ -11,6 +11,7 @@ use Rattle.edit_script.specs.declared.commands.EditCommand.TheVariants as comman
 use Rattle.reply_meaning.specs.declared.ending.Ending.{Ending}
 use Rattle.reply_meaning.specs.declared.ending.Ending.TheVariants.{Finished, WriteFailed, ReadFailed, Spent}
 use Rattle.editor_meaning.specs.Editing.{IsEdited}
+use Rattle.editor_meaning.specs.Orders.{AreOrders, Order}
 
 -- these are the lines that were heard of the bytes taken. Those behind them were taken with them, and are no more than one read gives
 pub record IsHeard (ended : Bool) (taken : List ℕ) (heard : List (List ℕ)) : Type 0 where
@@ -18,11 +19,17 @@ pub record IsHeard (ended : Bool) (taken : List ℕ) (heard : List (List ℕ)) :
   pub lines_are : raw_lines ended taken ≡ heard ++ raw_lines ended ahead
   pub few : length ahead ≤ most_ahead
 
--- the last of the lines is `end`
+-- the lines are whole orders: what follows them is read as if it stood alone, so that a command may stand behind them
+abbrev pub AreWhole : List (List ℕ) → List Order → Type 0
+AreWhole lines orders = (ended : Bool) (more : List (List ℕ)) (later : List Order) → AreOrders ended more later → AreOrders ended (lines ++ more) (orders ++ later)
+
+-- the last of the lines is `end`, which stands where a command may stand
 pub record EndsByCommand (lines : List (List ℕ)) : Type 0 where
   pub before : List (List ℕ)
   pub line : List ℕ
+  pub orders : List Order
   pub lines_are : lines ≡ before ++ line ∷ []
+  pub are_whole : AreWhole before orders
   pub is_end : IsCommand line commands.End
 
 -- all lines of the input were heard, or those up to `end`
@@ -34,13 +41,21 @@ pub data HearsAll (left : Option (List ℕ)) (taken : List ℕ) (heard : List (L
 abbrev pub Edits : Version → Bool → List (List ℕ) → List ℕ → List Version → Type 0
 Edits loaded ended lines bytes versions = IsEdited all_readers rows loaded ended lines bytes versions
 
--- the bytes are a front of what the output gets for lines that were heard
+-- Of what the output gets for these lines no more is wanting than a rest of one reply: of the first line, where nothing was heard, or of the reply to the
+-- last order. What it gets for the lines before that order was written
+pub data WantsOneReply (loaded : Version) (ended : Bool) (heard : List (List ℕ)) (written : List ℕ) : Type 0 where
+  of_first_line : heard ≡ [] → WantsOneReply loaded ended heard written
+  of_last_order : (before more : List (List ℕ)) (order : Order) (answered front : List ℕ) (versions : List Version) → heard ≡ before ++ more → AreOrders ended more (order ∷ [])
+      → written ≡ answered ++ front → Edits loaded false before answered versions → WantsOneReply loaded ended heard written
+
+-- the bytes are a front of what the output gets for lines that were heard, up to the reply that couldn't be written
 pub record IsCutShort (loaded : Version) (taken written : List ℕ) (versions : List Version) : Type 0 where
   pub ended : Bool
   pub heard : List (List ℕ)
   pub rest : List ℕ
   pub is_heard : IsHeard ended taken heard
   pub edits : Edits loaded ended heard (written ++ rest) versions
+  pub few : WantsOneReply loaded ended heard written
 
 -- what was written for the bytes taken, and the versions from the loaded one on. A last piece without newline is a line only where
 -- the input was read to its end, and a command whose lines weren't all read has no reply where it wasn't

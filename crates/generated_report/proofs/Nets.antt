@@ -9,6 +9,7 @@ use Rattle.fsm_base.specs.declared.letters.Pair.{Pair}
 use Rattle.fsm_base.specs.declared.letters.Sym.{Sym}
 use Rattle.fst_algebra.specs.Relation.{IsRelated}
 use Rattle.lookup.specs.Answering.{IsOverAlphabet}
+use Rattle.lookup.specs.Nets.{NetRelates, NetView}
 use Rattle.lookup_answers.specs.declared.direction.Direction.TheVariants.{Up}
 use Rattle.network_algebra.specs.Networks.{IsNetwork, PairsOf}
 use Rattle.network_algebra.specs.declared.network.Network.{Network}
@@ -54,7 +55,7 @@ means_nothing : (project : Project) (name : List ℕ) → ¬ (Defines project na
 means_nothing project name none zero u w means = means
 means_nothing project name none (suc depth) u w (d, among, named, relates) = none (d, among, named)
 
-module _ (said : Said) (loaded : LoadedView) (from : IsLoadedFrom said loaded) (name : List ℕ) (n : Network) (net : Automaton Pair) (same : AreSame (IsRelated net) (PairsOf n)) where
+module _ (said : Said) (loaded : LoadedView) (from : IsLoadedFrom said loaded) (name : List ℕ) (n : Network) (net : NetView) (same : AreSame (NetRelates net) (PairsOf n)) where
   -- the network of a definition, by its place
   pub finds_defined : (place : ℕ) (d : Definition) → slice_get loaded.definitions place ≡ Some d → d.name ≡ name → IsBuiltAt loaded place n → IsOverAlphabet loaded.alphabet net → FindsUpper loaded.alphabet net (project_in said) name
   finds_defined place d at named built over =

@@ -2,10 +2,8 @@
 use Rattle.std.proofs.Common.{◌≡◌, ◌+◌, ◌<◌, ◌++◌, ℕ, List, [], ◌∷◌, length, take, get_or, codes, Ok, Err, sym, ap, subst, ◌∙◌}
 use Rattle.std.specs.List.{AllZip}
 use Rattle.std.proofs.lemmas.List.{take_more}
-use Rattle.fsa.specs.Automaton.{Automaton}
 use Rattle.fsm_base.specs.Alphabet.{spelled, symbols_of, texts_of}
 use Rattle.fsm_base.specs.Cut.{cut}
-use Rattle.fsm_base.specs.declared.letters.Pair.{Pair}
 use Rattle.fsm_base.specs.declared.letters.Sym.{Sym}
 use Rattle.interlinear.specs.Blocks.{width_of}
 use Rattle.interlinear.specs.Glosses.{Entry}
@@ -13,6 +11,7 @@ use Rattle.interlinear.specs.Replies as cells
 use Rattle.interlinear.specs.Replies.{analysis_of, gloss_in}
 use Rattle.interlinear.specs.declared.columns.Cell.{Cell}
 use Rattle.lookup.specs.Answering.{UpperTexts}
+use Rattle.lookup.specs.Nets.{NetView}
 use Rattle.lookup_answers.proofs.AnswerKinds.{Answers-same}
 use Rattle.lookup_answers.specs.declared.direction.Direction.TheVariants.{Up}
 use Rattle.project_meaning.specs.Projects.{Project}
@@ -24,7 +23,7 @@ use Rattle.generated_report.specs.Told.{FindsUpper, IsTold}
 use Rattle.generated_report.specs.declared.told.HowMany.TheVariants.{None}
 use Rattle.generated_report.specs.declared.told.Told.{Told}
 
-module _ (project : Project) (glosses : List Entry) (name word : List ℕ) (alphabet : List (Sym × List ℕ)) (net : Automaton Pair) (finds : FindsUpper alphabet net project name) (cell : Cell) (told : Told) (same : cell.word ≡ word) (columns : told.columns ≡ width_of cell.analysis) where
+module _ (project : Project) (glosses : List Entry) (name word : List ℕ) (alphabet : List (Sym × List ℕ)) (net : NetView) (finds : FindsUpper alphabet net project name) (cell : Cell) (told : Told) (same : cell.word ≡ word) (columns : told.columns ≡ width_of cell.analysis) where
   -- of a word that was looked up
   pub told_found : (symbols : List Sym) (found : Found) → cut (texts_of alphabet) word ≡ Ok (spelled alphabet symbols) → IsOver (symbols_of alphabet) symbols → Answers (UpperTexts net alphabet symbols) found
       → cell.analysis ≡ analysis_of found → cell.gloss ≡ gloss_in glosses found → told.many ≡ how_many found → IsTold project glosses name word told

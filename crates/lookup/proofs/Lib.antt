@@ -2,6 +2,9 @@ pub mod Adding
 pub mod Stepping
 pub mod Exploring
 pub mod Paths
+pub mod Tapes
+pub mod Nodes
+pub mod Obeying
 pub mod Rounds
 pub mod GraphPaths
 pub mod Growing

@@ -1,6 +1,6 @@
 -- The graph that was found writes just the words that the network relates to the word: its paths are the accepted
 -- lists of pairs that have the word on the side that is read.
-use Rattle.std.proofs.Common.{◌≡◌, ℕ, zero, suc, ◌+◌, ◌<◌, ◌≤◌, ◌↔◌, List, [], ◌∷◌, ◌++◌, Option, None, Some, length, drop, refl, subst, sym, ap, arith, ◌∙◌, length-drop}
+use Rattle.std.proofs.Common.{◌≡◌, ℕ, zero, suc, ◌+◌, ◌<◌, ◌≤◌, ◌↔◌, List, [], ◌∷◌, ◌++◌, Bool, Option, None, Some, length, drop, refl, subst, sym, ap, arith, ◌∙◌, length-drop}
 use Rattle.std.specs.List.{Contains, slice_get}
 use Rattle.std.specs.Option.{option_to_list, option_and_then}
 use Rattle.std.proofs.lemmas.List.{drop_all}
@@ -12,6 +12,7 @@ use Rattle.fsa.specs.declared.automaton.Edge.{Edge}
 use Rattle.fsa.specs.Automaton.{Automaton}
 use Rattle.fsa.specs.Language.{AcceptsFrom, stop, read, skip}
 use Rattle.lookup.specs.Graph.{Connects, IsPath, IsWithin, Writes, end, letters_of, start}
+use Rattle.lookup.specs.Obeyed.{HasLetter}
 use Rattle.lookup.specs.declared.explored.Config.{Config}
 use Rattle.lookup_walk.specs.declared.moves.Move.{Move}
 use Rattle.lookup_answers.specs.declared.direction.Direction.{Direction}
@@ -132,11 +133,12 @@ module _ (direction : Direction) (m : Automaton Pair) (moves : List Move) (are :
         subst (λ v. Connects edges start v end) r.3 (writes r.1 0 0 explored.start r.2),
   )
 
+module _ (moves : List Move) (finals : List Bool) (word : List Sym) (reached : Reached) (explored : IsExplored (Steps moves finals word) (length reached.configs) reached) where
   node_below : (node : ℕ) (t : Option Config) → IsNode reached.configs node t → node < length reached.configs + 1
   node_below node None e = omega arith
   node_below node (Some c) (k, e, at) = let w = slice_get_within reached.configs k c at in omega arith
 
-  pub part_within : IsWithin edges (length reached.configs + 1)
+  pub part_within : IsWithin reached.edges (length reached.configs + 1)
   part_within e held =
       let r = explored.only e held in
       (node_below e.from (Some r.1) (r.0, r.4, r.3), node_below e.to r.2 r.5)
@@ -148,12 +150,12 @@ module _ (direction : Direction) (m : Automaton Pair) (moves : List Move) (are :
   written_of f None s e = cc
   written_of f (Some pair) s e = (pair, refl, e)
 
-  step_writes : (c : Config) (letter : Option Sym) (t : Option Config) (s : Sym) → letter ≡ Some s → Steps moves m.finals word c letter t → IsWritten direction m s
-  step_writes c letter None s is (none, past, final) = let e : None ≡ Some s = sym none ∙ is in cc
-  step_writes c letter (Some d) s is (move, has, state, reads, writes, to) =
+  step_writes : (direction : Direction) (m : Automaton Pair) → AreMoves direction m.edges moves → (c : Config) (letter : Option Sym) (t : Option Config) (s : Sym) → letter ≡ Some s → Steps moves finals word c letter t → IsWritten direction m s
+  step_writes direction m are c letter None s is (none, past, final) = let e : None ≡ Some s = sym none ∙ is in cc
+  step_writes direction m are c letter (Some d) s is (move, has, state, reads, writes, to) =
       let e = (are move).0 has in
       let r = written_of (written_on direction) e.0.letter s (sym (ap (λ v. v.write) e.2) ∙ writes ∙ is) in
       (r.0, (e.0, e.1, r.1), r.2)
 
-  pub part_symbols : (e : Edge Sym) (s : Sym) → Contains edges e → e.letter ≡ Some s → IsWritten direction m s
-  part_symbols e s held is = let r = explored.only e held in step_writes r.1 e.letter r.2 s is r.6
+  pub part_symbols : (direction : Direction) (m : Automaton Pair) (s : Sym) → AreMoves direction m.edges moves → HasLetter reached.edges s → IsWritten direction m s
+  part_symbols direction m s are (e, held, is) = let r = explored.only e held in step_writes direction m are r.1 e.letter r.2 s is r.6

@@ -1,8 +1,10 @@
 pub use Rattle.lookup_walk.specs.Answering
+pub use Rattle.lookup_walk.specs.Nets
 pub mod OneKind
 pub mod Steps
 pub mod Reached
 pub mod Graph
+pub mod Obeyed
 pub mod Tree
 pub mod Turns
 pub mod GraphTexts

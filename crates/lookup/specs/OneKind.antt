@@ -2,20 +2,19 @@
 -- without end.
 use Rattle.std.specs.Prelude.{ℕ, List}
 use Rattle.fsm_base.specs.declared.letters.Sym.{Sym}
-use Rattle.fsm_base.specs.declared.letters.Pair.{Pair}
 use Rattle.word_relations.specs.Answers.{Answers, Found}
 use Rattle.lookup_answers.specs.OneKind.{IsSameKind}
-use Rattle.fsa.specs.Automaton.{Automaton}
 use Rattle.lookup_walk.specs.Answering.{LowerTexts, UpperTexts}
+use Rattle.lookup_walk.specs.Nets.{NetView}
 
 -- answers that are both lawful for the upper words of a word are of one kind
 abbrev pub OneKindOfUpper : Type 0
 OneKindOfUpper =
-    (m : Automaton Pair) (alphabet : List (Sym × List ℕ)) (word : List Sym) (a b : Found)
-    → Answers (UpperTexts m alphabet word) a → Answers (UpperTexts m alphabet word) b → IsSameKind a b
+    (net : NetView) (alphabet : List (Sym × List ℕ)) (word : List Sym) (a b : Found)
+    → Answers (UpperTexts net alphabet word) a → Answers (UpperTexts net alphabet word) b → IsSameKind a b
 
 -- the same of its lower words
 abbrev pub OneKindOfLower : Type 0
 OneKindOfLower =
-    (m : Automaton Pair) (alphabet : List (Sym × List ℕ)) (word : List Sym) (a b : Found)
-    → Answers (LowerTexts m alphabet word) a → Answers (LowerTexts m alphabet word) b → IsSameKind a b
+    (net : NetView) (alphabet : List (Sym × List ℕ)) (word : List Sym) (a b : Found)
+    → Answers (LowerTexts net alphabet word) a → Answers (LowerTexts net alphabet word) b → IsSameKind a b

@@ -1,11 +1,18 @@
-ghost use Rattle.std.specs.Prelude.{◌≡◌, ◌<◌, ◌↔◌, List, Some, true, Contains, IfOk, OnOk, IsTrue, length, slice_get};
+ghost use Rattle.std.specs.Prelude.{◌≡◌, ◌<◌, ◌↔◌, ℕ, List, Some, true, Contains, IfOk, OnOk, IsTrue, length, slice_get};
+ghost use Rattle.fsm_base.specs.declared.letters.Pair.{Pair};
 ghost use Rattle.fsm_base.specs.declared.letters.Sym.{Sym};
-ghost use Rattle.fsa.specs.declared.automaton.Edge.{Edge};
+ghost use Rattle.fsa.specs.Automaton.{Automaton};
+ghost use Rattle.lookup_answers.specs.declared.direction.Direction.{Direction};
+ghost use Rattle.lookup_walk.specs.Answering.{IsOverAlphabet};
+ghost use Rattle.lookup_walk.specs.Moves.{AreMoves, IsRelatedBy, IsWritten};
+ghost use Rattle.lookup_walk.specs.Nets.{NetRelatesBy};
 ghost use Rattle.lookup.specs.Graph.{IsWithin, Writes};
-ghost use Rattle.lookup_walk.specs.Moves.{IsRelatedBy, IsWritten};
+ghost use Rattle.lookup.specs.GraphTexts.{AreOf};
+ghost use Rattle.lookup.specs.Obeyed.{HasLetter};
 ghost use Rattle.lookup.specs.Steps.{Ends, Follows, Steps};
 ghost use Rattle.lookup.specs.Reached.{AddsSteps, IsExplored};
 
+use crate::conditions::obeyed;
 use crate::explored::{Config, Explored};
 use fsa::Edge;
 use fsm_base::Sym;
@@ -22,7 +29,7 @@ pub(crate) struct Part {
 }
 
 /// The part of a network that a word reaches. The graph writes just the words that the network relates to the
-/// word.
+/// word: conditions are obeyed, and not written.
 pub(crate) fn part_of(
     alloc: Global,
     net: &Net,
@@ -31,10 +38,26 @@ pub(crate) fn part_of(
 ) -> Result<Part, AllocError>
     ensures within { IfOk result (λ part. IsWithin part.edges.items part.count) }
     ensures start { IfOk result (λ part. 1 < part.count) }
-    ensures symbols { IfOk result (λ part. (e : Edge Sym) (symbol : Sym) → Contains part.edges.items e → e.letter ≡ Some symbol → IsWritten direction net.now symbol) }
-    ensures words { IfOk result (λ part. (written : List Sym) → Writes part.edges.items written ↔ IsRelatedBy direction net.now word.now written) }
+    ensures symbols { IfOk result (λ part. (alphabet : List (Sym × List ℕ)) → IsOverAlphabet alphabet net.now → AreOf alphabet part.edges.items) }
+    ensures words { IfOk result (λ part. (written : List Sym) → Writes part.edges.items written ↔ NetRelatesBy direction net.now word.now written) }
 {
-    let explored = explore(alloc, net.table(direction), net.finals(), word)?;
+    let way = net.way(direction);
+    let part = reached(alloc, way.table, way.finals, word)?;
+    let Some(rules) = way.rules else {
+        return Ok(part);
+    };
+    let plain = obeyed(alloc, &part, rules)?;
+    Ok(plain)
+}
+
+/// The part that a word reaches by moves. The graph writes what the moves write, conditions too.
+fn reached(alloc: Global, table: &Table, finals: &[bool], word: &[Sym]) -> Result<Part, AllocError>
+    ensures within { IfOk result (λ part. IsWithin part.edges.items part.count) }
+    ensures start { IfOk result (λ part. 1 < part.count) }
+    ensures symbols { IfOk result (λ part. (direction : Direction) (m : Automaton Pair) (symbol : Sym) → AreMoves direction m.edges table.now → HasLetter part.edges.items symbol → IsWritten direction m symbol) }
+    ensures words { IfOk result (λ part. (direction : Direction) (m : Automaton Pair) (written : List Sym) → AreMoves direction m.edges table.now → m.finals ≡ finals.now → Writes part.edges.items written ↔ IsRelatedBy direction m word.now written) }
+{
+    let explored = explore(alloc, table, finals, word)?;
     let count = explored.len() + 1;
     Ok(Part {
         edges: explored.into_edges(),

@@ -1,23 +1,29 @@
 //! The process of the program: it hands its words, its folder, its standard input and output, and the lanes of the paths behind
-//! `--` to [`run`], and ends with the status that this answers. More lanes than there may be are answered as words in no form.
+//! `--` to [`run`], and ends with the status that this answers. More lanes than there may be are answered as words in no form, and so are
+//! lanes whose outputs would overwrite a file of the project or what a lane reads or writes (`outputs`). The files of a lane are opened when
+//! it is first read (`late`).
 #![tactic(auto)]
+
+mod late;
+mod outputs;
 
 ghost use Rattle.std.specs.Prelude.{◌≤◌, IfOk, length, vec_len};
 
+use crate::late::{LateInput, LateOutput};
+use crate::outputs::are_apart;
 use fsm_base::Text;
 use fsm_io::{DirFolder, ReadSource, WriteSink};
 use fsm_program::{Lane, run};
 use std::alloc::{AllocError, Global};
 use std::env::{self, FillError};
-use std::fs::{self, File};
 use std::io::{self, ErrorKind};
 use std::process::ExitCode;
 use std::rt::Env;
 use std::sync::Wait;
 use std::thread::Threads;
 
-/// A lane over files.
-type FileLane = Lane<ReadSource<File>, WriteSink<File>>;
+/// A lane over files that are opened when it is first read.
+type FileLane<'a> = Lane<ReadSource<LateInput<'a>>, WriteSink<LateOutput<'a>>>;
 
 /// The most lanes.
 const MOST_LANES: usize = 16;
@@ -97,34 +103,64 @@ fn texts_of(rt: &HostRuntime, begin: usize, end: usize) -> io::Result<Vec<String
     }
 }
 
-/// A lane that reads the file of this path and writes the one with `.out` behind the path. A file that can't be opened fails at each
-/// read or write.
-fn lane_of(rt: &HostRuntime, path: &str) -> Result<FileLane, AllocError> {
-    let written = format!(in rt.alloc(); "{path}.out")?;
-    Ok(Lane::new(
-        ReadSource::new(fs::open(rt, path).ok()),
-        WriteSink::new(fs::create(rt, written.as_str()).ok()),
-    ))
+/// The path of the output of the lane that reads this path.
+fn output_of(rt: &HostRuntime, path: &str) -> Result<String, AllocError> {
+    format!(in rt.alloc(); "{path}.out")
 }
 
-/// The lane of the path at this place. A path that isn't UTF-8 names no file that can be opened.
-fn lane_at(rt: &HostRuntime, place: usize) -> io::Result<FileLane> {
+/// A lane that reads the file of this path and writes the one with `.out` behind the path. A file that can't be opened fails at each
+/// read or write.
+fn lane_of<'a>(rt: &'a HostRuntime, path: &str) -> Result<FileLane<'a>, AllocError> {
+    let read = String::from_str(rt.alloc(), path)?;
+    let input = LateInput::new(rt, read, output_of(rt, path)?);
+    let output = LateOutput::new(rt, output_of(rt, path)?);
+    Ok(Lane::new(ReadSource::new(Some(input)), WriteSink::new(Some(output))))
+}
+
+/// The path at this place. One that isn't UTF-8 is the empty path, which names no file that can be opened.
+fn path_at(rt: &HostRuntime, place: usize) -> io::Result<String> {
     match texts_of(rt, place, place.saturating_add(1))?.first() {
-        Some(path) => Ok(lane_of(rt, path.as_str())?),
-        None => Ok(Lane::new(ReadSource::new(None), WriteSink::new(None))),
+        Some(path) => Ok(String::from_str(rt.alloc(), path.as_str())?),
+        None => Ok(String::new(rt.alloc())),
     }
 }
 
-/// The lanes of so many paths, of which the first is at this place.
-fn lanes_from(rt: &HostRuntime, first: usize, count: usize) -> io::Result<Vec<FileLane>>
+/// So many paths, of which the first is at this place.
+fn paths_at(rt: &HostRuntime, first: usize, count: usize) -> io::Result<Vec<String>>
     requires { count ≤ 16 }
+    ensures { IfOk result (λ paths. vec_len paths ≤ 16) }
+{
+    let mut paths = Vec::new(rt.alloc());
+    'paths: for i in 0..count {
+        paths.push(path_at(rt, first.saturating_add(i))?)?;
+    }
+    Ok(paths)
+}
+
+/// The lanes of these paths.
+fn lanes_of<'a>(rt: &'a HostRuntime, paths: &[String]) -> Result<Vec<FileLane<'a>>, AllocError>
+    requires { length paths.now ≤ 16 }
     ensures { IfOk result (λ lanes. vec_len lanes ≤ 16) }
 {
     let mut lanes = Vec::new(rt.alloc());
-    'paths: for i in 0..count {
-        lanes.push(lane_at(rt, first.saturating_add(i))?)?;
+    'paths: for i in 0..paths.len() {
+        lanes.push(lane_of(rt, paths[i].as_str())?)?;
     }
     Ok(lanes)
+}
+
+/// Whether the outputs of the lanes of these paths may be written where the words serve a project. Lanes of other words are left as they are.
+fn may_write(rt: &HostRuntime, words: &[String], paths: &[String]) -> io::Result<bool> {
+    match words {
+        [command, dir] if command.as_str() == "serve" => {
+            let mut outputs = Vec::new(rt.alloc());
+            for path in paths {
+                outputs.push(output_of(rt, path.as_str())?)?;
+            }
+            are_apart(rt, dir.as_str(), paths, &outputs)
+        }
+        _ => Ok(true),
+    }
 }
 
 /// The path of the folder: the second word, or the current folder where there is none.
@@ -140,7 +176,7 @@ fn answer_to<T: Threads + Wait + Sync>(
     threads: &T,
     rt: &HostRuntime,
     words: &[String],
-    lanes: &mut [FileLane],
+    lanes: &mut [FileLane<'_>],
 ) -> Result<u8, AllocError>
     requires { length lanes.old ≤ 16 }
 {
@@ -168,7 +204,11 @@ fn answer<T: Threads + Wait + Sync>(threads: &T, rt: &HostRuntime) -> io::Result
         return Ok(answer_to(threads, rt, &[], &mut [])?);
     }
     let words = texts_of(rt, 1, end)?;
-    let mut lanes = lanes_from(rt, first, count)?;
+    let paths = paths_at(rt, first, count)?;
+    if !may_write(rt, &words, &paths)? {
+        return Ok(answer_to(threads, rt, &[], &mut [])?);
+    }
+    let mut lanes = lanes_of(rt, &paths)?;
     Ok(answer_to(threads, rt, &words, &mut lanes)?)
 }
 

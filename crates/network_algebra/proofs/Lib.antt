@@ -4,6 +4,7 @@ pub mod WordAlone
 pub mod Steps
 pub mod Counted
 pub mod Meanings
+pub mod Conditions
 pub mod Smaller
 pub mod PlainStart
 pub mod CrossedLetters

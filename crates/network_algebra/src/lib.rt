@@ -1,7 +1,8 @@
 //! Networks, as the operators of expressions make them of networks (Beesley and Karttunen, Finite State Morphology, 2003,
 //! section 2.3). Read `specs/Networks.antt` first.
 //!
-//! - [`Network`]: the automaton of a language or the transducer of a relation.
+//! - [`Network`]: the automaton of a language or the transducer of a relation, on whose paths conditions may stand (fst_flagged).
+//!   [`union`], [`inverse`] and [`reduced`] leave these as they are; what else needs a plain transducer makes states of them.
 //! - [`word`]: the automaton of leaves side by side.
 //! - [`concat`], [`union`], [`repeat`]: of languages and of relations; a language beside a relation stands for its
 //!   identity.

@@ -10,6 +10,7 @@ use crate::letters::inside;
 use fsa::Fsa;
 use fsm_base::{Bound, Pair, Sym};
 use fst_algebra::identity;
+use fst_flagged::Flagged;
 use std::alloc::{AllocError, Global};
 
 /// What an expression is compiled to.
@@ -19,11 +20,13 @@ pub enum Network {
     Words(Fsa<Bound<Sym>>),
     /// The transducer of a relation.
     Pairs(Fsa<Pair>),
+    /// The transducer of a relation, on whose paths conditions stand.
+    Flagged(Flagged),
 }
 
 impl Network {
     /// The transducer of what the network relates. A language relates each of its words that is without the edge to
-    /// itself.
+    /// itself. Conditions are made states, which may be very many.
     pub fn into_pairs(self, alloc: Global) -> Result<Fsa<Pair>, AllocError>
         ensures symbols { IfOk result (λ m. (symbols : List Sym) → IsNetwork symbols self → UsesSymbols symbols m) }
         ensures pairs { IfOk result (λ m. AreSame (IsRelated m) (PairsOf self)) }
@@ -31,6 +34,7 @@ impl Network {
         match self {
             Network::Words(words) => identity(alloc, &inside(alloc, &words)?),
             Network::Pairs(pairs) => Ok(pairs),
+            Network::Flagged(flagged) => flagged.resolve(alloc),
         }
     }
 
@@ -41,7 +45,7 @@ impl Network {
     {
         match self {
             Network::Words(words) => words,
-            Network::Pairs(_) => unreachable!(),
+            Network::Pairs(_) | Network::Flagged(_) => unreachable!(),
         }
     }
 }

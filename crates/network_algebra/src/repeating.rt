@@ -25,7 +25,7 @@ pub enum Times {
     Exactly(u32),
 }
 
-/// What a network repeated so often is.
+/// What a network repeated so often is. Conditions are made states.
 pub fn repeat(alloc: Global, network: Network, times: Times) -> Result<Network, AllocError>
     ensures letters { IfOk result (λ n. (symbols : List Sym) → IsNetwork symbols network → IsNetwork symbols n) }
     ensures meaning { IfOk result (IsFor (kind_of_network network) (IsRepetitionOf (Counts times) (WordsOf network)) (IsRepetitionOfPairs (Counts times) (PairsOf network))) }
@@ -33,6 +33,10 @@ pub fn repeat(alloc: Global, network: Network, times: Times) -> Result<Network, 
     match network {
         Network::Words(m) => Ok(Network::Words(repeat_automaton(alloc, &m, times)?)),
         Network::Pairs(m) => Ok(Network::Pairs(repeat_automaton(alloc, &m, times)?)),
+        Network::Flagged(f) => {
+            let m = f.resolve(alloc)?;
+            Ok(Network::Pairs(repeat_automaton(alloc, &m, times)?))
+        }
     }
 }
 

@@ -39,10 +39,11 @@ pub fn inverse(alloc: Global, network: Network) -> Result<Network, AllocError>
     match network {
         Network::Words(m) => Ok(Network::Words(m)),
         Network::Pairs(m) => Ok(Network::Pairs(fst_algebra::inverse(alloc, &m)?)),
+        Network::Flagged(f) => Ok(Network::Flagged(f.inverse(alloc)?)),
     }
 }
 
-/// The network read backwards.
+/// The network read backwards. Conditions are made states.
 pub fn reverse(alloc: Global, network: Network) -> Result<Network, AllocError>
     ensures letters { IfOk result (λ n. (symbols : List Sym) → IsNetwork symbols network → IsNetwork symbols n) }
     ensures meaning { IfOk result (IsFor (kind_of_network network) (λ w. WordsOf network (reverse w)) (λ u w. PairsOf network (reverse u) (reverse w))) }
@@ -50,6 +51,10 @@ pub fn reverse(alloc: Global, network: Network) -> Result<Network, AllocError>
     match network {
         Network::Words(m) => Ok(Network::Words(rational::reverse(alloc, &m)?)),
         Network::Pairs(m) => Ok(Network::Pairs(rational::reverse(alloc, &m)?)),
+        Network::Flagged(f) => {
+            let m = f.resolve(alloc)?;
+            Ok(Network::Pairs(rational::reverse(alloc, &m)?))
+        }
     }
 }
 

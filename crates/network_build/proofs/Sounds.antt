@@ -10,7 +10,7 @@ use Rattle.word_relations.specs.Relations.{AreSame}
 use Rattle.word_relations.specs.Words.{IsDistinct}
 use Rattle.word_relations.proofs.Members.{Contains-cons_cases, Contains-head, Contains-tail, Contains-map, Contains-map_cases}
 use Rattle.fsa.specs.Automaton.{Automaton, UsesLetter}
-use Rattle.lookup.specs.Answering.{IsOverAlphabet}
+use Rattle.lookup.specs.Answering.{HasSymbolsOf}
 use Rattle.regex_ast.specs.declared.expr.Atom.{Atom}
 use Rattle.regex_ast.specs.declared.expr.Atom.TheVariants.{Sym, Name}
 use Rattle.regex_ast.specs.declared.twolc.Grammar.{Grammar as GrammarOf}
@@ -31,7 +31,7 @@ use Rattle.project_sources.specs.Built.{BodyIsBuiltBy}
 use Rattle.project_definitions.specs.Bodies.{BodyFitsBy, IsFormed}
 use Rattle.network_algebra.specs.Networks.{IsNetwork, PairsOf, UsesSymbols, all_letters, kind_of_network}
 use Rattle.network_algebra.specs.declared.network.Network.{Network}
-use Rattle.network_algebra.specs.declared.network.Network.TheVariants.{Words, Pairs}
+use Rattle.network_algebra.specs.declared.network.Network.TheVariants.{Words, Pairs, Flagged}
 use Rattle.network_expr.specs.Rules.{IsFilled}
 use Rattle.network_expr.specs.Built.{IsBuiltOver, IsMeant}
 use Rattle.network_expr.specs.Parts.{IsGround, is_leaf_of, kinds, stands}
@@ -67,6 +67,7 @@ letter_within symbols (Inner s) h = Contains-tail Edge (inner symbols) (Inner s)
 network_within : (symbols : List Symbol) (n : Network) → ((s : Symbol) → UsesSymbol n s → Contains symbols s) → IsNetwork symbols n
 network_within symbols (Words m) h = λ x used. letter_within symbols x (λ s is. h s (subst (λ (y : Bound Symbol). UsesLetter m y) is used))
 network_within symbols (Pairs m) h = record { upper = λ s (pair, used, up). h s (pair, used, inl up); lower = λ s (pair, used, low). h s (pair, used, inr low) }
+network_within symbols (Flagged f) h = record { upper = λ s (pair, used, up) small. h s (pair, used, inl (up, small)); lower = λ s (pair, used, low). h s (pair, used, inr low) }
 
 inner_within : (symbols : List Symbol) (s : Symbol) → Contains (all_letters symbols) (Inner s) → Contains symbols s
 inner_within symbols s at = elim (Contains-cons_cases Edge (inner symbols) (Inner s) at) as (λ _. Contains symbols s) [
@@ -81,6 +82,8 @@ pub network_has : (symbols : List Symbol) (n : Network) → IsNetwork symbols n 
 network_has symbols (Words m) over s used = inner_within symbols s (over (Inner s) used)
 network_has symbols (Pairs m) over s (pair, used, side) =
     elim side as (λ _. Contains symbols s) [ inl up ↦ over.upper s (pair, used, up) | inr low ↦ over.lower s (pair, used, low) ]
+network_has symbols (Flagged f) over s (pair, used, side) =
+    elim side as (λ _. Contains symbols s) [ inl (up, small) ↦ over.upper s (pair, used, up) small | inr low ↦ over.lower s (pair, used, low) ]
 
 -- the symbols are those that stand in the body and in its parts
 abbrev pub AreOwn : List Symbol → Body Atom → List Part → Type 0
@@ -177,6 +180,6 @@ grammar_made parts symbols g (Ok n) has over kind meaning = record {
   relation = λ named lettered held. meaning named lettered (grammar_over (symbols_of named) g held);
 }
 
-pub over_alphabet : (alphabet : List (Symbol × List ℕ)) (m n : Automaton Pair) → ((x : Pair) → UsesLetter n x → UsesLetter m x) → UsesSymbols (symbols_of alphabet) m → IsOverAlphabet alphabet n
+pub over_alphabet : (alphabet : List (Symbol × List ℕ)) (m n : Automaton Pair) → ((x : Pair) → UsesLetter n x → UsesLetter m x) → UsesSymbols (symbols_of alphabet) m → HasSymbolsOf alphabet n
 over_alphabet alphabet m n letters uses pair s used side =
     elim side as (λ _. Contains (symbols_of alphabet) s) [ inl up ↦ uses.upper s (pair, letters pair used, up) | inr low ↦ uses.lower s (pair, letters pair used, low) ]

@@ -1,5 +1,5 @@
 -- The symbols in networks and of single leaves, gathered one by one.
-use Rattle.std.proofs.Common.{◌≡◌, ◌↔◌, ◌⊎◌, ◌+◌, ◌++◌, ℕ, List, [], ◌∷◌, Some, Option, Contains, take, sym, ap, subst, ◌∙◌, inl, inr}
+use Rattle.std.proofs.Common.{◌≡◌, ◌<◌, ◌↔◌, ◌⊎◌, ◌+◌, ◌++◌, ℕ, List, [], ◌∷◌, Some, Option, Contains, take, sym, ap, subst, ◌∙◌, inl, inr}
 use Rattle.std.proofs.lemmas.List.Elements.{Contains-append_left, Contains-push, Contains-push_cases}
 use Rattle.fsm_base.specs.declared.letters.Sym.{Sym as Symbol}
 use Rattle.fsm_base.specs.declared.letters.Bound.{Bound}
@@ -8,10 +8,12 @@ use Rattle.fsm_base.specs.declared.letters.Pair.{Pair}
 use Rattle.fsa.specs.Automaton.{Automaton}
 use Rattle.fsa.specs.declared.automaton.Edge.{Edge}
 use Rattle.network_algebra.specs.declared.network.Network.{Network}
-use Rattle.network_algebra.specs.declared.network.Network.TheVariants.{Words, Pairs}
+use Rattle.network_algebra.specs.declared.network.Network.TheVariants.{Words, Pairs, Flagged}
 use Rattle.word_relations.proofs.Members.{Contains-nil_cases}
 use Rattle.network_expr.specs.declared.parts.Part.{Part}
-use Rattle.network_build.specs.Networks.{IsOn, UsesSymbol}
+use Rattle.network_build.specs.Networks.{IsLetterOn, IsOn, UsesSymbol}
+use Rattle.fst_flagged.specs.Conditions.{first}
+use Rattle.fst_flagged.specs.Flagged.{FlaggedView}
 use Rattle.regex_ast.specs.declared.expr.Atom.{Atom}
 use Rattle.regex_ast.specs.declared.expr.Atom.TheVariants.{Sym}
 
@@ -67,6 +69,9 @@ Reads e s = e.letter ≡ Some (Inner s)
 abbrev pub Relates : Edge Pair → Symbol → Type 0
 Relates e s = (pair : Pair) × (e.letter ≡ Some pair) × IsOn pair s
 
+abbrev pub RelatesLetter : Edge Pair → Symbol → Type 0
+RelatesLetter e s = (pair : Pair) × (e.letter ≡ Some pair) × IsLetterOn pair s
+
 abbrev pub PartUses : Part → Symbol → Type 0
 PartUses part s = UsesSymbol part.network.now s
 
@@ -96,6 +101,12 @@ pub pairs_use : (n : Network) (m : Automaton Pair) (edges : List (Edge Pair)) �
 pairs_use n m edges is are s = rw (are, is) by
   where
     by : Given Relates m.edges s ↔ UsesSymbol (Pairs m) s
+    by = (λ (e, among, (pair, is, side)). (pair, (e, among, is), side), λ (pair, (e, among, is), side). (e, among, (pair, is, side)))
+
+pub flagged_use : (n : Network) (f : FlaggedView) (edges : List (Edge Pair)) → n ≡ Flagged f → edges ≡ f.net.edges → (s : Symbol) → Given RelatesLetter edges s ↔ UsesSymbol n s
+flagged_use n f edges is are s = rw (are, is) by
+  where
+    by : Given RelatesLetter f.net.edges s ↔ UsesSymbol (Flagged f) s
     by = (λ (e, among, (pair, is, side)). (pair, (e, among, is), side), λ (pair, (e, among, is), side). (e, among, (pair, is, side)))
 
 -- a letter that is a symbol
@@ -128,5 +139,29 @@ pair_both old between new letter pair is first second s = (
     | inl o ↦ (second s).1 (inl ((first s).1 (inl o)))
     | inr (x, e, side) ↦ (let same = pair_same x pair (sym e ∙ is) in
         elim (subst (λ (y : Pair). IsOn y s) same side) as (λ _. Contains new s) [ inl up ↦ (second s).1 (inl ((first s).1 (inr up))) | inr low ↦ (second s).1 (inr low) ])
+  ],
+)
+
+-- the same, but for a condition
+pub letter_added : (old new : List Symbol) (side : Option Symbol) (symbol : Symbol) → side ≡ Some symbol → symbol.0 < first → ((s : Symbol) → Contains new s ↔ (Contains old s ⊎ (symbol ≡ s)))
+    → (s : Symbol) → Contains new s ↔ (Contains old s ⊎ ((side ≡ Some s) × (s.0 < first)))
+letter_added old new side symbol is small =
+    given_as old new (λ s. symbol ≡ s) (λ s. (side ≡ Some s) × (s.0 < first))
+    (λ s. (λ e. (is ∙ ap (λ (t : Symbol). Some t) e, subst (λ (t : Symbol). t.0 < first) e small), λ (e, below). some_same symbol s (sym is ∙ e)))
+
+pub no_letter_added : (old : List Symbol) (side : Option Symbol) → ((s : Symbol) → side ≡ Some s → s.0 < first → ⊥) → (s : Symbol) → Contains old s ↔ (Contains old s ⊎ ((side ≡ Some s) × (s.0 < first)))
+no_letter_added old side none s = (λ at. inl at, λ h. elim h as (λ _. Contains old s) [ inl at ↦ at | inr (e, below) ↦ absurd (none s e below) ])
+
+pub pair_letters : (old between new : List Symbol) (letter : Option Pair) (pair : Pair) → letter ≡ Some pair → ((s : Symbol) → Contains between s ↔ (Contains old s ⊎ ((pair.up ≡ Some s) × (s.0 < first))))
+    → ((s : Symbol) → Contains new s ↔ (Contains between s ⊎ (pair.low ≡ Some s))) → (s : Symbol) → Contains new s ↔ (Contains old s ⊎ ((x : Pair) × (letter ≡ Some x) × IsLetterOn x s))
+pair_letters old between new letter pair is first_more second s = (
+  λ at. elim ((second s).0 at) as (λ _. Contains old s ⊎ ((x : Pair) × (letter ≡ Some x) × IsLetterOn x s)) [
+    | inl b ↦ elim ((first_more s).0 b) as (λ _. Contains old s ⊎ ((x : Pair) × (letter ≡ Some x) × IsLetterOn x s)) [ inl o ↦ inl o | inr up ↦ inr (pair, is, inl up) ]
+    | inr low ↦ inr (pair, is, inr low)
+  ],
+  λ h. elim h as (λ _. Contains new s) [
+    | inl o ↦ (second s).1 (inl ((first_more s).1 (inl o)))
+    | inr (x, e, side) ↦ (let same = pair_same x pair (sym e ∙ is) in
+        elim (subst (λ (y : Pair). IsLetterOn y s) same side) as (λ _. Contains new s) [ inl up ↦ (second s).1 (inl ((first_more s).1 (inr up))) | inr low ↦ (second s).1 (inr low) ])
   ],
 )

@@ -1,12 +1,14 @@
 -- The network of a definition, and which symbols stand in it.
-use Rattle.std.specs.Prelude.{◌≡◌, ◌⊎◌, ◌++◌, ℕ, Bool, IsTrue, List, Some, Contains}
+use Rattle.std.specs.Prelude.{◌≡◌, ◌<◌, ◌⊎◌, ◌++◌, ℕ, Bool, IsTrue, List, Some, Contains}
 use Rattle.std.specs.List.{flat_map, list_any}
 use Rattle.fsm_base.specs.Alphabet.{IsAlphabet, symbols_of, text_of}
 use Rattle.fsm_base.specs.declared.letters.Bound.TheVariants.{Inner}
 use Rattle.fsm_base.specs.declared.letters.Sym.{Sym as Symbol}
 use Rattle.fsm_base.specs.declared.letters.Pair.{Pair}
 use Rattle.word_relations.specs.Relations.{AreSame}
-use Rattle.fsa.specs.Automaton.{Automaton, UsesLetter}
+use Rattle.fsa.specs.Automaton.{UsesLetter}
+use Rattle.fst_flagged.specs.Conditions.{first}
+use Rattle.lookup.specs.Nets.{NetView}
 use Rattle.regex_ast.specs.declared.expr.Atom.{Atom}
 use Rattle.regex_ast.specs.declared.expr.Atom.TheVariants.{Sym}
 use Rattle.regex_ast.specs.Terms.{Term}
@@ -24,7 +26,7 @@ use Rattle.project_meaning.specs.Leaves.{expressions_of, forms_in}
 use Rattle.project_meaning.specs.Lexicons.{LexiconsRelate, letters_of}
 use Rattle.network_algebra.specs.Networks.{IsNetwork, PairsOf, kind_of_network}
 use Rattle.network_algebra.specs.declared.network.Network.{Network}
-use Rattle.network_algebra.specs.declared.network.Network.TheVariants.{Words, Pairs}
+use Rattle.network_algebra.specs.declared.network.Network.TheVariants.{Words, Pairs, Flagged}
 use Rattle.network_centres.specs.Centres.{HasEmptyCentre}
 use Rattle.network_expr.specs.Parts.{kinds, stands}
 use Rattle.network_expr.specs.declared.parts.Part.{Part}
@@ -35,18 +37,23 @@ use Rattle.project_definitions.specs.declared.definition.Definition.{Definition}
 use Rattle.network_build.specs.declared.compiled.BuildError.{BuildError}
 use Rattle.network_build.specs.declared.compiled.BuildError.TheVariants.{Memory, EmptyCentre}
 
--- a network that is ready for look-ups as contracts see it: its automaton
+-- a network that is ready for look-ups as contracts see it: its transducer, plain or with conditions
 pub record CompiledView : Type 0 where
-  pub net : Automaton Pair
+  pub net : NetView
 
 -- the symbol is on a side of the pair
 abbrev pub IsOn : Pair → Symbol → Type 0
 IsOn pair s = (pair.up ≡ Some s) ⊎ (pair.low ≡ Some s)
 
--- the symbol stands in the network
+-- the symbol is on a side of the pair, and no condition, which only the upper side may have
+abbrev pub IsLetterOn : Pair → Symbol → Type 0
+IsLetterOn pair s = ((pair.up ≡ Some s) × (s.0 < first)) ⊎ (pair.low ≡ Some s)
+
+-- the symbol stands in the network; conditions are no symbols
 abbrev pub UsesSymbol : Network → Symbol → Type 0
 UsesSymbol (Words m) s = UsesLetter m (Inner s)
 UsesSymbol (Pairs m) s = (pair : Pair) × UsesLetter m pair × IsOn pair s
+UsesSymbol (Flagged f) s = (pair : Pair) × UsesLetter f.net pair × IsLetterOn pair s
 
 -- the symbol stands in the network of one of these parts
 abbrev pub PartsUse : List Part → Symbol → Type 0

@@ -3,10 +3,13 @@ ghost use Rattle.fsm_base.specs.Alphabet.{symbols_of};
 ghost use Rattle.fsm_base.specs.declared.letters.Sym.{Sym};
 ghost use Rattle.fst_algebra.specs.Relation.{IsRelated};
 ghost use Rattle.lookup.specs.Answering.{IsOverAlphabet};
-ghost use Rattle.network_algebra.specs.Networks.{IsNetwork, PairsOf};
+ghost use Rattle.lookup.specs.Nets.{NetRelates};
+ghost use Rattle.network_algebra.specs.Networks.{IsNetwork, PairsOf, UsesSymbols};
 ghost use Rattle.word_relations.specs.Relations.{AreSame};
 
 use crate::straight::straightened;
+use fsa::Fsa;
+use fsm_base::Pair;
 use lookup::Net;
 use network_algebra::Network;
 use std::alloc::{AllocError, Global};
@@ -38,7 +41,7 @@ impl From<AllocError> for BuildError {
     }
 }
 
-/// A definition's network, ready for look-ups. Contracts see its automaton.
+/// A definition's network, ready for look-ups. Contracts see its transducer, plain or with conditions.
 #[derive(Debug, Drop)]
 pub struct Compiled {
     net: Net,
@@ -53,12 +56,29 @@ impl Model for Compiled {
 }
 
 impl Compiled {
-    /// The same network, ready for look-ups. It is deterministic where that makes it little larger.
+    /// The same network, ready for look-ups. Conditions stay; without them it is deterministic where that makes it little larger.
     pub fn of(alloc: Global, network: Network) -> Result<Compiled, AllocError>
-        ensures relation { IfOk result (λ c. AreSame (IsRelated c.net) (PairsOf network)) }
+        ensures relation { IfOk result (λ c. AreSame (NetRelates c.net) (PairsOf network)) }
         ensures alphabet { (alphabet : List (Sym × List ℕ)) → IsNetwork (symbols_of alphabet) network → IfOk result (λ c. IsOverAlphabet alphabet c.net) }
     {
-        let transducer = network.into_pairs(alloc)?;
+        match network {
+            Network::Words(words) => {
+                let transducer = Network::Words(words).into_pairs(alloc)?;
+                Compiled::plain(alloc, transducer)
+            }
+            Network::Pairs(transducer) => Compiled::plain(alloc, transducer),
+            Network::Flagged(flagged) => {
+                let net = Net::flagged(alloc, flagged)?;
+                Ok(Compiled { net })
+            }
+        }
+    }
+
+    /// The network of a transducer without conditions.
+    fn plain(alloc: Global, transducer: Fsa<Pair>) -> Result<Compiled, AllocError>
+        ensures relation { IfOk result (λ c. AreSame (NetRelates c.net) (IsRelated transducer)) }
+        ensures alphabet { (alphabet : List (Sym × List ℕ)) → UsesSymbols (symbols_of alphabet) transducer → IfOk result (λ c. IsOverAlphabet alphabet c.net) }
+    {
         let straight = straightened(alloc, transducer)?;
         let net = Net::of(alloc, &straight)?;
         Ok(Compiled { net })

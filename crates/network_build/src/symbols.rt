@@ -1,16 +1,18 @@
-ghost use Rattle.std.specs.Prelude.{◌≡◌, ◌⊎◌, ◌↔◌, IfOk, OnOk, Contains, Some};
+ghost use Rattle.std.specs.Prelude.{◌≡◌, ◌<◌, ◌⊎◌, ◌↔◌, IfOk, OnOk, Contains, Some};
 ghost use Rattle.fsm_base.specs.declared.letters.Sym.{Sym as Symbol};
 ghost use Rattle.fsm_base.specs.declared.letters.Pair.{Pair as Letter};
 ghost use Rattle.word_relations.specs.Words.{IsDistinct};
 ghost use Rattle.fsa.specs.declared.automaton.Edge.{Edge as EdgeOf};
 ghost use Rattle.fsm_base.specs.declared.letters.Bound.{Bound as WithEdge};
+ghost use Rattle.fst_flagged.specs.Conditions.{first};
 ghost use Rattle.project_definitions.specs.Plain.{body_of};
-ghost use Rattle.network_build.specs.Networks.{IsOn, PartsUse, UsesSymbol, body_leaves};
+ghost use Rattle.network_build.specs.Networks.{IsLetterOn, IsOn, PartsUse, UsesSymbol, body_leaves};
 
 use crate::leaf_symbols::add_body;
 use crate::symbol_list::SymbolList;
 use fsa::Edge;
 use fsm_base::{Bound, Pair, Sym};
+use fst_flagged::FIRST;
 use network_algebra::Network;
 use network_expr::Part;
 use project_definitions::Body;
@@ -49,6 +51,7 @@ fn add_network(network: &Network, symbols: &mut SymbolList) -> Result<(), AllocE
     match network {
         Network::Words(words) => add_words(words.edges(), symbols),
         Network::Pairs(pairs) => add_pairs(pairs.edges(), symbols),
+        Network::Flagged(flagged) => add_flagged(flagged.net().edges(), symbols),
     }
 }
 
@@ -98,6 +101,40 @@ fn add_side(side: Option<Sym>, symbols: &mut SymbolList) -> Result<(), AllocErro
     ensures { OnOk result ((s : Symbol) → Contains symbols.new s ↔ (Contains symbols.old s ⊎ (side ≡ Some s))) }
 {
     if let Some(symbol) = side {
+        symbols.add(symbol)?;
+    }
+    Ok(())
+}
+
+/// Adds the symbols on both sides of edges, but for conditions.
+fn add_flagged(edges: &[Edge<Pair>], symbols: &mut SymbolList) -> Result<(), AllocError>
+    ensures { OnOk result ((s : Symbol) → Contains symbols.new s ↔ (Contains symbols.old s ⊎ ((e : EdgeOf Letter) × Contains edges.now e × ((pair : Letter) × (e.letter ≡ Some pair) × IsLetterOn pair s)))) }
+{
+    'edges: for edge in edges {
+        add_pair_letters(edge.letter, symbols)?;
+    }
+    Ok(())
+}
+
+/// Adds the symbols on both sides of a pair, if there is one, but for a condition.
+fn add_pair_letters(letter: Option<Pair>, symbols: &mut SymbolList) -> Result<(), AllocError>
+    ensures { OnOk result ((s : Symbol) → Contains symbols.new s ↔ (Contains symbols.old s ⊎ ((pair : Letter) × (letter ≡ Some pair) × IsLetterOn pair s))) }
+{
+    let Some(pair) = letter else {
+        return Ok(());
+    };
+    add_upper_letter(pair.up, symbols)?;
+    add_side(pair.low, symbols)
+}
+
+/// Adds the symbol of an upper side, if it has one that is no condition.
+fn add_upper_letter(side: Option<Sym>, symbols: &mut SymbolList) -> Result<(), AllocError>
+    ensures { OnOk result ((s : Symbol) → Contains symbols.new s ↔ (Contains symbols.old s ⊎ ((side ≡ Some s) × (s.0 < first)))) }
+{
+    let Some(symbol) = side else {
+        return Ok(());
+    };
+    if symbol.0 < FIRST {
         symbols.add(symbol)?;
     }
     Ok(())

@@ -13,13 +13,13 @@ use Rattle.fsa.specs.Language.{Accepts}
 use Rattle.regex_ast.specs.declared.expr.Atom.{Atom}
 use Rattle.regex_ast.specs.declared.expr.Atom.TheVariants.{Sym as Symbol, Name}
 use Rattle.regex_ast.specs.Terms.{atom}
-use Rattle.expr_kinds.specs.declared.form.Kind.TheVariants.{Language}
+use Rattle.expr_kinds.specs.declared.form.Kind.TheVariants.{Language, Relation}
 use Rattle.expr_meaning.specs.Leaves.{AreSound}
 use Rattle.expr_meaning.specs.Operators.{inner, IsItself, WithEdge}
 use Rattle.expr_meaning.proofs.Inner.{inner_same}
 use Rattle.network_algebra.specs.Networks.{all_letters, IsFor, IsNetwork, PairsOf, UsesOnly, WordsOf, kind_of_network}
 use Rattle.network_algebra.specs.declared.network.Network.{Network}
-use Rattle.network_algebra.specs.declared.network.Network.TheVariants.{Words, Pairs}
+use Rattle.network_algebra.specs.declared.network.Network.TheVariants.{Words, Pairs, Flagged}
 use Rattle.network_algebra.proofs.Meanings.{no_language}
 use Rattle.network_expr.specs.Built.{IsMeant}
 use Rattle.network_expr.specs.Parts.{part_of, stands, kinds, kind_of_part}
@@ -29,6 +29,7 @@ use Rattle.network_expr.specs.declared.parts.Part.{Part}
 network_itself : (n : Network) → kind_of_network n ≡ Language → (u w : List Sym) → PairsOf n u w → u ≡ w
 network_itself (Words m) is u w h = h.1
 network_itself (Pairs m) is u w h = absurd (no_language is)
+network_itself (Flagged f) is u w h = absurd (no_language is)
 
 part_itself : (part : Option Part) → kind_of_part part ≡ Language → (u w : List Sym) → MatchOption part ⊥ (λ p. PairsOf p.network.now u w) → u ≡ w
 part_itself None is u w h = absurd h
@@ -96,10 +97,16 @@ without_edge_only m r i inside edged symbols only x used =
     let s = edged x used in
     subst (Contains (all_letters symbols)) (sym s.2) (only (Inner s.0) (inside s.0 s.1))
 
+-- a network that isn't that of a language
+pub relation_unless : (n : Network) → ((m : Automaton (Bound Sym)) → n ≡ Words m → ⊥) → kind_of_network n ≡ Relation
+relation_unless (Words m) none = absurd (none m refl)
+relation_unless (Pairs m) none = refl
+relation_unless (Flagged f) none = refl
+
 -- a relation's network
-pub relation_for : (n r : Network) (m : Automaton Pair) → n ≡ Pairs m → IsFor (kind_of_network n) (WordsOf n) (PairsOf n) r → IsFor (kind_of_network n) (WithEdge (λ u. PairsOf n u u)) (PairsOf n) r
-relation_for n r m is h = record {
+pub relation_for : (n r : Network) → kind_of_network n ≡ Relation → IsFor (kind_of_network n) (WordsOf n) (PairsOf n) r → IsFor (kind_of_network n) (WithEdge (λ u. PairsOf n u u)) (PairsOf n) r
+relation_for n r is h = record {
   kind_is = h.kind_is;
-  words = λ language w. absurd (no_language (sym (ap (λ (x : Network). kind_of_network x) is) ∙ language));
+  words = λ language w. absurd (no_language (sym is ∙ language));
   pairs = h.pairs;
 }

@@ -84,6 +84,7 @@ fn states(network: &Network) -> usize {
     match network {
         Network::Words(words) => words.states(),
         Network::Pairs(pairs) => pairs.states(),
+        Network::Flagged(flagged) => flagged.states(),
     }
 }
 
@@ -92,6 +93,7 @@ fn size(network: &Network) -> usize {
     let edges = match network {
         Network::Words(words) => words.edges().len(),
         Network::Pairs(pairs) => pairs.edges().len(),
+        Network::Flagged(flagged) => flagged.net().edges().len(),
     };
     states(network).saturating_add(edges)
 }

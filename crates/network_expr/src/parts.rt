@@ -35,6 +35,6 @@ pub fn without_edge(alloc: Global, network: &Network) -> Result<Network, AllocEr
 {
     match network {
         Network::Words(words) => Ok(Network::Words(with_edge(alloc, &inside(alloc, words)?)?)),
-        Network::Pairs(_) => reduced(alloc, network),
+        Network::Pairs(_) | Network::Flagged(_) => reduced(alloc, network),
     }
 }

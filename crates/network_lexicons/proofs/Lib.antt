@@ -4,3 +4,4 @@ pub mod Formed
 pub mod Gathered
 pub mod Walked
 pub mod Related
+pub mod Resolutions

@@ -5,11 +5,12 @@ use Rattle.std.specs.Option.{option_to_list}
 use Rattle.std.specs.Str.{bytes_eq}
 use Rattle.word_relations.specs.Relations.{AreSame}
 use Rattle.word_relations.specs.Words.{IsDistinct}
+use Rattle.word_relations.proofs.Pairs.{same_trans}
 use Rattle.fsm_base.specs.declared.letters.Sym.{Sym}
 use Rattle.fsm_base.specs.declared.letters.Pair.{Pair}
 use Rattle.fsa.specs.Automaton.{Automaton, UsesLetter}
 use Rattle.fsa.specs.Language.{Accepts}
-use Rattle.fst_algebra.specs.Relation.{IsRelated, uppers, lowers}
+use Rattle.fst_algebra.specs.Relation.{uppers, lowers}
 use Rattle.regex_ast.specs.declared.expr.Atom.{Atom}
 use Rattle.regex_ast.specs.declared.lexc.FlagOp.{FlagOp}
 use Rattle.project_meaning.specs.Trees.{Piece, letter, flag, Lexicon}
@@ -19,15 +20,13 @@ use Rattle.flag_diacritics.specs.Tapes.{flag_of, upper_flag, lower_flag, pairs_o
 use Rattle.flag_diacritics.specs.declared.tape.Tape.{Tape}
 use Rattle.flag_diacritics.specs.declared.tape.Tape.TheVariants.{Pair as OfPair, UpFlag, LowFlag}
 use Rattle.lexc_compile.specs.Paths.{HasPath, PlacedEntry, SomeEntryUses}
-use Rattle.expr_kinds.specs.declared.form.Kind.TheVariants.{Relation}
-use Rattle.network_algebra.specs.Networks.{IsFor, IsNetwork, UsesSymbols, PairsOf, WordsOf, kind_of_network}
+use Rattle.network_algebra.specs.Networks.{PairsOf, RelatesOnly}
 use Rattle.network_algebra.specs.declared.network.Network.{Network}
-use Rattle.network_algebra.specs.declared.network.Network.TheVariants.{Pairs}
 use Rattle.network_expr.specs.Parts.{stands}
 use Rattle.network_expr.specs.declared.parts.Part.{Part}
 use Rattle.network_lexicons.specs.Plain.{symbol_in, names_of}
 use Rattle.network_lexicons.specs.Sides.{upper_pieces, lower_pieces, upper_side, lower_side}
-use Rattle.network_lexicons.specs.Entries.{AreLexiconsFor}
+use Rattle.network_lexicons.specs.Entries.{AreLexiconsFor, IsPairOver}
 use Rattle.network_lexicons.proofs.Walked.{walks, pairs_over}
 
 -- symbols don't count for flags
@@ -104,33 +103,10 @@ module _ (parts : List Part) (alphabet : List Sym) (lexicons : List (Lexicon Ato
         ),
   )
 
-  -- the symbols on both sides of what is made of it
-  pub related_symbols : ((x : Tape) → UsesLetter net x → SomeEntryUses (Contains given) x) → (m : Automaton Pair) → ((pair : Pair) → UsesLetter m pair → UsesPair net pair) → UsesSymbols alphabet m
-  related_symbols letters m used =
-      let over = λ (pair : Pair) (uses : UsesLetter m pair). pairs_over parts alphabet lexicons distinct flags given are pair (letters (OfPair pair) (used pair uses)) in
-      record {
-        upper = λ x (pair, uses, is). (over pair uses).up x is;
-        lower = λ x (pair, uses, is). (over pair uses).low x is;
-      }
+  -- the pairs on the tapes are over the alphabet
+  pub pairs_alphabet : ((x : Tape) → UsesLetter net x → SomeEntryUses (Contains given) x) → (pair : Pair) → UsesPair net pair → IsPairOver alphabet pair
+  pairs_alphabet letters pair uses = pairs_over parts alphabet lexicons distinct flags given are pair (letters (OfPair pair) uses)
 
-  -- what is made of the network, reduced
-  pub related_network : ((tape : List Tape) → Accepts net tape ↔ HasPath (Contains given) (Some root) tape) → (m : Automaton Pair) → AreSame (IsRelated m) (TapesRelate net flags) → (n : Network)
-      → IsFor (kind_of_network (Pairs m)) (WordsOf (Pairs m)) (PairsOf (Pairs m)) n → AreSame (PairsOf n) (LexiconsRelate symbol_in (stands parts) alphabet lexicons)
-  related_network language m resolved n is u w =
-      let made = is.pairs u w in
-      let tapes = resolved u w in
-      let paths = related language u w in
-      (λ h. paths.0 (tapes.0 (made.0 h)), λ h. made.1 (tapes.1 (paths.1 h)))
-
-pub relation_made : (m : Automaton Pair) (n : Network) → IsFor (kind_of_network (Pairs m)) (WordsOf (Pairs m)) (PairsOf (Pairs m)) n → kind_of_network n ≡ Relation
-relation_made m n is = is.kind_is
-
-pub over_made : (alphabet : List Sym) (a n : Network) → IsNetwork alphabet a → ((symbols : List Sym) → IsNetwork symbols a → IsNetwork symbols n) → IsNetwork alphabet n
-over_made alphabet a n over same = same alphabet over
-
--- an automaton of the same lists of pairs
-pub same_relation : (m n : Automaton Pair) (R : List Sym → List Sym → Type 0) → ((w : List Pair) → Accepts n w ↔ Accepts m w) → AreSame (IsRelated m) R → AreSame (IsRelated n) R
-same_relation m n R language same upper lower = (
-  λ (pairs, accepted, is_upper, is_lower). (same upper lower).0 (pairs, (language pairs).0 accepted, is_upper, is_lower),
-  λ r. let (pairs, accepted, is_upper, is_lower) = (same upper lower).1 r in (pairs, (language pairs).1 accepted, is_upper, is_lower),
-)
+  -- what relates the tapes whose flags pass
+  pub related_network : ((tape : List Tape) → Accepts net tape ↔ HasPath (Contains given) (Some root) tape) → (n : Network) → RelatesOnly (TapesRelate net flags) n → AreSame (PairsOf n) (LexiconsRelate symbol_in (stands parts) alphabet lexicons)
+  related_network language n is = same_trans (PairsOf n) (TapesRelate net flags) (LexiconsRelate symbol_in (stands parts) alphabet lexicons) is.pairs (related language)

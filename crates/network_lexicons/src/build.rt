@@ -11,18 +11,18 @@ ghost use Rattle.network_lexicons.specs.Plain.{lexicon_of, names_of, symbol_in};
 use crate::entries::add_lexicons;
 use crate::flags::Flags;
 use crate::names::Names;
-use crate::small::{small, straightened};
-use flag_diacritics::resolve;
+use crate::passing::network_of_tapes;
+use crate::small::small;
 use fsm_base::Sym;
 use lexc_compile::LexiconBuilder;
-use network_algebra::{Network, reduced};
+use network_algebra::Network;
 use network_expr::Part;
 use regex_ast::{Atom, Lexicon};
 use std::alloc::{AllocError, Global};
 
 /// The network of lexicons: the two sides of each path from the lexicon `Root` on which the flags of each side pass by
 /// themselves, without these flags. It is made of one automaton, to which all entries are given one by one. That is made
-/// small before its flags are resolved, and straightened and reduced once behind that.
+/// small, and then its flags are made states, or stay as conditions where these would be many.
 pub fn network_of_lexicons(
     alloc: Global,
     alphabet: &[Sym],
@@ -53,7 +53,5 @@ pub fn network_of_lexicons(
         &mut flags,
     )?;
     let tapes = small(alloc, builder.finish())?;
-    let resolved = resolve(alloc, &tapes, flags.as_slice())?;
-    let pairs = straightened(alloc, resolved)?;
-    reduced(alloc, &Network::Pairs(pairs))
+    network_of_tapes(alloc, &tapes, flags.as_slice())
 }

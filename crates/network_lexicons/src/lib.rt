@@ -4,7 +4,8 @@
 //!   side pass. What lexicons relate is defined in project_meaning (`specs/Lexicons.antt`).
 //! - `tapes`: the two sides of an entry as one tape. `forms`: what an entry adds. `entries`: the entries of all lexicons,
 //!   which are given to one automaton (lexc_compile). `names`: places of lexicons. `flags`: numbers of flags. `small`: that
-//!   automaton, made small, and the transducer that is left of it without flags, straightened.
+//!   automaton, made small, and the transducer that is left of it without flags, straightened. `passing`: its network, whose
+//!   flags are states or conditions.
 #![tactic(auto)]
 
 mod build;
@@ -12,6 +13,7 @@ mod entries;
 mod flags;
 mod forms;
 mod names;
+mod passing;
 mod small;
 mod tapes;
 

@@ -12,12 +12,15 @@ use Rattle.fst_algebra.specs.Relations.{UsesUpper, UsesLower}
 use Rattle.expr_kinds.specs.Kinds.{both}
 use Rattle.expr_meaning.specs.Operators.{IsItself}
 use Rattle.expr_meaning.proofs.Itself.{as_it_is, composition_itself}
-use Rattle.network_algebra.specs.Networks.{all_letters, UsesOnly, UsesSymbols, IsNetwork, kind_of_network, WordsOf, PairsOf, IsFor, AreOperands}
+use Rattle.network_algebra.specs.Networks.{all_letters, UsesOnly, UsesSymbols, IsNetwork, kind_of_network, WordsOf, PairsOf, IsFor, RelatesOnly, AreOperands}
 use Rattle.network_algebra.specs.declared.network.Network.{Network}
 use Rattle.network_algebra.specs.declared.network.Network.TheVariants.{Words, Pairs}
 use Rattle.network_algebra.specs.declared.operands.Operands.{Operands}
-use Rattle.network_algebra.specs.declared.operands.Operands.TheVariants.{Words as BothWords, Pairs as BothPairs}
+use Rattle.network_algebra.specs.declared.operands.Operands.TheVariants.{Words as BothWords, Pairs as BothPairs, Flagged as BothFlagged}
 use Rattle.network_algebra.proofs.Meanings.{words_for, pairs_for}
+use Rattle.network_algebra.proofs.Conditions.{flagged_for, they_may}
+use Rattle.fst_flagged.specs.Flagged.{FlaggedView, FlaggedRelates, UsesLetters}
+use Rattle.network_sets.proofs.Conditions.{composition_same}
 
 module _ (a b : Network) (o : Operands) (ok : AreOperands a b o) where
   abbrev Composed : Network → Type 0
@@ -60,3 +63,18 @@ module _ (a b : Network) (o : Operands) (ok : AreOperands a b o) where
       upper = λ s used. (they_relate.3 symbols first).upper s (up s used);
       lower = λ s used. (they_relate.4 symbols second).lower s (low s used);
     }
+
+  module _ (f g : FlaggedView) (n : Network) (is : o ≡ BothFlagged f g) where
+    pub composed_flagged : RelatesOnly (IsComposition (FlaggedRelates f) (FlaggedRelates g)) n → Composed n
+    composed_flagged only =
+        let may = they_may a b o ok f g is in
+        flagged_for (both (kind_of_network a) (kind_of_network b)) n (λ w. WordsOf a w × WordsOf b w) (IsComposition (PairsOf a) (PairsOf b)) may.0
+        (record {
+          kind_is = only.kind_is;
+          pairs =
+              same_trans (PairsOf n) (IsComposition (FlaggedRelates f) (FlaggedRelates g)) (IsComposition (PairsOf a) (PairsOf b)) only.pairs
+              (composition_same (FlaggedRelates f) (PairsOf a) (FlaggedRelates g) (PairsOf b) may.1 may.2);
+        })
+
+    pub composed_letters : ((symbols : List Sym) → UsesLetters symbols f → UsesLetters symbols g → IsNetwork symbols n) → (symbols : List Sym) → IsNetwork symbols a → IsNetwork symbols b → IsNetwork symbols n
+    composed_letters letters symbols first second = let may = they_may a b o ok f g is in letters symbols (may.3 symbols first) (may.4 symbols second)

@@ -1,5 +1,6 @@
 pub mod Inside
 pub mod Splits
+pub mod Conditions
 pub mod Compositions
 pub mod Restrictions
 pub mod Alike

@@ -4,6 +4,7 @@ ghost use Rattle.word_relations.specs.Relations.{IsComposition};
 ghost use Rattle.expr_kinds.specs.Kinds.{both};
 ghost use Rattle.network_algebra.specs.Networks.{IsFor, IsNetwork, PairsOf, WordsOf, kind_of_network};
 
+use crate::conditional::compose_flagged;
 use crate::relations::compose_reduced;
 use crate::sets::both;
 use fsm_base::Sym;
@@ -26,5 +27,6 @@ pub fn compose(
     match alike(alloc, a, b)? {
         Operands::Words(x, y) => Ok(Network::Words(both(alloc, symbols, &x, &y)?)),
         Operands::Pairs(x, y) => Ok(Network::Pairs(compose_reduced(alloc, &x, &y)?)),
+        Operands::Flagged(x, y) => compose_flagged(alloc, &x, &y),
     }
 }

@@ -4,7 +4,7 @@
 //!
 //! - [`language`]: a language over these letters.
 //! - [`both`], [`minus`], [`ignore`], [`apply_prefix`], [`not_one`]: sets of words.
-//! - [`compose`]: composition, which of languages is [`both`].
+//! - [`compose`]: composition, which of languages is [`both`]. Conditions on the paths of one operand stay.
 //! - [`restrict`]: the words in which each part that is in a language stands at an allowed place. Places are split
 //!   words ([`Split`], of letters that [`every_split_letter`] lists), and [`in_context`] gives those in a context.
 //! - [`apply_prefixes`], [`not_one_times`]: `~`, `$` and backslashes before a language.
@@ -12,6 +12,7 @@
 #![tactic(auto)]
 
 mod composing;
+mod conditional;
 mod parts;
 mod prefixes;
 mod relations;

@@ -1,5 +1,5 @@
 ghost use Rattle.std.specs.Prelude.{IfOk, OnOk};
-ghost use Rattle.lookup.specs.Answering.{IsOverAlphabet};
+ghost use Rattle.lookup.specs.Answering.{HasSymbolsOf, IsOverAlphabet};
 
 use crate::answers::{answer_of, told};
 use crate::sides::is_side;
@@ -66,7 +66,7 @@ fn last_of(symbols: &Symbols, rows: &str) -> usize {
 
 /// Adds an edge. One of other symbols or states is left out.
 fn add_row(fsa: &mut Fsa<Pair>, alphabet: &Alphabet, row: Row) -> Result<(), AllocError>
-    ensures { OnOk result (IsOverAlphabet alphabet.now fsa.old → IsOverAlphabet alphabet.now fsa.new) }
+    ensures { OnOk result (HasSymbolsOf alphabet.now fsa.old → HasSymbolsOf alphabet.now fsa.new) }
 {
     let (from, up, low, to) = row;
     if from.max(to) >= fsa.states() || !is_side(alphabet, up) || !is_side(alphabet, low) {

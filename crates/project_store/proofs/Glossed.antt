@@ -6,9 +6,8 @@ use Rattle.word_relations.specs.Answers.{Answers, Found}
 use Rattle.word_relations.specs.Words.{IsOver}
 use Rattle.fsm_base.specs.Alphabet.{spelled, symbols_of, texts_of}
 use Rattle.fsm_base.specs.Cut.{cut}
-use Rattle.fsm_base.specs.declared.letters.Pair.{Pair}
 use Rattle.fsm_base.specs.declared.letters.Sym.{Sym}
-use Rattle.fsa.specs.Automaton.{Automaton}
+use Rattle.lookup.specs.Nets.{NetView}
 use Rattle.interlinear.specs.Blocks.{block_of}
 use Rattle.interlinear.specs.Glosses.{Entry}
 use Rattle.interlinear.specs.Replies.{AreCells, GlossesText, IsCell, analysis_of, gloss_in, in_block, looked_up, no_net, no_symbol}
@@ -28,7 +27,7 @@ IsShort word = length word < 2 ^ 32 - 1
 pub words_short : (text : List ℕ) → IsUtf8 text → length text < 2 ^ 32 - 1 → All IsShort (words_of text)
 words_short text utf8 short = All-weaker (IsWithin (length text)) IsShort (λ word within. omega (arith, within, short)) (words_of text) (words_within text utf8)
 
-module _ (alphabet : List (Sym × List ℕ)) (name : List ℕ) (net : Automaton Pair) (project : Project) (glosses : List Entry) (shown : Shows (record { alphabet = alphabet; name = name; net = Some net; glosses = glosses }) project) (entries : List Entry) where
+module _ (alphabet : List (Sym × List ℕ)) (name : List ℕ) (net : NetView) (project : Project) (glosses : List Entry) (shown : Shows (record { alphabet = alphabet; name = name; net = Some net; glosses = glosses }) project) (entries : List Entry) where
   -- the cell of a word that was looked up, and of one in which no symbol begins at a place
   pub cell_found : (cell : Cell) (word : List ℕ) (symbols : List Sym) (found : Found) → cell.word ≡ word → cut (texts_of alphabet) word ≡ Ok (spelled alphabet symbols) → IsOver (symbols_of alphabet) symbols
       → Answers (TextsTo Up net alphabet symbols) found → cell.analysis ≡ analysis_of found → cell.gloss ≡ gloss_in entries found → IsCell project entries name cell
@@ -64,7 +63,7 @@ pub text_netless : (alphabet : List (Sym × List ℕ)) (name : List ℕ) (glosse
 text_netless alphabet name glosses project shown entries version text bytes is = no_net shown.net is
 
 -- the same of what a call answered
-module _ (alphabet : List (Sym × List ℕ)) (name : List ℕ) (net : Automaton Pair) (project : Project) (glosses : List Entry) (shown : Shows (record { alphabet = alphabet; name = name; net = Some net; glosses = glosses }) project) (entries : List Entry) where
+module _ (alphabet : List (Sym × List ℕ)) (name : List ℕ) (net : NetView) (project : Project) (glosses : List Entry) (shown : Shows (record { alphabet = alphabet; name = name; net = Some net; glosses = glosses }) project) (entries : List Entry) where
   pub cell_if_found : {E : Type 0} (r : Result Cell E) (word : List ℕ) (symbols : List Sym) (found : Found) → cut (texts_of alphabet) word ≡ Ok (spelled alphabet symbols) → IsOver (symbols_of alphabet) symbols → Answers (TextsTo Up net alphabet symbols) found
       → IfOk r (λ cell. cell.word ≡ word) → IfOk r (λ cell. cell.analysis ≡ analysis_of found) → IfOk r (λ cell. cell.gloss ≡ gloss_in entries found) → IfOk r (IsCell project entries name)
   cell_if_found (Ok cell) word symbols found is over answers same analysis gloss = cell_found alphabet name net project glosses shown entries cell word symbols found same is over answers analysis gloss

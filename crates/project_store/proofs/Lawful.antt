@@ -10,14 +10,12 @@ use Rattle.fsm_base.specs.Cut.{cut}
 use Rattle.word_relations.specs.Answers.{Answers, Found, strings, more, loop, times}
 use Rattle.lookup_answers.specs.declared.direction.Direction.{Direction}
 use Rattle.lookup_answers.specs.declared.direction.Direction.TheVariants.{Up, Down}
-use Rattle.fsa.specs.Automaton.{Automaton}
-use Rattle.fsm_base.specs.declared.letters.Pair.{Pair}
 use Rattle.interlinear.specs.Glosses.{Entry as Glossed}
 use Rattle.project_meaning.specs.Projects.{Project}
 use Rattle.reply_meaning.specs.Replies.{RepliesToWord, answered, no_net, no_symbol, Related, answer_bytes, headed}
-use Rattle.fst_algebra.specs.Relation.{IsRelated}
-use Rattle.fst_algebra.proofs.Used.{upper_used, lower_used}
 use Rattle.lookup.specs.Answering.{UpperTexts, LowerTexts}
+use Rattle.lookup.specs.Nets.{NetView, NetRelates}
+use Rattle.lookup_walk.proofs.Related.{symbols_above, symbols_below}
 use Rattle.project_store.specs.Networks.{Shows, TextsTo}
 use Rattle.project_model.proofs.Alphabets.{cases_bool}
 
@@ -91,13 +89,13 @@ answers_same T U same more a = record {
 }
 answers_same T U same (loop before round after) a = record { goes_round = a.goes_round; related = λ m. (same (before ++ times m round ++ after)).0 (a.related m) }
 
-module _ (alphabet : List (Sym × List ℕ)) (name : List ℕ) (net : Automaton Pair) (project : Project) (glosses : List Glossed) (shown : Shows (record { alphabet = alphabet; name = name; net = Some net; glosses = glosses }) project) where
+module _ (alphabet : List (Sym × List ℕ)) (name : List ℕ) (net : NetView) (project : Project) (glosses : List Glossed) (shown : Shows (record { alphabet = alphabet; name = name; net = Some net; glosses = glosses }) project) where
   -- related words are of the alphabet
-  upper_over : (upper lower : List Sym) → IsRelated net upper lower → IsOver (symbols_of alphabet) upper
-  upper_over upper lower related = each_over (symbols_of alphabet) upper (λ symbol among. let used = upper_used net upper lower related symbol among in shown.net.over used.0 symbol used.1 (inl used.2))
+  upper_over : (upper lower : List Sym) → NetRelates net upper lower → IsOver (symbols_of alphabet) upper
+  upper_over upper lower related = each_over (symbols_of alphabet) upper (symbols_above alphabet net shown.net.over upper lower related)
 
-  lower_over : (upper lower : List Sym) → IsRelated net upper lower → IsOver (symbols_of alphabet) lower
-  lower_over upper lower related = each_over (symbols_of alphabet) lower (λ symbol among. let used = lower_used net upper lower related symbol among in shown.net.over used.0 symbol used.1 (inr used.2))
+  lower_over : (upper lower : List Sym) → NetRelates net upper lower → IsOver (symbols_of alphabet) lower
+  lower_over upper lower related = each_over (symbols_of alphabet) lower (symbols_below alphabet net shown.net.over upper lower related)
 
   -- the texts that the network finds are those that the project relates
   upper_texts : (lower : List Sym) → IsOver (symbols_of alphabet) lower → (text : List ℕ) → UpperTexts net alphabet lower text ↔ Related project Up name (spelled alphabet lower) text
@@ -105,7 +103,7 @@ module _ (alphabet : List (Sym × List ℕ)) (name : List ℕ) (net : Automaton 
     λ (texts, (upper, related, is), text_is). (texts, (shown.net.relates texts (spelled alphabet lower)).1 (upper, lower, related, is, refl), text_is),
     λ (texts, meaning, text_is).
         let (upper, lower', related, is, same) = (shown.net.relates texts (spelled alphabet lower)).0 meaning in
-        (texts, (upper, subst (λ (z : List Sym). IsRelated net upper z) (sym (word_from_texts alphabet shown.formed lower lower' over (lower_over upper lower' related) same)) related, is), text_is),
+        (texts, (upper, subst (λ (z : List Sym). NetRelates net upper z) (sym (word_from_texts alphabet shown.formed lower lower' over (lower_over upper lower' related) same)) related, is), text_is),
   )
 
   lower_texts : (upper : List Sym) → IsOver (symbols_of alphabet) upper → (text : List ℕ) → LowerTexts net alphabet upper text ↔ Related project Down name (spelled alphabet upper) text
@@ -113,7 +111,7 @@ module _ (alphabet : List (Sym × List ℕ)) (name : List ℕ) (net : Automaton 
     λ (texts, (lower, related, is), text_is). (texts, (shown.net.relates (spelled alphabet upper) texts).1 (upper, lower, related, refl, is), text_is),
     λ (texts, meaning, text_is).
         let (upper', lower, related, same, is) = (shown.net.relates (spelled alphabet upper) texts).0 meaning in
-        (texts, (lower, subst (λ (z : List Sym). IsRelated net z lower) (sym (word_from_texts alphabet shown.formed upper upper' over (upper_over upper' lower related) same)) related, is), text_is),
+        (texts, (lower, subst (λ (z : List Sym). NetRelates net z lower) (sym (word_from_texts alphabet shown.formed upper upper' over (upper_over upper' lower related) same)) related, is), text_is),
   )
 
   pub found_texts : (direction : Direction) (word : List Sym) → IsOver (symbols_of alphabet) word → (text : List ℕ) → TextsTo direction net alphabet word text ↔ Related project direction name (spelled alphabet word) text

@@ -11,10 +11,7 @@ use Rattle.word_relations.proofs.Places.{Contains-from_slice_get}
 use Rattle.fsm_base.specs.Alphabet.{spelled, symbols_of, text_of as text_of_number, texts_of}
 use Rattle.fsm_base.specs.Symbols.{number_of}
 use Rattle.fsm_base.proofs.AlphabetLemmas.{text_of-pair}
-use Rattle.fsm_base.specs.declared.letters.Pair.{Pair}
 use Rattle.fsm_base.specs.declared.letters.Sym.{Sym}
-use Rattle.fsa.specs.Automaton.{Automaton}
-use Rattle.fst_algebra.specs.Relation.{IsRelated}
 use Rattle.regex_ast.specs.Terms.{Term}
 use Rattle.regex_ast.specs.declared.expr.Atom.{Atom}
 use Rattle.regex_ast.specs.declared.expr.Raw.{Raw}
@@ -50,6 +47,7 @@ use Rattle.project_meaning.specs.Meaning.{InExpression, Word, BodyRelates, Meani
 use Rattle.project_meaning.proofs.Depths.{names_unfold}
 use Rattle.project_meaning.proofs.Places.{in_flat}
 use Rattle.lookup.specs.Answering.{IsOverAlphabet}
+use Rattle.lookup.specs.Nets.{NetView, NetRelates}
 use Rattle.project_sources.specs.Built.{BodyIsBuiltBy, LexiconIsBuiltBy}
 use Rattle.project_sources.specs.Sources.{Said, project_in}
 use Rattle.name_resolution.specs.Numbered.{numbered}
@@ -422,7 +420,7 @@ module _ (said : Said) (loaded : LoadedView) (from : IsLoadedFrom said loaded) w
               })
 
     -- a network that is built here shows the name
-    pub shows_name : (name : List ℕ) → d.name ≡ name → (n : Network) (net : Automaton Pair) → IsBuiltAt loaded place n → AreSame (IsRelated net) (PairsOf n) → IsOverAlphabet loaded.alphabet net
+    pub shows_name : (name : List ℕ) → d.name ≡ name → (n : Network) (net : NetView) → IsBuiltAt loaded place n → AreSame (NetRelates net) (PairsOf n) → IsOverAlphabet loaded.alphabet net
         → ShowsName loaded.alphabet name net (project_in said)
     shows_name name is n net built same over =
         let spelled_as = built.means said from name (subst (λ (x : List ℕ). slice_get names place ≡ Some x) (same_name ∙ is) name_here) in

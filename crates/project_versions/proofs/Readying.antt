@@ -3,8 +3,7 @@ use Rattle.std.proofs.Common.{◌≡◌, ◌≢◌, ◌<◌, ◌≤◌, ◌+◌,
 use Rattle.std.proofs.lemmas.List.{append-nil, drop_all, length-append, length-map, take_all}
 use Rattle.std.proofs.lemmas.Option.{same_Some, slice_get_cases, slice_get_within}
 use Rattle.word_relations.proofs.Places.{slice_get-append_cases}
-use Rattle.fsa.specs.Automaton.{Automaton}
-use Rattle.fsm_base.specs.declared.letters.Pair.{Pair}
+use Rattle.lookup.specs.Nets.{NetView}
 use Rattle.name_order.specs.Orders.{IsOrder}
 use Rattle.network_algebra.specs.declared.network.Network.{Network}
 use Rattle.project_meaning.specs.Projects.{names_of}
@@ -37,13 +36,13 @@ all_there loaded order ordered wanted i built past so_far = record {
 }
 
 -- the networks before a place are ready, and the others still stand
-pub record ReadySoFar (first : List (Option Network)) (place : ℕ) (left : List (Option Network)) (nets : List (Automaton Pair)) : Type 0 where
+pub record ReadySoFar (first : List (Option Network)) (place : ℕ) (left : List (Option Network)) (nets : List NetView) : Type 0 where
   pub count : length nets ≡ place
-  pub each : (at : ℕ) (net : Automaton Pair) → slice_get nets at ≡ Some net → IsReadyAt first at net
+  pub each : (at : ℕ) (net : NetView) → slice_get nets at ≡ Some net → IsReadyAt first at net
   pub stand : (at : ℕ) → place ≤ at → slice_get left at ≡ slice_get first at
 
-no_net : (at : ℕ) (net : Automaton Pair) → slice_get {X = Automaton Pair} [] at ≡ Some net → ⊥
-no_net at net e = let none : ◌≡◌ {A = Option (Automaton Pair)} None (Some net) = e in cc
+no_net : (at : ℕ) (net : NetView) → slice_get {X = NetView} [] at ≡ Some net → ⊥
+no_net at net e = let none : ◌≡◌ {A = Option NetView} None (Some net) = e in cc
 
 pub none_ready : (first : List (Option Network)) → ReadySoFar first 0 first []
 none_ready first = record {
@@ -53,14 +52,14 @@ none_ready first = record {
 }
 
 -- the network at the next place is there
-pub next_there : (loaded : LoadedView) (first left : List (Option Network)) (place : ℕ) (nets : List (Automaton Pair)) → AreAllBuilt loaded first → place < length first → ReadySoFar first place left nets → IsThere left place
+pub next_there : (loaded : LoadedView) (first left : List (Option Network)) (place : ℕ) (nets : List NetView) → AreAllBuilt loaded first → place < length first → ReadySoFar first place left nets → IsThere left place
 next_there loaded first left place nets all within so_far =
     let count = all.are.count in
     let (n, at) = all.all place (omega (arith, within, count)) in
     (n, so_far.stand place (omega arith) ∙ at)
 
 -- it is made ready
-pub next_ready : (first left new : List (Option Network)) (place : ℕ) (nets : List (Automaton Pair)) (net : Automaton Pair) → ReadySoFar first place left nets → IsReadyAt left place net → StayBut place left new
+pub next_ready : (first left new : List (Option Network)) (place : ℕ) (nets : List NetView) (net : NetView) → ReadySoFar first place left nets → IsReadyAt left place net → StayBut place left new
     → ReadySoFar first (place + 1) new (nets ++ net ∷ [])
 next_ready first left new place nets net so_far (n, here, ready) stay = record {
   count = length-append nets (net ∷ []) ∙ ap (λ (k : ℕ). k + 1) so_far.count;
@@ -71,7 +70,7 @@ next_ready first left new place nets net so_far (n, here, ready) stay = record {
   stand = λ at later. (let apart : at ≢ place = omega arith in stay at apart ∙ so_far.stand at (omega (arith, later)));
 }
   where
-    here_at : (at : ℕ) (m : Automaton Pair) (j : ℕ) → at ≡ j + length nets → slice_get (net ∷ []) j ≡ Some m → IsReadyAt first at m
+    here_at : (at : ℕ) (m : NetView) (j : ℕ) → at ≡ j + length nets → slice_get (net ∷ []) j ≡ Some m → IsReadyAt first at m
     here_at at m zero is last =
         let count = so_far.count in
         let at_place : place ≡ at = omega (arith, is, count) in
@@ -84,8 +83,8 @@ written_back old new n same is =
     ap (λ (rest : List (Option Network)). take n (new ++ rest)) (drop_all (length new) old (omega (arith, same))) ∙ ap (take n) (append-nil new) ∙ take_all n new (omega (arith, same, is))
 
 -- all are ready
-module _ (loaded : LoadedView) (built : List (Option Network)) (all : AreAllBuilt loaded built) (i : ℕ) (within : i ≤ length built) (past : length built ≤ i) (left : List (Option Network)) (nets : List (Automaton Pair)) (so_far : ReadySoFar built i left nets) where
-  shown : (said : Said) → IsLoadedFrom said loaded → (place : ℕ) (name : List ℕ) (net : Automaton Pair) → slice_get (names_of said.written) place ≡ Some name → slice_get nets place ≡ Some net → ShowsName loaded.alphabet name net (project_in said)
+module _ (loaded : LoadedView) (built : List (Option Network)) (all : AreAllBuilt loaded built) (i : ℕ) (within : i ≤ length built) (past : length built ≤ i) (left : List (Option Network)) (nets : List NetView) (so_far : ReadySoFar built i left nets) where
+  shown : (said : Said) → IsLoadedFrom said loaded → (place : ℕ) (name : List ℕ) (net : NetView) → slice_get (names_of said.written) place ≡ Some name → slice_get nets place ≡ Some net → ShowsName loaded.alphabet name net (project_in said)
   shown said from place name net named at =
       let (n, there, ready) = so_far.each place net at in
       let built_at = all.are.each place n there in

@@ -6,8 +6,7 @@ use Rattle.std.specs.Arc.{arc_value}
 use Rattle.std.specs.Option.{option_map}
 use Rattle.std.specs.declared.sync.Arc.{Arc}
 use Rattle.std.specs.declared.alloc.AllocError.{AllocError}
-use Rattle.fsa.specs.Automaton.{Automaton}
-use Rattle.fsm_base.specs.declared.letters.Pair.{Pair}
+use Rattle.lookup.specs.Nets.{NetView}
 use Rattle.fsm_base.specs.declared.letters.Sym.{Sym}
 use Rattle.interlinear.specs.Glosses.{Entry}
 use Rattle.network_build.specs.Networks.{CompiledView}
@@ -24,16 +23,16 @@ use Rattle.project_versions.specs.Networks.{AreNetworks, net_of}
 use Rattle.project_versions.specs.Versions.{Stands, VersionView}
 
 -- the automaton at a place, as it is reached through the shared networks
-pub net_there : (items : List (Arc CompiledView Global)) (place count : ℕ) (shared : Arc CompiledView Global) (compiled : CompiledView) (net : Automaton Pair) → place < count → length (map net_of items) ≡ count
+pub net_there : (items : List (Arc CompiledView Global)) (place count : ℕ) (shared : Arc CompiledView Global) (compiled : CompiledView) (net : NetView) → place < count → length (map net_of items) ≡ count
     → shared ≡ get_or items place shared → compiled ≡ arc_value shared → net ≡ compiled.net → slice_get (map net_of items) place ≡ Some net
 net_there items place count shared compiled net within size is is_value is_net =
     let same = length-map items net_of in
     let here : slice_get items place ≡ Some shared = slice_get_read items (length items) place shared refl (omega (arith, within, size, same)) is in
-    slice_get-map net_of items place ∙ ap (option_map net_of) here ∙ ap (λ (n : Automaton Pair). Some n) (sym (is_net ∙ ap (λ (z : CompiledView). z.net) is_value))
+    slice_get-map net_of items place ∙ ap (option_map net_of) here ∙ ap (λ (n : NetView). Some n) (sym (is_net ∙ ap (λ (z : CompiledView). z.net) is_value))
 
 module _ (view : VersionView) (meant : Version) (stands : Stands view meant) where
   -- a network shows the project where the name means there what it does
-  shows : (name : List ℕ) (net : Option (Automaton Pair)) → ShowsNet view.loaded.alphabet name net meant.project → Shows (record { alphabet = view.loaded.alphabet; name = name; net = net; glosses = view.loaded.glosses }) meant.project
+  shows : (name : List ℕ) (net : Option NetView) → ShowsNet view.loaded.alphabet name net meant.project → Shows (record { alphabet = view.loaded.alphabet; name = name; net = net; glosses = view.loaded.glosses }) meant.project
   shows name net is = record {
     formed = stands.loaded.formed;
     alphabet = ap (λ (p : Project). p.alphabet) stands.project ∙ sym stands.loaded.texts;
@@ -41,7 +40,7 @@ module _ (view : VersionView) (meant : Version) (stands : Stands view meant) whe
   }
 
   -- the network at the place of the name
-  pub shows_here : AreNetworks view.loaded view.nets → (name : List ℕ) (place : ℕ) (d : Definition) → slice_get view.loaded.definitions place ≡ Some d → d.name ≡ name → (net : Automaton Pair) → slice_get view.nets place ≡ Some net
+  pub shows_here : AreNetworks view.loaded view.nets → (name : List ℕ) (place : ℕ) (d : Definition) → slice_get view.loaded.definitions place ≡ Some d → d.name ≡ name → (net : NetView) → slice_get view.nets place ≡ Some net
       → Shows (record { alphabet = view.loaded.alphabet; name = name; net = Some net; glosses = view.loaded.glosses }) meant.project
   shows_here networks name place d at named net there =
       let from = stands.loaded in
@@ -54,7 +53,7 @@ module _ (view : VersionView) (meant : Version) (stands : Stands view meant) whe
   shows_nowhere name none = shows name None (subst (λ (p : Project). ShowsNet view.loaded.alphabet name None p) (sym stands.project) (shows_none stands.said view.loaded stands.loaded name none))
 
   -- the same over an alphabet that is equal
-  pub shows_over : (letters : List (Sym × List ℕ)) → letters ≡ view.loaded.alphabet → (name : List ℕ) (net : Option (Automaton Pair)) → Shows (record { alphabet = view.loaded.alphabet; name = name; net = net; glosses = view.loaded.glosses }) meant.project
+  pub shows_over : (letters : List (Sym × List ℕ)) → letters ≡ view.loaded.alphabet → (name : List ℕ) (net : Option NetView) → Shows (record { alphabet = view.loaded.alphabet; name = name; net = net; glosses = view.loaded.glosses }) meant.project
       → Shows (record { alphabet = letters; name = name; net = net; glosses = view.loaded.glosses }) meant.project
   shows_over letters same name net shown = subst (λ (alphabet : List (Sym × List ℕ)). Shows (record { alphabet = alphabet; name = name; net = net; glosses = view.loaded.glosses }) meant.project) (sym same) shown
 

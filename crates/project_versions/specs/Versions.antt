@@ -1,8 +1,7 @@
 -- A version of a project, and the version that it stands for.
 use Rattle.std.specs.Prelude.{◌≡◌, ◌≤◌, ◌+◌, ℕ, List, Ok}
 use Rattle.editor_meaning.specs.Editing.{most_edits}
-use Rattle.fsa.specs.Automaton.{Automaton}
-use Rattle.fsm_base.specs.declared.letters.Pair.{Pair}
+use Rattle.lookup.specs.Nets.{NetView}
 use Rattle.fsm_io.specs.Folders.{Files}
 use Rattle.project_sources.specs.Edits.{Version}
 use Rattle.project_sources.specs.Faults.{SourcesSay, rows}
@@ -17,7 +16,7 @@ pub record VersionView : Type 0 where
   pub number : ℕ
   pub files : Files
   pub loaded : LoadedView
-  pub nets : List (Automaton Pair)
+  pub nets : List NetView
 
 -- The project is that of the version's own files, and each of its names has a network with the meaning of that name, whatever edits
 -- came before

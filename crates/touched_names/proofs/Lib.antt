@@ -7,3 +7,13 @@ pub mod Marked
 pub mod Marking
 pub mod Numbers
 pub mod Touching
+pub mod SamePlaces
+mod Sets
+mod Alike
+mod Lexicons
+mod Centres
+mod Tests
+mod Trees
+mod DefinitionTest
+pub mod Untouched
+pub mod Keeping

@@ -6,8 +6,9 @@ ghost use Rattle.project_definitions.specs.Referring.{references_of};
 ghost use Rattle.project_definitions.specs.declared.definition.Definition.{Definition};
 ghost use Rattle.project_sources.specs.Sources.{Said, project_in};
 ghost use Rattle.word_relations.specs.Words.{IsDistinct};
-ghost use Rattle.touched_names.specs.Itself.{AreNumbers, IsKept, IsTouchedItself, number_there};
+ghost use Rattle.touched_names.specs.Itself.{AreNumbers, IsKept, IsTouchedItself, names_in, number_there, places_among};
 ghost use Rattle.touched_names.specs.Places.{IsMarked};
+ghost use Rattle.touched_names.specs.Staying.{IsSameAt};
 ghost use Rattle.touched_names.specs.Touched.{AreTouched, StandFor};
 
 use crate::bodies::{body_uses, same_body};
@@ -15,7 +16,7 @@ use crate::places::touched_places;
 use crate::stand::Stand;
 use crate::texts::{are_below, names_in, places_among, texts_in};
 use body_equality::Renumbering;
-use fsm_base::Text;
+use fsm_base::{Alphabet, Text};
 use project_definitions::Definition;
 use std::alloc::{AllocError, Global};
 
@@ -130,4 +131,45 @@ pub fn touched(
         same_symbols,
     )?;
     touched_places(alloc, new.definitions, &itself, order)
+}
+
+/// The places of the names of new definitions among old ones, counted from 0, in the order of the new ones. A name that no old definition
+/// has gets the number of the old ones.
+pub fn places_before(
+    alloc: Global,
+    old: &[Definition],
+    new: &[Definition],
+) -> Result<Vec<usize>, AllocError>
+    ensures places { IsDistinct (names_in old.now) → IfOk result (λ places. places.items ≡ places_among (names_in old.now) (names_in new.now)) }
+    ensures count { IfOk result (λ places. length places.items ≡ length new.now) }
+{
+    places_among(alloc, &names_in(alloc, old)?, &names_in(alloc, new)?)
+}
+
+/// Marks for the places of an old alphabet, counted from 0, at which the new one has the same symbol.
+pub fn same_places(alloc: Global, old: &Alphabet, new: &Alphabet) -> Result<Vec<bool>, AllocError>
+    ensures { IfOk result (λ marks. (place : ℕ) → IsMarked marks.items place ↔ IsSameAt (texts_of old.now) (texts_of new.now) place) }
+{
+    same_texts(alloc, &texts_in(alloc, old)?, &texts_in(alloc, new)?)
+}
+
+/// Marks for the places of texts at which others have the same text.
+fn same_texts(alloc: Global, texts: &[Text], others: &[Text]) -> Result<Vec<bool>, AllocError>
+    ensures { IfOk result (λ marks. (place : ℕ) → IsMarked marks.items place ↔ IsSameAt texts.now others.now place) }
+{
+    let mut marks = Vec::new(alloc);
+    'texts: for (place, text) in texts.iter().enumerate() {
+        marks.push(is_at(others, place, text))?;
+    }
+    Ok(marks)
+}
+
+/// Whether this text stands at a place.
+fn is_at(texts: &[Text], place: usize, text: &Text) -> bool
+    ensures { IsTrue result ↔ (slice_get texts.now place ≡ Some text.now) }
+{
+    match texts.get(place) {
+        Some(other) => other == text,
+        None => false,
+    }
 }

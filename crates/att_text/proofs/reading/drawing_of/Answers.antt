@@ -1,5 +1,3 @@
-use Rattle.std.proofs.Common.{◌≡◌, ◌+◌, ◌<◌, ◌≤◌, length, arith}
-use Rattle.std.proofs.lemmas.List.{nil_from_length}
 use Rattle.att_text.proofs.Beside.{extends_then}
 use Rattle.att_text.proofs.Lines.{reading_more, reading_none}
 use Rattle.att_text.proofs.reading.drawing_of.Goals as goal

@@ -1,11 +1,10 @@
 use Rattle.std.proofs.Common.{◌≤◌, ◌<◌, ◌-◌, ◌^◌, ℕ, List, length, codes, All, sym, ap, subst, ◌∙◌, arith}
 use Rattle.std.specs.List.{AllZip}
 use Rattle.std.proofs.lemmas.List.Elements.{All-weaker}
-use Rattle.fsa.specs.Automaton.{Automaton}
-use Rattle.fsm_base.specs.declared.letters.Pair.{Pair}
 use Rattle.fsm_base.specs.declared.letters.Sym.{Sym}
 use Rattle.interlinear.specs.Glosses.{Entry}
 use Rattle.lookup.specs.Answering.{IsOverAlphabet}
+use Rattle.lookup.specs.Nets.{NetView}
 use Rattle.project_sources.specs.Sources.{project_in}
 use Rattle.project_store.specs.Loaded.{IsLoadedFrom, LoadedView}
 use Rattle.generated_report.specs.Told.{FindsUpper, IsTold}
@@ -16,7 +15,7 @@ use Rattle.generated_report.proofs.reporting.counts_of.Goals as goal
 
 pub told_of_words-requires-clause-over : goal.told_of_words-requires-clause-over
 told_of_words-requires-clause-over c =
-    subst (λ (net : Automaton Pair). IsOverAlphabet c.alphabet.result.now net) (sym c.net.ensures)
+    subst (λ (net : NetView). IsOverAlphabet c.alphabet.result.now net) (sym c.net.ensures)
     (subst (λ (alphabet : List (Sym × List ℕ)). IsOverAlphabet alphabet c.in_ok-compiled.compiled.net) (sym c.alphabet.ensures) c.in_ok-compiled.ensures.over)
 
 pub told_of_words-requires-clause-short : goal.told_of_words-requires-clause-short
@@ -33,7 +32,7 @@ returns c said from =
     let same = c.into_parts-project.ensures.project in
     let loaded : IsLoadedFrom said project = subst (IsLoadedFrom said) (sym same) from in
     let finds : FindsUpper c.alphabet.result.now c.net.result.now meant net =
-    subst (λ (m : Automaton Pair). FindsUpper c.alphabet.result.now m meant net) (sym c.net.ensures)
+    subst (λ (m : NetView). FindsUpper c.alphabet.result.now m meant net) (sym c.net.ensures)
     (subst (λ (alphabet : List (Sym × List ℕ)). FindsUpper alphabet c.in_ok-compiled.compiled.net meant net) (sym c.alphabet.ensures) (c.in_ok-compiled.ensures.finds said loaded)) in
     let glosses = c.glosses.ensures ∙ ap (λ (l : LoadedView). l.glosses) same in
     let words = c.deref.ensures.value ∙ c.in_ok-words.ensures.words in

@@ -1,7 +1,10 @@
-use Rattle.std.proofs.Common.{sym, subst}
+use Rattle.std.proofs.Common.{refl, sym, subst}
+use Rattle.fst_flagged.specs.Flagged.{FlaggedRelates}
+use Rattle.expr_kinds.specs.declared.form.Kind.TheVariants.{Relation}
 use Rattle.network_algebra.specs.Networks.{IsFor, IsNetwork, WordsOf, PairsOf, kind_of_network}
-use Rattle.network_algebra.specs.declared.network.Network.TheVariants.{Words, Pairs}
+use Rattle.network_algebra.specs.declared.network.Network.TheVariants.{Words, Pairs, Flagged}
 use Rattle.network_algebra.proofs.Meanings.{reduced_words, reduced_pairs, symbols_of_one}
+use Rattle.network_algebra.proofs.Conditions.{flagged_for}
 use Rattle.network_algebra.proofs.joining.reduced.Goals as goal
 
 pub returns-in_ok-reduced-in-Words-clause-meaning : goal.returns-in_ok-reduced-in-Words-clause-meaning
@@ -17,3 +20,13 @@ pub returns-in_ok-reduced-in-Pairs-clause-meaning : goal.returns-in_ok-reduced-i
 returns-in_ok-reduced-in-Pairs-clause-meaning c =
     let new = c.in_ok-reduced-in-Pairs.field-0 in
     subst (λ n. IsFor (kind_of_network n) (WordsOf n) (PairsOf n) (Pairs new)) (sym c.in-Pairs.is) (reduced_pairs c.in-Pairs.m new c.in_ok-reduced-in-Pairs.ensures.language)
+
+pub returns-in_ok-reduced-in-Flagged-clause-letters : goal.returns-in_ok-reduced-in-Flagged-clause-letters
+returns-in_ok-reduced-in-Flagged-clause-letters c symbols ok = c.in_ok-reduced-in-Flagged.ensures.letters symbols (subst (IsNetwork symbols) c.in-Flagged.is ok)
+
+pub returns-in_ok-reduced-in-Flagged-clause-meaning : goal.returns-in_ok-reduced-in-Flagged-clause-meaning
+returns-in_ok-reduced-in-Flagged-clause-meaning c =
+    let new = c.in_ok-reduced-in-Flagged.field-0 in
+    let old = c.in-Flagged.f in
+    subst (λ n. IsFor (kind_of_network n) (WordsOf n) (PairsOf n) (Flagged new)) (sym c.in-Flagged.is)
+    (flagged_for Relation (Flagged new) (WordsOf (Flagged old)) (FlaggedRelates old) refl (record { kind_is = refl; pairs = c.in_ok-reduced-in-Flagged.ensures.relation }))

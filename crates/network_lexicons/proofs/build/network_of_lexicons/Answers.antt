@@ -2,12 +2,11 @@ use Rattle.std.proofs.Common.{◌≡◌, ℕ, List, [], Some, codes, map, sym, s
 use Rattle.std.specs.List.{Contains, slice_get}
 use Rattle.std.proofs.lemmas.Option.{slice_get_within}
 use Rattle.std.proofs.lemmas.Result.{IfOk-weaker}
-use Rattle.network_algebra.specs.declared.network.Network.TheVariants.{Pairs}
 use Rattle.network_lexicons.specs.Plain.{lexicon_of, names_of}
 use Rattle.network_lexicons.specs.Entries.{AreLexiconsFor}
 use Rattle.network_lexicons.proofs.Placed.{names_counted}
-use Rattle.flag_diacritics.specs.Tapes.{TapesRelate}
-use Rattle.network_lexicons.proofs.Related.{over_made, related_network, related_symbols, relation_made, same_relation}
+use Rattle.network_lexicons.proofs.Related.{pairs_alphabet, related_network}
+use Rattle.network_lexicons.proofs.Resolutions.{is_relation, letters_at}
 use Rattle.network_lexicons.proofs.build.network_of_lexicons.Goals as goal
 
 pub unreachable-requires : goal.unreachable-requires
@@ -30,12 +29,11 @@ returns-clause-letters c =
     let given = c.in_ok-add_lexicons.ensures.given.1 c.in-Some.root [] c.in_ok-builder.ensures.given in
     let are = subst (λ (ns : List (List ℕ)). AreLexiconsFor c.args.parts.now alphabet ns flags lexicons given.0) c.in_ok-names.ensures given.1 in
     let letters = c.finish.ensures.letters c.in-Some.root given.0 given.2 in
-    let over = related_symbols c.args.parts.now alphabet lexicons c.requires.distinct flags given.0 are c.in-Some.root root c.in_ok-tapes.tapes (λ x uses. letters x (c.in_ok-tapes.ensures.letters x uses)) c.in_ok-pairs.pairs
-    (λ pair uses. c.in_ok-resolved.ensures.pairs pair (c.in_ok-pairs.ensures.letters pair uses)) in
-    IfOk-weaker _ _ _ (λ n. over_made alphabet (Pairs c.in_ok-pairs.pairs) n over) c.reduced.ensures.letters
+    let over = pairs_alphabet c.args.parts.now alphabet lexicons c.requires.distinct flags given.0 are c.in-Some.root root c.in_ok-tapes.tapes (λ x uses. letters x (c.in_ok-tapes.ensures.letters x uses)) in
+    IfOk-weaker _ _ _ (letters_at c.in_ok-tapes.tapes alphabet over) c.network_of_tapes.ensures.letters
 
 pub returns-clause-kind : goal.returns-clause-kind
-returns-clause-kind c = IfOk-weaker _ _ _ (λ n. relation_made c.in_ok-pairs.pairs n) c.reduced.ensures.meaning
+returns-clause-kind c = IfOk-weaker _ _ _ (λ n. is_relation _ n) c.network_of_tapes.ensures.meaning
 
 pub returns-clause-meaning : goal.returns-clause-meaning
 returns-clause-meaning c =
@@ -47,8 +45,6 @@ returns-clause-meaning c =
     let are = subst (λ (ns : List (List ℕ)). AreLexiconsFor c.args.parts.now alphabet ns flags lexicons given.0) c.in_ok-names.ensures given.1 in
     let paths = c.finish.ensures.language c.in-Some.root given.0 given.2 in
     let same = c.in_ok-tapes.ensures.language in
-    let pairs = c.in_ok-pairs.pairs in
-    let resolved = same_relation c.in_ok-resolved.resolved pairs (TapesRelate c.in_ok-tapes.tapes flags) c.in_ok-pairs.ensures.language (rw c.as_slice.ensures at c.in_ok-resolved.ensures.relation) in
     IfOk-weaker _ _ _
-    (λ n. related_network c.args.parts.now alphabet lexicons c.requires.distinct flags given.0 are c.in-Some.root root c.in_ok-tapes.tapes (λ tape. (λ h. (paths tape).0 ((same tape).0 h), λ h. (same tape).1 ((paths tape).1 h))) pairs resolved n)
-    c.reduced.ensures.meaning
+    (λ n. related_network c.args.parts.now alphabet lexicons c.requires.distinct flags given.0 are c.in-Some.root root c.in_ok-tapes.tapes (λ tape. (λ h. (paths tape).0 ((same tape).0 h), λ h. (same tape).1 ((paths tape).1 h))) n)
+    (rw c.as_slice.ensures at c.network_of_tapes.ensures.meaning)

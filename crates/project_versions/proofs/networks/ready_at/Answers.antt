@@ -1,5 +1,5 @@
 use Rattle.std.proofs.Common.{sym, subst}
-use Rattle.fst_algebra.specs.Relation.{IsRelated}
+use Rattle.lookup.specs.Nets.{NetRelates}
 use Rattle.lookup.specs.Answering.{IsOverAlphabet}
 use Rattle.network_algebra.specs.Networks.{PairsOf}
 use Rattle.network_build.specs.Networks.{CompiledView}
@@ -12,7 +12,7 @@ returns-clause-ready c =
       c.taken-network.result,
       c.taken-network.ensures.taken,
       record {
-        relation = subst (λ (z : CompiledView). AreSame (IsRelated z.net) (PairsOf c.taken-network.result)) (sym same) c.in_ok-compiled.ensures.relation;
+        relation = subst (λ (z : CompiledView). AreSame (NetRelates z.net) (PairsOf c.taken-network.result)) (sym same) c.in_ok-compiled.ensures.relation;
         over = λ alphabet over. subst (λ (z : CompiledView). IsOverAlphabet alphabet z.net) (sym same) (c.in_ok-compiled.ensures.alphabet alphabet over);
       },
     )

@@ -1,5 +1,5 @@
-use Rattle.std.proofs.Common.{List, ◌++◌, ◌∷◌, []}
-use Rattle.att_text.specs.Lines.{Saying, final}
+use Rattle.std.proofs.Common.{◌++◌, ◌∷◌, []}
+use Rattle.att_text.specs.Lines.{final}
 use Rattle.att_text.specs.Drawing.{IsDrawn}
 use Rattle.att_text.proofs.Relating.{at_table}
 use Rattle.att_text.proofs.drawing.Drawing.add_said.Goals as goal

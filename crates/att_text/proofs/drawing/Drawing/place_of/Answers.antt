@@ -1,4 +1,4 @@
-use Rattle.std.proofs.Common.{◌≡◌, ◌<◌, length, arith}
+use Rattle.std.proofs.Common.{◌<◌, length, arith}
 use Rattle.att_text.proofs.Drawn.{drawn_state, state_keeps}
 use Rattle.att_text.proofs.drawing.Drawing.place_of.Goals as goal
 

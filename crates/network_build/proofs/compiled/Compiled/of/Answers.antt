@@ -1,25 +1,18 @@
-use Rattle.std.proofs.Common.{sym, subst}
-use Rattle.fsm_base.specs.Alphabet.{symbols_of}
-use Rattle.fsm_base.specs.declared.letters.Pair.{Pair}
-use Rattle.fsa.specs.Automaton.{Automaton}
-use Rattle.fst_algebra.specs.Relation.{IsRelated}
-use Rattle.lookup.specs.Answering.{IsOverAlphabet}
-use Rattle.network_algebra.specs.Networks.{PairsOf}
+use Rattle.std.proofs.Common.{IfOk, subst, sym}
+use Rattle.std.proofs.lemmas.Result.{IfOk-weaker}
 use Rattle.word_relations.specs.Relations.{AreSame}
-use Rattle.network_lexicons.proofs.Related.{same_relation}
-use Rattle.network_build.proofs.Sounds.{over_alphabet}
+use Rattle.word_relations.proofs.Pairs.{same_trans}
+use Rattle.fst_algebra.specs.Relation.{IsRelated}
+use Rattle.lookup.specs.Nets.{NetRelates}
+use Rattle.network_algebra.specs.Networks.{PairsOf}
+use Rattle.network_algebra.specs.declared.network.Network.{Network}
+use Rattle.network_algebra.specs.declared.network.Network.TheVariants.{Words}
+use Rattle.network_build.specs.Networks.{CompiledView}
 use Rattle.network_build.proofs.compiled.Compiled.of.Goals as goal
 
-pub returns-clause-relation : goal.returns-clause-relation
-returns-clause-relation c =
-    let made = c.in_ok-transducer in
-    let straight = c.in_ok-straight in
-    subst (λ (m : Automaton Pair). AreSame (IsRelated m) (PairsOf c.args.network)) (sym c.in_ok-net.ensures)
-    (same_relation made.transducer straight.straight (PairsOf c.args.network) straight.ensures.language made.ensures.pairs)
-
-pub returns-clause-alphabet : goal.returns-clause-alphabet
-returns-clause-alphabet c = λ alphabet over.
-    let made = c.in_ok-transducer in
-    let straight = c.in_ok-straight in
-    subst (λ (m : Automaton Pair). IsOverAlphabet alphabet m) (sym c.in_ok-net.ensures)
-    (over_alphabet alphabet made.transducer straight.straight straight.ensures.letters (made.ensures.symbols (symbols_of alphabet) over))
+pub returns-in_ok-transducer-in-Words-clause-relation : goal.returns-in_ok-transducer-in-Words-clause-relation
+returns-in_ok-transducer-in-Words-clause-relation c =
+    let made = c.in_ok-transducer-in-Words in
+    subst (λ (n : Network). IfOk c.plain.result (λ x. AreSame (NetRelates x.net) (PairsOf n))) (sym c.in-Words.is)
+    (IfOk-weaker c.plain.result (λ (x : CompiledView). AreSame (NetRelates x.net) (IsRelated made.transducer)) (λ (x : CompiledView). AreSame (NetRelates x.net) (PairsOf (Words c.in-Words.words)))
+    (λ x same. same_trans (NetRelates x.net) (IsRelated made.transducer) (PairsOf (Words c.in-Words.words)) same made.ensures.pairs) c.plain.ensures.relation)

@@ -1,7 +1,6 @@
 use Rattle.std.proofs.Common.{◌≡◌, ℕ, Some, Vec, Global, IfOk, IfSome, sym, ap, subst, ◌∙◌}
 use Rattle.std.specs.Option.{option_map}
-use Rattle.fsa.specs.Automaton.{Automaton}
-use Rattle.fsm_base.specs.declared.letters.Pair.{Pair}
+use Rattle.lookup.specs.Nets.{NetView}
 use Rattle.network_build.specs.Networks.{CompiledView}
 use Rattle.project_meaning.specs.Projects.{Project as Meant}
 use Rattle.project_store.specs.Networks.{NetworkView, Shows}
@@ -19,7 +18,7 @@ pub returns-in-Some : goal.returns-in-Some
 returns-in-Some c =
     let inside = c.self.inside in
     let net : option_map (λ (x : CompiledView). x.net) inside.compiled ≡ Some c.net.result.now =
-    ap (option_map (λ (x : CompiledView). x.net)) c.in-Some.is ∙ ap (λ (m : Automaton Pair). Some m) (sym c.net.ensures) in
+    ap (option_map (λ (x : CompiledView). x.net)) c.in-Some.is ∙ ap (λ (m : NetView). Some m) (sym c.net.ensures) in
     let letters = sym c.alphabet.ensures in
     let view : NetworkView = record { alphabet = inside.project.alphabet; name = inside.name; net = option_map (λ (x : CompiledView). x.net) inside.compiled; glosses = inside.project.glosses } in
     let given : NetworkView = record { alphabet = c.alphabet.result.now; name = inside.name; net = Some c.net.result.now; glosses = inside.project.glosses } in

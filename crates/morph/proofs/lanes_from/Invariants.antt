@@ -1,5 +1,0 @@
-use Rattle.std.proofs.Common.{◌≤◌, vec_len}
-use Rattle.morph.proofs.lanes_from.Given as goal
-
-abbrev pub invariant-paths : goal.invariant-paths
-invariant-paths l = vec_len l.lanes ≤ l.i

@@ -1,0 +1,10 @@
+mod Decided
+mod Endings
+mod Finding
+mod Judging
+mod Keeping
+mod Placed
+mod Places
+mod Running
+mod Splitting
+mod Tested
