@@ -1,6 +1,6 @@
 #!/usr/bin/env python3
-"""Runs each command that docs/CHECKING.md shows and compares what it writes with the page, and tries ./lint and ./expect on small
-projects, with what is wanted of them beside each. They call ./morph where it is built, else ./try.
+"""Runs each command that docs/CHECKING.md shows and compares what it writes with the page, and tries ./lint, ./expect and ./draw on small
+projects and texts, with what is wanted of them beside each. The first two call ./morph where it is built, else ./try.
 
 usage: bench/checks.py
 """
@@ -59,6 +59,10 @@ LINTS = [
     ('a pair in the alphabet that is a keyword', {'project': 'twolc T t.twolc', 't.twolc': 'Alphabet a b a:b where ;\nRules\n"1" a:b => where _ ;'}, []),
     ('tests that fail', {'project': 'xfst r.xfst', 'r.xfst': 'define A a | b:c ;', 't.expect': 'up A\na\tb\n!c\n'},
      ['t.expect 2 fails up A a: missing b', 't.expect 2 fails up A a: unexpected a', 't.expect 3 fails up A c: unexpected b']),
+    ('tests of rules that fail', {'project': 'twolc T t.twolc', 't.twolc': 'Alphabet a b a:b ;\nRules\n"r" a:b => b _ ;\n!!€ a:b a\n!!$ a b\n!!€ b a:b\n!!$ ab'},
+     ['t.twolc 7 no-test the next line of tests with this mark is the lower word, without blanks and colons']),
+    ('tests of rules that fail, without a fault', {'project': 'twolc T t.twolc', 't.twolc': 'Alphabet a b a:b ;\nRules\n"r" a:b => b _ ;\n!!€ a:b a\n!!$ a b\n!!€ b a:b'},
+     ['t.twolc 4 fails pairs T a:b a: unexpected fail 1 1 r', 't.twolc 5 fails pairs T a b: unexpected pass']),
     ('a test without a network', {'project': 'xfst r.xfst', 'r.xfst': 'define A a ;', 't.expect': 'a\ta\n'},
      ['t.expect 1 no-test a line "up NET" or "down NET" stands first']),
 ]
@@ -82,6 +86,35 @@ TESTS = [
     ('comments', '# a\n\n  \nup A\n# b\n!a\n', ['1 as wanted, 0 not']),
     ('letters with accents', 'up Id\ne\u0301\t\u00e9\n', ['1 as wanted, 0 not']),
     ('a fault', 'up A\na b\n', ['refused t 2 statement: a line is "up NET", "down NET", WORD tab ANSWER, !WORD, or !WORD tab ANSWER']),
+]
+# A name, tests in comments of a grammar that puts e between a and b, drops c behind a and makes d of 0 behind d, and what ./expect writes of them.
+PAIRS = [
+    ('strings', '!!€ a 0:e b\n!!$ a b\n  !!€ a a\n!!€', ['4 as wanted, 0 not']),
+    ('a string that breaks a rule', '!!€ a b', ['unexpected t.twolc 6 pairs T a b: fail 1 2 e is put in', '0 as wanted, 1 not']),
+    ('one that breaks the second', '!!€ c:0 a', ['unexpected t.twolc 6 pairs T c:0 a: fail 2 1 c: drops', '0 as wanted, 1 not']),
+    ('a string that breaks none', '!!$ a 0:e b', ['unexpected t.twolc 6 pairs T a 0:e b: pass', '0 as wanted, 1 not']),
+    ('two sides', '!!€ a0b\n!!€ aeb\n!!$ ab\n!!$ ab', ['2 as wanted, 0 not']),
+    ('two sides with something between', '!!€ ac\n! no test\n!!€ a0', ['1 as wanted, 0 not']),
+    ('sides of several letters and with escapes', '!!€ d%0%:0d\n!!€ d%0%:%0d', ['1 as wanted, 0 not']),
+    ('sides that break a rule', '!!€ ab\n!!€ ab', ['unexpected t.twolc 6 pairs T a:a b:b: fail 1 2 e is put in', '0 as wanted, 1 not']),
+    ('sides of several lengths', '!!€ a a\n!!€ a0b\n!!€ ab', ['refused t.twolc 8 statement: the upper word has 3 symbols and the lower one 2']),
+    ('one side', '!!€ a0b', ['refused t.twolc 6 statement: the next line of tests with this mark is the lower word, without blanks and colons']),
+    ('a side and a string', '!!€ a0b\n!!€ a b', ['refused t.twolc 6 statement: the next line of tests with this mark is the lower word, without blanks and colons']),
+    ('sides with two marks', '!!€ a0b\n!!$ aeb', ['refused t.twolc 6 statement: the next line of tests with this mark is the lower word, without blanks and colons']),
+    ('a pair that may not be used', '!!$ a x', ['no-answer t.twolc 6 pairs T a x: pair 2', '0 as wanted, 1 not']),
+    ('no string', '!!€ a [b]', ['no-answer t.twolc 6 pairs T a [b]: line', '0 as wanted, 1 not']),
+    ('no tests', '! !!€ a b\n!€ a b', ['0 as wanted, 0 not']),
+]
+GRAMMAR = 'Alphabet a b c d 0:e c:0 0%: 0:%0 ;\nRules\n"e is put in" 0:e <=> a _ b ;\n"c: drops" c:0 => a _ ;\n'
+# A name, an AT&T text, and the lines of states and arrows that ./draw writes of it.
+DRAWN = [
+    ('arcs that share an arrow', '0\t1\ta\n0\t1\tb\tc\n1\t0\td\t@0@\n1', ['0;', '1 [shape=doublecircle];', '0 -> 1 [label="a, b:c"];', '1 -> 0 [label="d:0"];']),
+    ('signs', '0\t0\t0\t:\n0\t0\t"\t\\\n0\t0\t&\t,\n0\t0\ta b', ['0;', '0 -> 0 [label="%0:%:, \\":\\\\, &amp;:%,, a% b"];']),
+    ('a long label', '0\t0\tabcdefgh\n0\t0\tijklmnop\n0\t0\tqrstuvwx', ['0;', '0 -> 0 [label="abcdefgh, ijklmnop,\\nqrstuvwx"];']),
+    ('the same twice', '0\t1\ta\n0\t1\ta\ta', ['0;', '1;', '0 -> 1 [label="a"];']),
+    ('a start without arcs', '7', ['0;', '7 [shape=doublecircle];']),
+    ('weights', '0\t1\ta\ta\t0.5', ['refused t.att 1 statement']),
+    ('a state with a zero before it', '0\n00', ['refused t.att 2 statement']),
 ]
 TRIED = {'project': 'xfst r.xfst', 'r.xfst': 'define A [a|b]:x ; define Loop [a+]:x ; define Id {!a} | %# | %% | {\u00e9} ;'}
 FAILED = []
@@ -128,7 +161,14 @@ def main():
         try_project(name, files, './lint DIR', ['warning ' + it for it in wanted])
     for name, text, wanted in TESTS:
         try_project(name, {**TRIED, 't': text}, './expect DIR DIR/t', wanted)
-    print('%d commands, %d projects, %d files of tests: %d failed' % (pages, len(LINTS), len(TESTS), len(FAILED)))
+    for name, text, wanted in PAIRS:
+        try_project('pairs: ' + name, {'project': 'twolc T t.twolc', 't.twolc': GRAMMAR + '\n' + text}, './expect DIR DIR/t.twolc', wanted)
+    try_project('a grammar of no project', {'project': 'xfst r.xfst', 't.twolc': '!!€ a a'}, './expect DIR DIR/t.twolc',
+                ['refused t.twolc 0 statement: no line "twolc NAME t.twolc" stands in project'])
+    for name, text, wanted in DRAWN:
+        try_project('draw: ' + name, {'t.att': text}, r"./draw DIR/t.att | sed -n 's/^  \(.*;\)$/\1/p; /^refused/p' | sed '/^rankdir/d; /^start/d'", wanted)
+    print('%d commands, %d projects, %d files of tests, %d of pairs, %d texts: %d failed'
+          % (pages, len(LINTS), len(TESTS), len(PAIRS) + 1, len(DRAWN), len(FAILED)))
     return 1 if FAILED else 0
 
 

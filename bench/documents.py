@@ -1,6 +1,6 @@
 #!/usr/bin/env python3
-"""Copies the documents that crates/document_rows/stdin names and examples/ to where the gate tries the documents' commands,
-crates/document_rows/data, and writes what that program must print. Says what changed: where nothing did, the gate tries what the documents have.
+"""Copies the documents that crates/worked_rows/stdin names (lines `document FILE`) and examples/ to where the gate tries the documents' commands,
+crates/worked_rows/data, and writes what that program must print of them. Says what changed: where nothing did, the gate tries what the documents have.
 
 usage: bench/documents.py
 """
@@ -8,8 +8,10 @@ import os
 import shutil
 
 ROOT = os.path.dirname(os.path.dirname(os.path.abspath(__file__)))
-CRATE = os.path.join(ROOT, 'crates', 'document_rows')
+CRATE = os.path.join(ROOT, 'crates', 'worked_rows')
 PROMPT = '    $ '
+FIELD = 'document '
+BEHIND = 'lanes_go_beside_edits'
 
 
 def read(path):
@@ -42,13 +44,15 @@ def copy_examples():
 def main():
     copy_examples()
     told = []
-    for document in read(os.path.join(CRATE, 'stdin')).split():
+    rows = read(os.path.join(CRATE, 'stdin')).split('\n')
+    for document in [row[len(FIELD):] for row in rows if row.startswith(FIELD)]:
         write(os.path.join(CRATE, 'data', document), read(os.path.join(ROOT, document)))
         told.append(document)
         for line in read(os.path.join(CRATE, 'data', document)).split('\n'):
             if line.startswith(PROMPT):
                 told += [line[len(PROMPT):], '    as written']
-    write(os.path.join(CRATE, 'stdout'), '\n'.join(told) + '\n')
+    wanted = read(os.path.join(CRATE, 'stdout'))
+    write(os.path.join(CRATE, 'stdout'), '\n'.join(told) + '\n' + wanted[wanted.index(BEHIND):])
 
 
 if __name__ == '__main__':

@@ -96,10 +96,17 @@ class Expressions:
             groups.append(' , '.join(maps) + self.sided(depth))
         return ' ,, '.join(groups)
 
+    def directed(self, depth, inside):
+        arrow = self.random.choice(['@->', '@>', '->@', '>@'])
+        maps = [self.mapping(arrow, depth, inside) for _ in range(1 + self.few())]
+        return ' , '.join(maps) + (' || %s' % self.contexts(depth) if self.random.random() < 0.5 else '')
+
     def ruled(self, depth, inside):
-        kind = self.random.choices(['plain', 'only', 'rules'], [6, 1, 2])[0]
+        kind = self.random.choices(['plain', 'only', 'rules', 'directed'], [6, 1, 2, 2])[0]
         if kind == 'only':
             return '%s => %s' % (self.chain(depth, inside), self.contexts(depth))
+        if kind == 'directed':
+            return self.directed(depth, inside)
         return self.rules(depth, inside) if kind == 'rules' else self.chain(depth, inside)
 
     def steps(self, depth, inside):

@@ -53,10 +53,10 @@ def variants(data, changes):
         yield 'change %d: %r %s at %d' % (number, byte, kind, at), data[:at] + changed
 
 
-def run(words, given=b''):
+def run(words, given=b'', seconds=SECONDS):
     """The status and the text of a run, or why there are none."""
     try:
-        done = subprocess.run(words, input=given, stdout=subprocess.PIPE, stderr=subprocess.DEVNULL, timeout=SECONDS)
+        done = subprocess.run(words, input=given, stdout=subprocess.PIPE, stderr=subprocess.DEVNULL, timeout=seconds)
         return done.returncode, done.stdout.decode()
     except subprocess.TimeoutExpired:
         return None, 'it takes too long'

@@ -10,10 +10,13 @@ import sys
 
 ROOT = os.path.dirname(os.path.dirname(os.path.abspath(__file__)))
 # The sections of docs/FORMATS.md that the page takes, and what they are called in it.
-SECTIONS = (('Words', 'DESCRIPTION'), ('Replies to a line of `up` or `down`', 'REPLIES'), ('Statuses', 'EXIT STATUS'))
+SECTIONS = (('Words', 'DESCRIPTION'), ('Replies to a line of `up` or `down`', 'REPLIES OF UP, DOWN AND ATTUP'), ('Replies to a line of `pairs`', 'REPLIES OF PAIRS'),
+            ('What `equal` and `within` say', 'WHAT EQUAL AND WITHIN SAY'), ('AT&T text', 'AT&T TEXT'), ('What `att` writes', 'WHAT ATT WRITES'),
+            ('What `attup` answers', 'WHAT ATTUP ANSWERS'), ('Statuses', 'EXIT STATUS'))
 FILES = (('DIR/project', 'The manifest of a project: which files it has.'),
          ('docs/FORMATS.md', 'Every form, reply, refusal and limit.'),
-         ('docs/CHECKING.md', 'Files of tests, and warnings: ./expect and ./lint.'))
+         ('docs/CHECKING.md', 'Files of tests, and warnings: ./expect and ./lint.'),
+         ('docs/ASKING.md', 'What may be asked of a network, and what should hold of it.'))
 
 
 def sections(text):
@@ -33,10 +36,11 @@ def escaped(text):
 
 
 def written(text):
-    """A text with its code in bold."""
+    """A text with its code in bold, and links without where they lead."""
+    text = re.sub(r'\[([^]]*)\]\([^)]*\)', r'\1', text)
     parts = re.split(r'(`` .*? ``|`[^`]*`)', text)
-    made = ''.join('\\fB%s\\fR' % escaped(part.strip('` ') if part.startswith('``') else part[1:-1]) if part.startswith('`') else escaped(part)
-                   for part in parts if part)
+    made = ''.join('\\fB%s\\fR' % escaped(part.strip('` ') if part.startswith('``') else part[1:-1]) if part.startswith('`')
+                   else re.sub(r'\*(\w+)\*', r'\\fI\1\\fR', escaped(part)) for part in parts if part)
     return '\\&' + made if made[:1] in ('.', "'") else made
 
 
@@ -47,17 +51,25 @@ def cells(line):
 
 def body(lines):
     """Paragraphs, indented lines and tables, in roff. A table's first column is a tag, and the others stand behind it."""
-    made, paragraph, in_table = [], [], False
+    made, paragraph, in_table, heads = [], [], False, []
     for line in [*lines, '']:
+        if line.startswith('- '):
+            made += ['.PP', written(' '.join(paragraph))] if paragraph else []
+            paragraph = []
         is_row = line.startswith('|')
         if paragraph and (not line or is_row or line.startswith('    ')):
             made += ['.PP', written(' '.join(paragraph))]
             paragraph = []
         if is_row:
             first, *others = cells(line)
+            if not in_table:
+                heads = [first, *others]
+            others = ['status ' + it if head == 'status' else it for it, head in zip(others, heads[1:])]
             if in_table and not set(first) <= set('-: '):
                 made += ['.TP', written(first) or '\\&', written('; '.join(filter(None, others))) or '\\&']
             in_table = True
+        elif line.startswith('!['):
+            continue
         elif line.startswith('    '):
             made += ['.RS', '.nf', escaped(line[4:]), '.fi', '.RE']
         elif line:

@@ -10,6 +10,11 @@ _morph_names() {
     done
 }
 
+# the names of its two-level grammars
+_morph_grammars() {
+    sed -n 's/^[ \t]*twolc[ \t][ \t]*\([^ \t]*\).*/\1/p' "$1/project" 2>/dev/null
+}
+
 # folders, from those on which a file `project` stands
 _morph_folders() {
     local found=() it
@@ -20,6 +25,11 @@ _morph_folders() {
         COMPREPLY=("${found[0]%/}")
         compopt +o nospace 2>/dev/null
     fi
+}
+
+# the files of a folder, by their names
+_morph_files_in() {
+    COMPREPLY=($(cd "$1" 2>/dev/null && compgen -f -- "$2"))
 }
 
 _morph_files() {
@@ -37,12 +47,15 @@ _morph() {
         fi
     done
     case $COMP_CWORD in
-        1) COMPREPLY=($(compgen -W 'check up down gloss serve gen help' -- "$word")) ;;
-        2) case ${COMP_WORDS[1]} in check | up | down | gloss | serve) _morph_folders "$word" ;; esac ;;
+        1) COMPREPLY=($(compgen -W 'check up down gloss serve gen att attup pairs equal within help' -- "$word")) ;;
+        2) case ${COMP_WORDS[1]} in check | up | down | gloss | serve | att | attup | pairs | equal | within) _morph_folders "$word" ;; esac ;;
         3) case ${COMP_WORDS[1]} in
-            up | down | gloss) COMPREPLY=($(compgen -W "$(_morph_names "${COMP_WORDS[2]}")" -- "$word")) ;;
+            up | down | gloss | att | equal | within) COMPREPLY=($(compgen -W "$(_morph_names "${COMP_WORDS[2]}")" -- "$word")) ;;
+            pairs) COMPREPLY=($(compgen -W "$(_morph_grammars "${COMP_WORDS[2]}")" -- "$word")) ;;
+            attup) _morph_files_in "${COMP_WORDS[2]}" "$word" ;;
             serve) COMPREPLY=($(compgen -W '--' -- "$word")) ;;
         esac ;;
+        4) case ${COMP_WORDS[1]} in equal | within) COMPREPLY=($(compgen -W "$(_morph_names "${COMP_WORDS[2]}")" -- "$word")) ;; esac ;;
     esac
 }
 
@@ -57,6 +70,11 @@ _morph_expect() {
     esac
 }
 
+_morph_draw() {
+    [ "$COMP_CWORD" -ne 1 ] || _morph_files "${COMP_WORDS[COMP_CWORD]}"
+}
+
 complete -F _morph morph ./morph try ./try
 complete -F _morph_lint lint ./lint
 complete -F _morph_expect expect ./expect
+complete -F _morph_draw draw ./draw

@@ -28,3 +28,9 @@ def answers(folder, lines):
         found.append((kind, said[at + 1:at + 1 + count]))
         at += 1 + count
     return 0, found
+
+
+def lines_for(command, folder, name, lines):
+    """The status of a command of a project and a name with these lines, and the lines that it writes."""
+    ran = subprocess.run([*words(), command, folder, name], input=''.join(line + '\n' for line in lines).encode(), stdout=subprocess.PIPE)
+    return ran.returncode, ran.stdout.decode(errors='replace').split('\n')[:-1]

@@ -5,6 +5,7 @@ import re
 import shutil
 import tempfile
 
+import pair_tests
 import program
 import sources
 import tests
@@ -286,6 +287,21 @@ def look_at_tests(files, said, warnings):
         said = said[len(words):]
 
 
+def look_at_pair_tests(project, warnings):
+    """The tests in comments of two-level rules."""
+    for it in project.twolc:
+        path = os.path.join(project.folder, it.file)
+        wanted, fault = pair_tests.read(path)
+        if fault:
+            warnings.add(it.file, fault[0], 'no-test', fault[1])
+        if not wanted:
+            continue
+        net = pair_tests.name_of(project.folder, path)
+        status, said = program.lines_for('pairs', project.folder, net, [test.string for test in wanted])
+        for test, what, answer in pair_tests.differences(wanted, said) if status == 0 else ():
+            warnings.add(it.file, test.line, 'fails', 'pairs %s %s: %s %s' % (net, test.string, what, answer))
+
+
 def project(folder):
     """The status and the lines of `./lint`."""
     files = tests_of(folder) if os.path.isdir(folder) else []
@@ -297,6 +313,7 @@ def project(folder):
     for look in (look_at_lexc, look_at_xfst, look_at_twolc, look_at_contexts):
         look(read, warnings)
     look_at_tests(files, said, warnings)
+    look_at_pair_tests(read, warnings)
     order = ['project', *(it.file for it in [*read.lexc, *read.xfst, *read.twolc]), *(name for name, _, _ in files)]
     found = sorted(warnings.found, key=lambda it: (order.index(it[0]), it[1]))
     return (1 if found else 0), ''.join('warning %s %d %s %s\n' % it for it in found)

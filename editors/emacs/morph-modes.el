@@ -41,11 +41,11 @@
   "Definitions in the language of xfst expressions."
   :syntax-table (morph--syntax "!#")
   (morph--prepare
-   '(("(@->)\\|@->\\|(@>)\\|@>\\|->@\\|>@\\|<-\\|\\^{[^}\n]*}\\|\\.[pP]\\.\\|\\$[.?]\\|\\./\\." . font-lock-warning-face)
+   '(("(@->)\\|(@>)\\|(->@)\\|(>@)\\|<-\\|\\^{[^}\n]*}\\|\\.[pP]\\.\\|\\$[.?]\\|\\./\\." . font-lock-warning-face)
      ("\\_<\\(define\\)[ \t\n]+\\([^][(){}|/\\&~$*+^:;,?_.<>=!#@\"% \t\n-]+\\)"
       (1 font-lock-keyword-face) (2 font-lock-variable-name-face))
      ("{\\(?:%.\\|[^}%\n]\\)*}" 0 font-lock-string-face t)
-     ("\\.#\\.\\|(->)\\|->\\|=>\\|||\\|//\\|\\\\\\\\\\|\\\\/\\|,,\\|\\.\\.\\.\\|\\.[xo]\\.\\|\\.[ulir]\\_>" . font-lock-builtin-face))))
+     ("\\.#\\.\\|(->)\\|@->\\|->@\\|@>\\|>@\\|->\\|=>\\|||\\|//\\|\\\\\\\\\\|\\\\/\\|,,\\|\\.\\.\\.\\|\\.[xo]\\.\\|\\.[ulir]\\_>" . font-lock-builtin-face))))
 
 ;;;###autoload
 (define-derived-mode morph-lexc-mode prog-mode "lexc"

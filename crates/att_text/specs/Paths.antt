@@ -1,12 +1,12 @@
 -- The relation of a text, by paths of arc lines. The first arc of a path leaves state 0, each further one the state that the one before
 -- enters, and the last one enters a final state; a path without arcs is one where 0 is final. A path relates its upper symbols to its
 -- lower ones. And what a network relates, when its symbols are told by their texts.
-use Rattle.std.specs.Prelude.{◌≡◌, ℕ, List, [], ◌++◌, Option, Some, Contains}
+use Rattle.std.specs.Prelude.{◌≡◌, ◌<◌, ◌⊎◌, ℕ, List, [], ◌++◌, Option, Some, Contains, length}
 use Rattle.std.specs.List.{AllZip, slice_get}
 use Rattle.std.specs.Option.{option_to_list}
 use Rattle.fsm_base.specs.declared.letters.Sym.{Sym}
 use Rattle.fsm_base.specs.declared.letters.Pair.{Pair}
-use Rattle.fsa.specs.Automaton.{Automaton}
+use Rattle.fsa.specs.Automaton.{Automaton, UsesLetter}
 use Rattle.fst_algebra.specs.Relation.{IsRelated}
 use Rattle.att_text.specs.Lines.{Saying, arc, final, said_in}
 
@@ -30,3 +30,7 @@ pub record RelatesTexts (HasText : Sym → List ℕ → Type 0) (m : Automaton P
 -- the symbol's text in a table
 abbrev pub HasTextIn : List (List ℕ) → Sym → List ℕ → Type 0
 HasTextIn table symbol text = slice_get table symbol.0 ≡ Some text
+
+-- the network has no other symbols than those of a table
+abbrev pub HasSymbolsIn : List (List ℕ) → Automaton Pair → Type 0
+HasSymbolsIn table m = (pair : Pair) (symbol : Sym) → UsesLetter m pair → (pair.up ≡ Some symbol) ⊎ (pair.low ≡ Some symbol) → symbol.0 < length table

@@ -2,7 +2,7 @@ ghost use Rattle.std.specs.Prelude.{◌≡◌, ◌↔◌, ◌<◌, ◌≤◌, �
 ghost use Rattle.att_text.specs.Drawing.{Extends, IsDrawn};
 ghost use Rattle.att_text.specs.Faults.{IsWhyRefused, fault_of, most_symbols, with_all};
 ghost use Rattle.att_text.specs.Lines.{said_in};
-ghost use Rattle.att_text.specs.Paths.{HasTextIn, Relates, RelatesTexts};
+ghost use Rattle.att_text.specs.Paths.{HasSymbolsIn, HasTextIn, Relates, RelatesTexts};
 
 use crate::drawing::Drawing;
 use crate::faults::AttError;
@@ -56,6 +56,7 @@ pub fn read_att(alloc: Global, text: &str, table: &mut SymbolTable) -> Result<Fs
     requires room { length table.old + most_symbols ≤ 16777216 }
     ensures faultless { OnOk result (fault_of text.now ≡ None) }
     ensures relation { IfOk result (λ net. (upper lower : List (List ℕ)) → RelatesTexts (HasTextIn table.new) net upper lower ↔ Relates text.now upper lower) }
+    ensures symbols { IfOk result (λ net. HasSymbolsIn table.new net) }
     ensures table { OnOk result (table.new ≡ with_all (said_in text.now) table.old) }
     ensures error { IfErr result (IsWhyRefused (fault_of text.now)) }
     ensures unchanged { OnErr result (table.new ≡ table.old) }

@@ -2,7 +2,7 @@
 -- makes the expression itself.
 use Rattle.std.proofs.Common.{◌≡◌, ◌&&◌, Bool, true, false, IsTrue, List, [], ◌∷◌, map, refl, ap}
 use Rattle.std.specs.List.{list_all}
-use Rattle.regex_ast.specs.Terms.{Term, Terms, Links, Contexts, Steps, Mappings, Groups, empty, any, edge, atom, letters, group, maybe, not_one, cross, suffixed, prefixed, ignore, concat, chain, only, rules, steps, no_term, then_term, no_link, or, and, less, no_context, between, no_step, cross_with, then, no_mapping, plain, markup, insert, no_group, then_group}
+use Rattle.regex_ast.specs.Terms.{Term, Terms, Links, Contexts, Steps, Mappings, Groups, empty, any, edge, atom, letters, group, maybe, not_one, cross, suffixed, prefixed, ignore, concat, chain, only, rules, directed, steps, no_term, then_term, no_link, or, and, less, no_context, between, no_step, cross_with, then, no_mapping, plain, markup, insert, no_group, then_group}
 use Rattle.expr_leaves.specs.Mapped.{mapped, mapped_each, mapped_links, mapped_contexts, mapped_steps, mapped_mappings, mapped_groups}
 use Rattle.expr_kinds.specs.Built.{IsBuiltBy, AreBuiltBy, LinksAreBuiltBy, ContextsAreBuiltBy, StepsAreBuiltBy, MappingsAreBuiltBy, GroupsAreBuiltBy}
 
@@ -40,6 +40,7 @@ module _ {A B : Type 0} (leaf letter : A → Bool) (f g : A → B) (on_leaf : (a
     alike (chain e links) h = let p0 = alike e h.0 in let p1 = links_alike links h.1 in λ i. chain (p0 i) (p1 i)
     alike (only e contexts) h = let p0 = alike e h.0 in let p1 = contexts_alike contexts h.1 in λ i. only (p0 i) (p1 i)
     alike (rules optional groups) h = ap (rules optional) (groups_alike groups h.1)
+    alike (directed way maps contexts) h = let p0 = mappings_alike maps h.1 in let p1 = contexts_alike contexts h.2 in λ i. directed way (p0 i) (p1 i)
     alike (steps e more) h = let p0 = alike e h.0 in let p1 = steps_alike more h.1 in λ i. steps (p0 i) (p1 i)
 
     each_alike : (es : Terms A) → AreBuiltBy leaf letter es → mapped_each f es ≡ mapped_each g es
@@ -94,6 +95,7 @@ module _ {A : Type 0} where
     same (chain e links) = let p0 = same e in let p1 = links_same links in λ i. chain (p0 i) (p1 i)
     same (only e contexts) = let p0 = same e in let p1 = contexts_same contexts in λ i. only (p0 i) (p1 i)
     same (rules optional groups) = ap (rules optional) (groups_same groups)
+    same (directed way maps contexts) = let p0 = mappings_same maps in let p1 = contexts_same contexts in λ i. directed way (p0 i) (p1 i)
     same (steps e more) = let p0 = same e in let p1 = steps_same more in λ i. steps (p0 i) (p1 i)
 
     each_same : (es : Terms A) → mapped_each (λ a. a) es ≡ es

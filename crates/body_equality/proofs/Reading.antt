@@ -3,7 +3,7 @@ use Rattle.std.proofs.Common.{◌≡◌, List, [], ◌∷◌, ◌++◌, refl, sy
 use Rattle.regex_ast.specs.declared.expr.Atom.{Atom}
 use Rattle.regex_ast.specs.declared.expr.Prefix.{Prefix}
 use Rattle.regex_ast.specs.declared.expr.Suffix.{Suffix}
-use Rattle.regex_ast.specs.Terms.{Term, Terms, Links, Contexts, Steps, Mappings, Groups, empty, any, edge, atom, letters, group, maybe, not_one, cross, suffixed, prefixed, ignore, concat, chain, only, rules, steps, no_term, then_term, no_link, or, and, less, no_context, between, no_step, cross_with, then, no_mapping, plain, markup, insert, no_group, then_group}
+use Rattle.regex_ast.specs.Terms.{Term, Terms, Links, Contexts, Steps, Mappings, Groups, empty, any, edge, atom, letters, group, maybe, not_one, cross, suffixed, prefixed, ignore, concat, chain, only, rules, directed, steps, no_term, then_term, no_link, or, and, less, no_context, between, no_step, cross_with, then, no_mapping, plain, markup, insert, no_group, then_group}
 use Rattle.body_equality.specs.Rows.{node_of, letter_row, suffix_row, prefix_row, parts, operand_row, link_row, context_row, step_row, mapping_row, group_row, row_of}
 use Rattle.body_equality.specs.declared.token.Token.{Token}
 use Rattle.body_equality.specs.declared.token.Token.TheVariants.{Leaf, Node, Item, End}
@@ -97,6 +97,7 @@ put_node node.Concat s = a_term (concat (operands_on s)) ∷ below s
 put_node node.Chain s = a_term (chain (top s) (links_on (below s))) ∷ below (below s)
 put_node node.Only s = a_term (only (top s) (contexts_on (below s))) ∷ below (below s)
 put_node (node.Rules optional) s = a_term (rules optional (groups_on s)) ∷ below s
+put_node (node.Directed way) s = a_term (directed way (mappings_on s) (contexts_on (below s))) ∷ below (below s)
 put_node node.Steps s = a_term (steps (top s) (steps_on (below s))) ∷ below (below s)
 
 abbrev put_item : ItemOf → List Held → List Held
@@ -178,6 +179,7 @@ mutual
   reads_term (chain e links) rest = ap (put_node node.Chain) (pair (row_of e) (link_row links) (a_term e) (the_links links) (reads_term e) (reads_links links) rest)
   reads_term (only e contexts) rest = ap (put_node node.Only) (pair (row_of e) (context_row contexts) (a_term e) (the_contexts contexts) (reads_term e) (reads_contexts contexts) rest)
   reads_term (rules optional groups) rest = ap (put_node (node.Rules optional)) (reads_groups groups rest)
+  reads_term (directed way maps contexts) rest = ap (put_node (node.Directed way)) (pair (mapping_row maps) (context_row contexts) (the_mappings maps) (the_contexts contexts) (reads_mappings maps) (reads_contexts contexts) rest)
   reads_term (steps e more) rest = ap (put_node node.Steps) (pair (row_of e) (step_row more) (a_term e) (the_steps more) (reads_term e) (reads_steps more) rest)
 
   reads_operands : (es : Terms Atom) → Reads (operand_row es) (the_operands es)

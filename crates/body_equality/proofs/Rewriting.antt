@@ -4,7 +4,7 @@ use Rattle.std.proofs.lemmas.List.{map-append}
 use Rattle.regex_ast.specs.declared.expr.Atom.{Atom}
 use Rattle.regex_ast.specs.declared.expr.Prefix.{Prefix}
 use Rattle.regex_ast.specs.declared.expr.Suffix.{Suffix}
-use Rattle.regex_ast.specs.Terms.{Term, Terms, Links, Contexts, Steps, Mappings, Groups, empty, any, edge, atom, letters, group, maybe, not_one, cross, suffixed, prefixed, ignore, concat, chain, only, rules, steps, no_term, then_term, no_link, or, and, less, no_context, between, no_step, cross_with, then, no_mapping, plain, markup, insert, no_group, then_group}
+use Rattle.regex_ast.specs.Terms.{Term, Terms, Links, Contexts, Steps, Mappings, Groups, empty, any, edge, atom, letters, group, maybe, not_one, cross, suffixed, prefixed, ignore, concat, chain, only, rules, directed, steps, no_term, then_term, no_link, or, and, less, no_context, between, no_step, cross_with, then, no_mapping, plain, markup, insert, no_group, then_group}
 use Rattle.expr_leaves.specs.Mapped.{mapped, mapped_each, mapped_links, mapped_contexts, mapped_steps, mapped_mappings, mapped_groups}
 use Rattle.body_equality.specs.Rows.{node_of, letter_row, suffix_row, prefix_row, parts, operand_row, link_row, context_row, step_row, mapping_row, group_row, row_of, token_by}
 use Rattle.body_equality.specs.declared.token.Token.{Token}
@@ -39,6 +39,7 @@ module _ (f : Atom → Atom) where
   mapped_node (chain e links) = refl
   mapped_node (only e contexts) = refl
   mapped_node (rules optional groups) = refl
+  mapped_node (directed way maps contexts) = refl
   mapped_node (steps e more) = refl
 
   by_letters : (all : List Atom) → by (letter_row all) ≡ letter_row (map f all)
@@ -75,6 +76,7 @@ module _ (f : Atom → Atom) where
     by_parts (chain e links) = two (row_of e) (link_row links) (row_of (mapped f e)) (link_row (mapped_links f links)) (whole_row e (by_parts e)) (by_links links)
     by_parts (only e contexts) = two (row_of e) (context_row contexts) (row_of (mapped f e)) (context_row (mapped_contexts f contexts)) (whole_row e (by_parts e)) (by_contexts contexts)
     by_parts (rules optional groups) = by_groups groups
+    by_parts (directed way maps contexts) = two (mapping_row maps) (context_row contexts) (mapping_row (mapped_mappings f maps)) (context_row (mapped_contexts f contexts)) (by_mappings maps) (by_contexts contexts)
     by_parts (steps e more) = two (row_of e) (step_row more) (row_of (mapped f e)) (step_row (mapped_steps f more)) (whole_row e (by_parts e)) (by_steps more)
 
     by_operands : (es : Terms Atom) → by (operand_row es) ≡ operand_row (mapped_each f es)

@@ -1,7 +1,7 @@
 -- An expression is its shape and its leaves: they are put back into the shape one after the other.
 use Rattle.std.proofs.Common.{◌≡◌, ◌↔◌, List, [], ◌∷◌, ◌++◌, map, refl, sym, ap, ◌∙◌, append_assoc}
 use Rattle.std.specs.List.{flat_map}
-use Rattle.regex_ast.specs.Terms.{Term, Terms, Links, Contexts, Steps, Mappings, Groups, empty, any, edge, atom, letters, group, maybe, not_one, cross, suffixed, prefixed, ignore, concat, chain, only, rules, steps, no_term, then_term, no_link, or, and, less, no_context, between, no_step, cross_with, then, no_mapping, plain, markup, insert, no_group, then_group}
+use Rattle.regex_ast.specs.Terms.{Term, Terms, Links, Contexts, Steps, Mappings, Groups, empty, any, edge, atom, letters, group, maybe, not_one, cross, suffixed, prefixed, ignore, concat, chain, only, rules, directed, steps, no_term, then_term, no_link, or, and, less, no_context, between, no_step, cross_with, then, no_mapping, plain, markup, insert, no_group, then_group}
 use Rattle.expr_leaves.specs.Leaves.{leaf_alone, leaves_in, listed, listed_each, listed_links, listed_contexts, listed_steps, listed_mappings, listed_groups}
 use Rattle.expr_leaves.specs.Mapped.{mapped, mapped_each, mapped_links, mapped_contexts, mapped_steps, mapped_mappings, mapped_groups}
 use Rattle.name_resolution.proofs.Listed.{listed_is}
@@ -36,6 +36,7 @@ module _ {S A R : Type 0} where
     fill (chain e links) ls go = fill e ls (λ x more. fill_links links more (λ xs rest. go (chain x xs) rest))
     fill (only e contexts) ls go = fill e ls (λ x more. fill_contexts contexts more (λ xs rest. go (only x xs) rest))
     fill (rules optional groups) ls go = fill_groups groups ls (λ xs rest. go (rules optional xs) rest)
+    fill (directed way maps contexts) ls go = fill_mappings maps ls (λ x more. fill_contexts contexts more (λ y rest. go (directed way x y) rest))
     fill (steps e more) ls go = fill e ls (λ x left. fill_steps more left (λ xs rest. go (steps x xs) rest))
 
     fill_each : Terms S → List A → (Terms A → List A → R) → R
@@ -124,6 +125,9 @@ module _ {S A R : Type 0} (s : S) where
     back (only e contexts) rest go =
         two (fill (mapped (bare s) e)) (fill_contexts (mapped_contexts (bare s) contexts)) e contexts (listed leaf_alone e) (listed_contexts leaf_alone contexts) (back e) (contexts_back contexts) rest (λ x xs rest. go (only x xs) rest)
     back (rules optional groups) rest go = groups_back groups rest (λ xs rest. go (rules optional xs) rest)
+    back (directed way maps contexts) rest go =
+        two (fill_mappings (mapped_mappings (bare s) maps)) (fill_contexts (mapped_contexts (bare s) contexts)) maps contexts
+        (listed_mappings leaf_alone maps) (listed_contexts leaf_alone contexts) (mappings_back maps) (contexts_back contexts) rest (λ x y rest. go (directed way x y) rest)
     back (steps e more) rest go =
         two (fill (mapped (bare s) e)) (fill_steps (mapped_steps (bare s) more)) e more (listed leaf_alone e) (listed_steps leaf_alone more) (back e) (steps_back more) rest (λ x xs rest. go (steps x xs) rest)
 

@@ -1,6 +1,6 @@
 -- Whether an expression uses the alphabet doesn't turn on its leaves.
 use Rattle.std.proofs.Common.{◌≡◌, ◌||◌, refl}
-use Rattle.regex_ast.specs.Terms.{Term, Terms, Links, Steps, empty, any, edge, atom, letters, group, maybe, not_one, cross, suffixed, prefixed, ignore, concat, chain, only, rules, steps, no_term, then_term, no_link, or, and, less, no_step, cross_with, then}
+use Rattle.regex_ast.specs.Terms.{Term, Terms, Links, Steps, empty, any, edge, atom, letters, group, maybe, not_one, cross, suffixed, prefixed, ignore, concat, chain, only, rules, directed, steps, no_term, then_term, no_link, or, and, less, no_step, cross_with, then}
 use Rattle.expr_leaves.specs.Alphabet.{uses_alphabet, one_uses_alphabet, link_uses_alphabet, step_uses_alphabet}
 use Rattle.expr_leaves.specs.Mapped.{mapped, mapped_each, mapped_links, mapped_steps}
 
@@ -23,6 +23,7 @@ module _ {A B : Type 0} (f : A → B) where
     uses_mapped (chain e links) = let p = uses_mapped e in let q = links_use links in λ i. p i || q i
     uses_mapped (only e contexts) = refl
     uses_mapped (rules optional groups) = refl
+    uses_mapped (directed way maps contexts) = refl
     uses_mapped (steps e more) = let p = uses_mapped e in let q = steps_use more in λ i. p i || q i
 
     each_uses : (es : Terms A) → one_uses_alphabet (mapped_each f es) ≡ one_uses_alphabet es

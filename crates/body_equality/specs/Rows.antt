@@ -3,7 +3,7 @@ use Rattle.std.specs.Prelude.{Bool, List, [], ◌∷◌, ◌++◌}
 use Rattle.regex_ast.specs.declared.expr.Atom.{Atom}
 use Rattle.regex_ast.specs.declared.expr.Prefix.{Prefix}
 use Rattle.regex_ast.specs.declared.expr.Suffix.{Suffix}
-use Rattle.regex_ast.specs.Terms.{Term, Terms, Links, Contexts, Steps, Mappings, Groups, empty, any, edge, atom, letters, group, maybe, not_one, cross, suffixed, prefixed, ignore, concat, chain, only, rules, steps, no_term, then_term, no_link, or, and, less, no_context, between, no_step, cross_with, then, no_mapping, plain, markup, insert, no_group, then_group}
+use Rattle.regex_ast.specs.Terms.{Term, Terms, Links, Contexts, Steps, Mappings, Groups, empty, any, edge, atom, letters, group, maybe, not_one, cross, suffixed, prefixed, ignore, concat, chain, only, rules, directed, steps, no_term, then_term, no_link, or, and, less, no_context, between, no_step, cross_with, then, no_mapping, plain, markup, insert, no_group, then_group}
 use Rattle.body_equality.specs.declared.token.Token.{Token}
 use Rattle.body_equality.specs.declared.token.Token.TheVariants.{Leaf, Node, Item, End}
 use Rattle.body_equality.specs.declared.token.Node.{Node as NodeOf}
@@ -28,6 +28,7 @@ node_of (concat es) = node.Concat
 node_of (chain e links) = node.Chain
 node_of (only e contexts) = node.Only
 node_of (rules optional groups) = node.Rules optional
+node_of (directed way maps contexts) = node.Directed way
 node_of (steps e more) = node.Steps
 
 abbrev pub letter_row : List Atom → List Token
@@ -58,6 +59,7 @@ abbrev mutual
   parts (chain e links) = (Node (node_of e) ∷ parts e) ++ link_row links
   parts (only e contexts) = (Node (node_of e) ∷ parts e) ++ context_row contexts
   parts (rules optional groups) = group_row groups
+  parts (directed way maps contexts) = mapping_row maps ++ context_row contexts
   parts (steps e more) = (Node (node_of e) ∷ parts e) ++ step_row more
   -- the empty string, `?` and `.#.` have no parts
   parts _ = []

@@ -1,4 +1,4 @@
-use regex_ast::{Atom, Prefix, Side, Suffix};
+use regex_ast::{Atom, Prefix, Side, Suffix, Way};
 
 /// A piece of an expression that is written as a row.
 #[derive(Clone, Copy)]
@@ -32,6 +32,7 @@ pub(crate) enum Node {
     Chain,
     Only,
     Rules(bool),
+    Directed(Way),
     Steps,
 }
 

@@ -101,6 +101,7 @@ fn node_of(expr: &Expr<Atom>) -> Node
         Expr::Chain(_, _) => Node::Chain,
         Expr::Only(_, _) => Node::Only,
         Expr::Rules(rules) => Node::Rules(rules.optional),
+        Expr::Directed(directed) => Node::Directed(directed.way),
         Expr::Steps(_, _) => Node::Steps,
     }
 }
@@ -143,6 +144,10 @@ fn add_expr(expr: &Expr<Atom>, row: &mut Vec<Token>) -> Result<(), AllocError>
             add_contexts(contexts, row)
         }
         Expr::Rules(rules) => add_groups(&rules.groups, row),
+        Expr::Directed(directed) => {
+            add_mappings(&directed.maps, row)?;
+            add_contexts(&directed.contexts, row)
+        }
         Expr::Steps(first, steps) => {
             add_expr(first, row)?;
             add_steps(steps, row)

@@ -11,6 +11,7 @@ use Rattle.project_sources.proofs.sources.Sources.TheSendSync as sources
 use Rattle.project_edits.specs.contracts.edit.Edit as edit
 use Rattle.project_model.specs.contracts.plan.Plan as plan
 use Rattle.project_store.specs.contracts.project.Project as project
+use Rattle.project_store.proofs.shared.Shared.TheSendSync as shared
 use Rattle.project_versions.specs.contracts.version.Version as version
 use Rattle.regex_ast.proofs.expr.Expr.TheLaws.TheKnot as knot
 use Rattle.regex_ast.specs.contracts.expr.Atom as atom
@@ -42,7 +43,7 @@ plan_send : IsSend plan.the_field.row
 plan_send = let b = body_send in search (sendable, crosses, text.the_send, table.the_send) depth 20
 
 pub version_send : IsSend version.the_row
-version_send = let p = plan_send in search (sendable, crosses, alphabet.the_send, sources.the_send, compiled.the_send, compiled.the_sync) depth 20
+version_send = let p = plan_send in search (sendable, crosses, alphabet.the_send, sources.the_send, compiled.the_send, compiled.the_sync, shared.the_send) depth 20
 
 expr_sync : IsSync (expr.the_field atom.the_row).row
 expr_sync = search (sendable, crosses, knot.sync-Expr) depth 40
@@ -66,7 +67,7 @@ plan_sync : IsSync plan.the_field.row
 plan_sync = let b = body_sync in search (sendable, crosses, text.the_sync, table.the_sync) depth 20
 
 pub version_sync : IsSync version.the_row
-version_sync = let p = plan_sync in search (sendable, crosses, alphabet.the_sync, sources.the_sync, compiled.the_send, compiled.the_sync) depth 20
+version_sync = let p = plan_sync in search (sendable, crosses, alphabet.the_sync, sources.the_sync, compiled.the_send, compiled.the_sync, shared.the_sync) depth 20
 
 -- a batch may go to another thread, too
 edit_send : IsSend edit.the_field.row

@@ -1,9 +1,9 @@
 -- Whether a network is built, as one pass tells it.
-use Rattle.std.proofs.Common.{◌≡◌, ◌↔◌, ℕ, Bool, true, ◌&&◌, IsTrue, List, [], ◌∷◌, refl, sym, ◌∙◌}
-use Rattle.regex_ast.specs.Terms.{Term, Terms, Links, Contexts, Steps, Mappings, Groups, empty, any, edge, atom, letters, group, maybe, not_one, cross, suffixed, prefixed, ignore, concat, chain, only, rules, steps, no_term, then_term, no_link, or, and, less, no_context, between, no_step, cross_with, then, no_mapping, plain, markup, insert, no_group, then_group}
+use Rattle.std.proofs.Common.{◌≡◌, ◌↔◌, ℕ, Bool, true, not, ◌&&◌, IsTrue, List, [], ◌∷◌, refl, sym, ◌∙◌}
+use Rattle.regex_ast.specs.Terms.{Term, Terms, Links, Contexts, Steps, Mappings, Groups, empty, any, edge, atom, letters, group, maybe, not_one, cross, suffixed, prefixed, ignore, concat, chain, only, rules, directed, steps, no_term, then_term, no_link, or, and, less, no_context, between, no_step, cross_with, then, no_mapping, plain, markup, insert, no_group, then_group}
 use Rattle.regex_ast.specs.declared.expr.Suffix.{Suffix}
 use Rattle.regex_ast.specs.declared.expr.Suffix.TheVariants.{Star, Plus, Power, Upper, Lower, Inverse, Reverse}
-use Rattle.expr_kinds.specs.Built.{inserts_alone, IsBuiltBy, AreBuiltBy, LinksAreBuiltBy, ContextsAreBuiltBy, StepsAreBuiltBy, MappingsAreBuiltBy, GroupsAreBuiltBy}
+use Rattle.expr_kinds.specs.Built.{holds_insertion, inserts_alone, IsBuiltBy, AreBuiltBy, LinksAreBuiltBy, ContextsAreBuiltBy, StepsAreBuiltBy, MappingsAreBuiltBy, GroupsAreBuiltBy}
 use Rattle.expr_kinds.specs.Kinds.{Leaves}
 use Rattle.expr_kinds.specs.Forms.{as_language, heavier, beside, behind, with_each, with_kind, nothing, form_in, form_in_each, form_in_links, form_in_steps, form_in_contexts, form_in_mappings, form_in_groups}
 use Rattle.expr_kinds.specs.declared.form.Form.{Form}
@@ -64,6 +64,14 @@ mutual
       let all = from_none (GroupsAreBuiltBy built letter groups) (form_in_groups leaves leaf built letter nothing groups).built (groups_built leaves leaf built letter nothing groups) in
       let pair = both_true (form_in_groups leaves leaf built letter nothing groups).built (inserts_alone groups) in
       (λ h. ((pair.0 h).1, all.0 (pair.0 h).0), λ h. pair.1 (all.1 h.1, h.0))
+  built_is leaves leaf built letter (directed way maps contexts) =
+      let before = form_in_mappings leaves leaf built letter nothing maps in
+      let first = mappings_built leaves leaf built letter nothing maps in
+      let second = contexts_built leaves leaf built letter before contexts in
+      let pair = both_true (form_in_contexts leaves leaf built letter before contexts).built (not (holds_insertion maps)) in (
+        λ h. let a = pair.0 h in let b = second.0 a.0 in (a.1, (first.0 b.0).1, b.1),
+        λ h. pair.1 (second.1 (first.1 (refl, h.1), h.2), h.0),
+      )
   built_is leaves leaf built letter (steps e more) = from_first (form_in leaves leaf built letter e).built (IsBuiltBy built letter e) (StepsAreBuiltBy built letter more) (built_is leaves leaf built letter e) (form_in_steps leaves leaf built letter (form_in leaves leaf built letter e) more).built (steps_built leaves leaf built letter (form_in leaves leaf built letter e) more)
 
   each_built : {A : Type 0} (leaves : Leaves A) (leaf : A → ℕ) (built letter : A → Bool) (before : Form) (es : Terms A) → IsTrue (form_in_each leaves leaf built letter before es).built ↔ (IsTrue before.built × AreBuiltBy built letter es)

@@ -1,6 +1,6 @@
 -- Whether each operand fits, as one pass tells it.
 use Rattle.std.proofs.Common.{◌≡◌, ◌↔◌, ℕ, Bool, true, false, ◌&&◌, IsTrue, refl, sym, subst, ◌∙◌}
-use Rattle.regex_ast.specs.Terms.{Term, Terms, Links, Contexts, Steps, Mappings, Groups, empty, any, edge, atom, letters, group, maybe, not_one, cross, suffixed, prefixed, ignore, concat, chain, only, rules, steps, no_term, then_term, no_link, or, and, less, no_context, between, no_step, cross_with, then, no_mapping, plain, markup, insert, no_group, then_group}
+use Rattle.regex_ast.specs.Terms.{Term, Terms, Links, Contexts, Steps, Mappings, Groups, empty, any, edge, atom, letters, group, maybe, not_one, cross, suffixed, prefixed, ignore, concat, chain, only, rules, directed, steps, no_term, then_term, no_link, or, and, less, no_context, between, no_step, cross_with, then, no_mapping, plain, markup, insert, no_group, then_group}
 use Rattle.regex_ast.specs.declared.expr.Suffix.{Suffix}
 use Rattle.regex_ast.specs.declared.expr.Suffix.TheVariants.{Star, Plus, Power, Upper, Lower, Inverse, Reverse}
 use Rattle.std.specs.Prelude.{List, [], ◌∷◌}
@@ -106,6 +106,12 @@ mutual
         λ h. all.1 (first.1 (h.0, h.1), h.2),
       )
   fits_is leaves leaf built letter (rules optional groups) = let all = groups_hold leaves leaf built letter nothing groups in (λ h. (all.0 h).1, λ h. all.1 (refl, h))
+  fits_is leaves leaf built letter (directed way maps contexts) =
+      let first = mappings_hold leaves leaf built letter nothing maps in
+      let all = contexts_hold leaves leaf built letter (form_in_mappings leaves leaf built letter nothing maps) contexts in (
+        λ h. let a = all.0 h in ((first.0 a.0).1, a.1),
+        λ h. all.1 (first.1 (refl, h.0), h.1),
+      )
   fits_is leaves leaf built letter (steps e more) =
       let first = fits_is leaves leaf built letter e in
       let all = steps_fit leaves leaf built letter (form_in leaves leaf built letter e) more in (

@@ -2,7 +2,7 @@
 use Rattle.std.proofs.Common.{◌≡◌, ℕ, Bool, List, [], ◌∷◌, refl, ap, ◌∙◌}
 use Rattle.regex_ast.specs.declared.expr.Suffix.{Suffix}
 use Rattle.regex_ast.specs.declared.expr.Suffix.TheVariants.{Star, Plus, Power, Upper, Lower, Inverse, Reverse}
-use Rattle.regex_ast.specs.Terms.{Term, Terms, Links, Contexts, Steps, empty, any, edge, atom, letters, group, maybe, not_one, cross, suffixed, prefixed, ignore, concat, chain, only, rules, steps, no_term, then_term, no_link, or, and, less, no_context, between, no_step, cross_with, then}
+use Rattle.regex_ast.specs.Terms.{Term, Terms, Links, Contexts, Steps, empty, any, edge, atom, letters, group, maybe, not_one, cross, suffixed, prefixed, ignore, concat, chain, only, rules, directed, steps, no_term, then_term, no_link, or, and, less, no_context, between, no_step, cross_with, then}
 use Rattle.expr_kinds.specs.Kinds.{Leaves, both, kind_behind, with_suffixes, kind_of, kind_of_each, kind_of_chain, kind_of_steps, kind_of_contexts}
 use Rattle.expr_kinds.specs.Forms.{as_language, heavier, beside, behind, with_each, with_kind, nothing, form_in, form_in_each, form_in_links, form_in_steps, form_in_contexts}
 use Rattle.expr_kinds.specs.declared.form.Form.{Form}
@@ -48,6 +48,7 @@ mutual
   kind_is leaves leaf built letter (chain e links) = links_kind leaves leaf built letter (form_in leaves leaf built letter e) links ∙ ap (λ k. kind_of_chain leaves k links) (kind_is leaves leaf built letter e)
   kind_is leaves leaf built letter (only e contexts) = contexts_kind leaves leaf built letter (form_in leaves leaf built letter e) contexts ∙ ap (λ k. both k (kind_of_contexts leaves contexts)) (kind_is leaves leaf built letter e)
   kind_is leaves leaf built letter (rules optional groups) = refl
+  kind_is leaves leaf built letter (directed way maps contexts) = refl
   kind_is leaves leaf built letter (steps e more) = steps_kind leaves leaf built letter (form_in leaves leaf built letter e) more ∙ ap (λ k. kind_of_steps leaves k more) (kind_is leaves leaf built letter e)
 
   each_kind : {A : Type 0} (leaves : Leaves A) (leaf : A → ℕ) (built letter : A → Bool) (before : Form) (es : Terms A) → (form_in_each leaves leaf built letter before es).kind ≡ both before.kind (kind_of_each leaves es)

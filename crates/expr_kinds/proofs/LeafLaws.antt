@@ -1,7 +1,7 @@
 -- Kinds and fits are told by what is known of the leaves that stand in an expression.
 use Rattle.std.proofs.Common.{◌≡◌, Bool, true, false, ◌&&◌, IsTrue, [], ◌∷◌, cond, refl, ap}
 use Rattle.std.specs.List.{list_all}
-use Rattle.regex_ast.specs.Terms.{Term, Terms, Links, Contexts, Steps, Mappings, Groups, empty, any, edge, atom, letters, group, maybe, not_one, cross, suffixed, prefixed, ignore, concat, chain, only, rules, steps, no_term, then_term, no_link, or, and, less, no_context, between, no_step, cross_with, then, no_mapping, plain, markup, insert, no_group, then_group}
+use Rattle.regex_ast.specs.Terms.{Term, Terms, Links, Contexts, Steps, Mappings, Groups, empty, any, edge, atom, letters, group, maybe, not_one, cross, suffixed, prefixed, ignore, concat, chain, only, rules, directed, steps, no_term, then_term, no_link, or, and, less, no_context, between, no_step, cross_with, then, no_mapping, plain, markup, insert, no_group, then_group}
 use Rattle.expr_kinds.specs.Built.{IsBuilt, AreBuilt, LinksAreBuilt, ContextsAreBuilt, StepsAreBuilt, MappingsAreBuilt, GroupsAreBuilt}
 use Rattle.expr_kinds.specs.Kinds.{Leaves, both, half, are_alike, with_suffixes, kind_of, kind_of_each, kind_of_chain, kind_of_steps, kind_of_contexts, Fits, EachFits, EachFitsAsLanguage, ChainFits, StepsFit, ContextsFit, MappingsFit, GroupsFit}
 use Rattle.expr_kinds.specs.declared.half.Half.{Half}
@@ -42,6 +42,7 @@ module _ {A : Type 0} (here there : Leaves A) (passes : A → Bool) (kinds : (a 
   half_known (chain e links) h = tt
   half_known (only e contexts) h = tt
   half_known (rules optional groups) h = tt
+  half_known (directed way maps contexts) h = tt
   half_known (steps e more) h = tt
 
   halves : (a b : Half A) → Known a → Known b → are_alike there.same a b ≡ are_alike here.same a b
@@ -73,6 +74,7 @@ module _ {A : Type 0} (here there : Leaves A) (passes : A → Bool) (kinds : (a 
     kind_alike (chain e links) h = chain_kind links h.1 (kind_of there e) (kind_of here e) (kind_alike e h.0)
     kind_alike (only e contexts) h = let a = kind_alike e h.0 in let b = contexts_kind contexts h.1 in λ i. both (a i) (b i)
     kind_alike (rules optional groups) h = refl
+    kind_alike (directed way maps contexts) h = refl
     kind_alike (steps e more) h = steps_kind more h.1 (kind_of there e) (kind_of here e) (kind_alike e h.0)
 
     each_kind : (es : Terms A) → AreBuilt passes es → kind_of_each there es ≡ kind_of_each here es
@@ -124,6 +126,7 @@ module _ {A : Type 0} (here there : Leaves A) (passes : A → Bool) (kinds : (a 
         let k = kind_alike e h.0 in let a = fits_alike e h.0 in let b = contexts_fit contexts h.1 in
         λ i. Is (k i) × a i × b i
     fits_alike (rules optional groups) h = groups_fit groups h.1
+    fits_alike (directed way maps contexts) h = let a = mappings_fit maps h.1 in let b = contexts_fit contexts h.2 in λ i. a i × b i
     fits_alike (steps e more) h =
         let a = fits_alike e h.0 in
         let b = steps_fit more h.1 (kind_of there e) (kind_of here e) (kind_alike e h.0) in

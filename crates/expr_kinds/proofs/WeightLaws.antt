@@ -2,7 +2,7 @@
 use Rattle.std.proofs.Common.{◌≡◌, ℕ, Bool, true, ◌+◌, ◌-◌, ◌*◌, zero, suc, List, [], ◌∷◌, length, refl, sym, ap, ◌∙◌, arith}
 use Rattle.regex_ast.specs.declared.expr.Suffix.{Suffix}
 use Rattle.regex_ast.specs.declared.expr.Suffix.TheVariants.{Star, Plus, Power, Upper, Lower, Inverse, Reverse}
-use Rattle.regex_ast.specs.Terms.{Term, Terms, Links, Contexts, Steps, Mappings, Groups, empty, any, edge, atom, letters, group, maybe, not_one, cross, suffixed, prefixed, ignore, concat, chain, only, rules, steps, no_term, then_term, no_link, or, and, less, no_context, between, no_step, cross_with, then, no_mapping, plain, markup, insert, no_group, then_group}
+use Rattle.regex_ast.specs.Terms.{Term, Terms, Links, Contexts, Steps, Mappings, Groups, empty, any, edge, atom, letters, group, maybe, not_one, cross, suffixed, prefixed, ignore, concat, chain, only, rules, directed, steps, no_term, then_term, no_link, or, and, less, no_context, between, no_step, cross_with, then, no_mapping, plain, markup, insert, no_group, then_group}
 use Rattle.expr_kinds.specs.Kinds.{Leaves}
 use Rattle.expr_kinds.specs.Weights.{most_weight, weight_behind, suffixed_weight, count_of, weight_of, weight_of_each, weight_of_links, weight_of_steps, weight_of_contexts, weight_of_mappings, weight_of_groups}
 use Rattle.expr_kinds.specs.Forms.{capped, as_language, heavier, beside, behind, with_each, with_kind, nothing, form_in, form_in_each, form_in_links, form_in_steps, form_in_contexts, form_in_mappings, form_in_groups}
@@ -75,6 +75,9 @@ module _ {A : Type 0} (leaves : Leaves A) (here leaf : A → ℕ) (built letter 
     weight_as (chain e links) = links_weight (form_in leaves here built letter e) (weight_of leaf e) links (weight_as e)
     weight_as (only e contexts) = more_is _ _ 1 (contexts_weight (form_in leaves here built letter e) (weight_of leaf e) contexts (weight_as e))
     weight_as (rules optional groups) = more_is _ (weight_of_groups leaf groups) 1 (start _ _ (groups_weight nothing 0 groups refl))
+    weight_as (directed way maps contexts) =
+        more_is _ (weight_of_mappings leaf maps + weight_of_contexts leaf contexts) 1
+        (contexts_weight (form_in_mappings leaves here built letter nothing maps) (weight_of_mappings leaf maps) contexts (start _ _ (mappings_weight nothing 0 maps refl)))
     weight_as (steps e more) = steps_weight (form_in leaves here built letter e) (weight_of leaf e) more (weight_as e)
 
     each_weight : (before : Form) (b : ℕ) (es : Terms A) → before.weight ≡ capped b → (form_in_each leaves here built letter before es).weight ≡ capped (b + weight_of_each leaf es)

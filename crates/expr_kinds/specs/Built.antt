@@ -1,8 +1,8 @@
 -- The expressions whose networks are built: those with such leaves and centres as can be built, where each insertion stands alone in
--- its rules.
+-- its rules, and none in a directed rule.
 use Rattle.std.specs.Prelude.{Bool, true, false, not, ◌&&◌, ◌||◌, IsTrue}
 use Rattle.std.specs.List.{list_all}
-use Rattle.regex_ast.specs.Terms.{Term, Terms, Links, Contexts, Steps, Mappings, Groups, empty, any, edge, atom, letters, group, maybe, not_one, cross, suffixed, prefixed, ignore, concat, chain, only, rules, steps, no_term, then_term, no_link, or, and, less, no_context, between, no_step, cross_with, then, no_mapping, plain, markup, insert, no_group, then_group}
+use Rattle.regex_ast.specs.Terms.{Term, Terms, Links, Contexts, Steps, Mappings, Groups, empty, any, edge, atom, letters, group, maybe, not_one, cross, suffixed, prefixed, ignore, concat, chain, only, rules, directed, steps, no_term, then_term, no_link, or, and, less, no_context, between, no_step, cross_with, then, no_mapping, plain, markup, insert, no_group, then_group}
 
 -- whether an insertion is among mappings
 abbrev pub holds_insertion : {A : Type 0} → Mappings A → Bool
@@ -49,6 +49,7 @@ module _ {A : Type 0} (leaf letter : A → Bool) (Centre : Term A → Type 0) wh
     IsBuiltWith (chain e links) = IsBuiltWith e × LinksAreBuiltWith links
     IsBuiltWith (only e contexts) = IsBuiltWith e × ContextsAreBuiltWith contexts
     IsBuiltWith (rules optional groups) = IsTrue (inserts_alone groups) × GroupsAreBuiltWith groups
+    IsBuiltWith (directed way maps contexts) = IsTrue (not (holds_insertion maps)) × MappingsAreBuiltWith maps × ContextsAreBuiltWith contexts
     IsBuiltWith (steps e more) = IsBuiltWith e × StepsAreBuiltWith more
 
     pub AreBuiltWith : Terms A → Type 0

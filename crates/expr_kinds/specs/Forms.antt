@@ -1,11 +1,11 @@
 -- What one pass over an expression tells: its kind, whether each operand that must be a language is one, its weight,
 -- where weights above the most that a definition may have aren't told apart, and whether its network is built.
-use Rattle.std.specs.Prelude.{ℕ, ◌+◌, ◌-◌, ◌*◌, min, Bool, true, false, ◌&&◌, cond, List, [], ◌∷◌, length}
+use Rattle.std.specs.Prelude.{ℕ, ◌+◌, ◌-◌, ◌*◌, min, Bool, true, false, ◌&&◌, cond, not, List, [], ◌∷◌, length}
 use Rattle.std.specs.List.{list_all}
 use Rattle.regex_ast.specs.declared.expr.Suffix.{Suffix}
 use Rattle.regex_ast.specs.declared.expr.Suffix.TheVariants.{Upper, Lower, Power}
-use Rattle.regex_ast.specs.Terms.{Term, Terms, Links, Contexts, Steps, Mappings, Groups, empty, any, edge, atom, letters, group, maybe, not_one, cross, suffixed, prefixed, ignore, concat, chain, only, rules, steps, no_term, then_term, no_link, or, and, less, no_context, between, no_step, cross_with, then, no_mapping, plain, markup, insert, no_group, then_group}
-use Rattle.expr_kinds.specs.Built.{inserts_alone}
+use Rattle.regex_ast.specs.Terms.{Term, Terms, Links, Contexts, Steps, Mappings, Groups, empty, any, edge, atom, letters, group, maybe, not_one, cross, suffixed, prefixed, ignore, concat, chain, only, rules, directed, steps, no_term, then_term, no_link, or, and, less, no_context, between, no_step, cross_with, then, no_mapping, plain, markup, insert, no_group, then_group}
+use Rattle.expr_kinds.specs.Built.{holds_insertion, inserts_alone}
 use Rattle.expr_kinds.specs.Kinds.{Leaves, both, half, are_alike}
 use Rattle.expr_kinds.specs.Weights.{most_weight, count_of}
 use Rattle.expr_kinds.specs.declared.form.Form.{Form}
@@ -73,6 +73,8 @@ abbrev mutual
   form_in leaves leaf built letter (chain e links) = form_in_links leaves leaf built letter (form_in leaves leaf built letter e) links
   form_in leaves leaf built letter (only e contexts) = heavier (as_language (form_in_contexts leaves leaf built letter (form_in leaves leaf built letter e) contexts)) 1
   form_in leaves leaf built letter (rules optional groups) = built_if (with_kind (heavier (as_language (form_in_groups leaves leaf built letter nothing groups)) 1) Relation) (inserts_alone groups)
+  form_in leaves leaf built letter (directed way maps contexts) =
+      built_if (with_kind (heavier (as_language (form_in_contexts leaves leaf built letter (form_in_mappings leaves leaf built letter nothing maps) contexts)) 1) Relation) (not (holds_insertion maps))
   form_in leaves leaf built letter (steps e more) = form_in_steps leaves leaf built letter (form_in leaves leaf built letter e) more
 
   -- what was told before with what the items tell

@@ -3,7 +3,7 @@
 use Rattle.std.specs.Prelude.{◌≡◌, Bool, true, false, cond, List, [], ◌∷◌}
 use Rattle.regex_ast.specs.declared.expr.Suffix.{Suffix}
 use Rattle.regex_ast.specs.declared.expr.Suffix.TheVariants.{Upper, Lower}
-use Rattle.regex_ast.specs.Terms.{Term, Terms, Links, Contexts, Steps, Mappings, Groups, empty, any, edge, atom, letters, group, maybe, not_one, cross, suffixed, prefixed, ignore, concat, chain, only, rules, steps, no_term, then_term, no_link, or, and, less, no_context, between, no_step, cross_with, then, no_mapping, plain, markup, insert, no_group, then_group}
+use Rattle.regex_ast.specs.Terms.{Term, Terms, Links, Contexts, Steps, Mappings, Groups, empty, any, edge, atom, letters, group, maybe, not_one, cross, suffixed, prefixed, ignore, concat, chain, only, rules, directed, steps, no_term, then_term, no_link, or, and, less, no_context, between, no_step, cross_with, then, no_mapping, plain, markup, insert, no_group, then_group}
 use Rattle.expr_kinds.specs.declared.half.Half.{Half}
 use Rattle.expr_kinds.specs.declared.half.Half.TheVariants.{Nothing, One, Longer}
 use Rattle.expr_kinds.specs.declared.form.Kind.{Kind}
@@ -65,6 +65,7 @@ abbrev mutual
   kind_of leaves (chain e links) = kind_of_chain leaves (kind_of leaves e) links
   kind_of leaves (only e contexts) = both (kind_of leaves e) (kind_of_contexts leaves contexts)
   kind_of leaves (rules optional groups) = Relation
+  kind_of leaves (directed way maps contexts) = Relation
   kind_of leaves (steps e more) = kind_of_steps leaves (kind_of leaves e) more
 
   pub kind_of_each : {A : Type 0} → Leaves A → Terms A → Kind
@@ -110,6 +111,7 @@ abbrev mutual
   Fits leaves (chain e links) = Fits leaves e × ChainFits leaves (kind_of leaves e) links
   Fits leaves (only e contexts) = IsLanguage leaves e × Fits leaves e × ContextsFit leaves contexts
   Fits leaves (rules optional groups) = GroupsFit leaves groups
+  Fits leaves (directed way maps contexts) = MappingsFit leaves maps × ContextsFit leaves contexts
   Fits leaves (steps e more) = Fits leaves e × StepsFit leaves (kind_of leaves e) more
 
   pub EachFits : {A : Type 0} → Leaves A → Terms A → Type 0

@@ -37,7 +37,7 @@ pub struct Form {
     pub fits: bool,
     /// Its weight, or 4,000,001 where that is more.
     pub weight: usize,
-    /// Whether its network can be built: each insertion in it stands alone in its rules, and each name has a form.
+    /// Whether its network can be built: each insertion in it stands alone in its rules, none in a directed rule, and each name has a form.
     pub built: bool,
 }
 

@@ -44,7 +44,7 @@ fn has_no_insertion(groups: &[Group<Atom>]) -> bool
 }
 
 /// Whether an insertion is among the mappings.
-fn holds_insertion(maps: &[Mapping<Atom>]) -> bool
+pub fn holds_insertion(maps: &[Mapping<Atom>]) -> bool
     ensures { result ≡ holds_insertion (mappings_of maps.now) }
 {
     'maps: for map in maps {

@@ -9,7 +9,7 @@ ghost use Rattle.expr_kinds.specs.Weights.{most_weight, weight_of};
 
 use crate::form::{Form, Kind};
 use crate::half::are_alike;
-use crate::insertions::inserts_alone;
+use crate::insertions::{holds_insertion, inserts_alone};
 use regex_ast::{Atom, Context, Expr, Group, Link, Mapping, Step, Suffix};
 
 /// What an expression is by its form, in time linear in its size. A name has the kind and the weight of the form at its
@@ -123,6 +123,15 @@ fn in_expression(names: &[Form], expr: &Expr<Atom>) -> Form
             .heavier(1)
             .with_kind(Kind::Relation)
             .built_if(inserts_alone(&rules.groups)),
+        Expr::Directed(rule) => in_contexts(
+            names,
+            in_mappings(names, Form::leaf(0), &rule.maps),
+            &rule.contexts,
+        )
+        .as_language()
+        .heavier(1)
+        .with_kind(Kind::Relation)
+        .built_if(!holds_insertion(&rule.maps)),
         Expr::Steps(first, steps) => in_steps(names, in_expression(names, first), steps),
     }
 }

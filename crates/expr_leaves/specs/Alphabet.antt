@@ -1,9 +1,9 @@
 -- Whether an expression uses the alphabet: whether what it means depends on symbols that don't stand in it.
 use Rattle.std.specs.Prelude.{Bool, true, false, ◌||◌}
-use Rattle.regex_ast.specs.Terms.{Term, Terms, Links, Steps, empty, any, edge, atom, letters, group, maybe, not_one, cross, suffixed, prefixed, ignore, concat, chain, only, rules, steps, no_term, then_term, no_link, or, and, less, no_step, cross_with, then}
+use Rattle.regex_ast.specs.Terms.{Term, Terms, Links, Steps, empty, any, edge, atom, letters, group, maybe, not_one, cross, suffixed, prefixed, ignore, concat, chain, only, rules, directed, steps, no_term, then_term, no_link, or, and, less, no_step, cross_with, then}
 
 abbrev mutual
-  -- one of `?`, `\`, `~`, `$`, `=>` and replacement stands in it
+  -- one of `?`, `\`, `~`, `$`, `=>` and replacement, directed or not, stands in it
   pub uses_alphabet : {A : Type 0} → Term A → Bool
   uses_alphabet empty = false
   uses_alphabet any = true
@@ -21,6 +21,7 @@ abbrev mutual
   uses_alphabet (chain e links) = uses_alphabet e || link_uses_alphabet links
   uses_alphabet (only e contexts) = true
   uses_alphabet (rules optional groups) = true
+  uses_alphabet (directed way maps contexts) = true
   uses_alphabet (steps e more) = uses_alphabet e || step_uses_alphabet more
 
   -- one of the items does

@@ -2,7 +2,7 @@
 use Rattle.std.specs.Prelude.{List, [], ◌∷◌, ◌++◌, map}
 use Rattle.std.specs.Borrow.{Bor}
 use Rattle.std.specs.List.{flat_map}
-use Rattle.regex_ast.specs.Terms.{Term, Terms, Links, Contexts, Steps, Mappings, Groups, atom, letters, group, maybe, not_one, cross, suffixed, prefixed, ignore, concat, chain, only, rules, steps, no_term, then_term, no_link, or, and, less, no_context, between, no_step, cross_with, then, no_mapping, plain, markup, insert, no_group, then_group}
+use Rattle.regex_ast.specs.Terms.{Term, Terms, Links, Contexts, Steps, Mappings, Groups, atom, letters, group, maybe, not_one, cross, suffixed, prefixed, ignore, concat, chain, only, rules, directed, steps, no_term, then_term, no_link, or, and, less, no_context, between, no_step, cross_with, then, no_mapping, plain, markup, insert, no_group, then_group}
 
 abbrev mutual
   -- what is listed of each leaf of an expression, in the order of their places
@@ -20,6 +20,7 @@ abbrev mutual
   listed of (chain e links) = listed of e ++ listed_links of links
   listed of (only e contexts) = listed of e ++ listed_contexts of contexts
   listed of (rules optional groups) = listed_groups of groups
+  listed of (directed way maps contexts) = listed_mappings of maps ++ listed_contexts of contexts
   listed of (steps e more) = listed of e ++ listed_steps of more
   -- the empty string, `?` and `.#.` have no leaves
   listed of _ = []

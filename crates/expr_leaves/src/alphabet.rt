@@ -4,7 +4,7 @@ ghost use Rattle.expr_leaves.specs.Alphabet.{uses_alphabet, one_uses_alphabet, l
 
 use regex_ast::{Expr, Link, Step};
 
-/// Whether one of `?`, `\`, `~`, `$`, `=>` and replacement stands in an expression. Without them it means the same over
+/// Whether one of `?`, `\`, `~`, `$`, `=>` and replacement, directed or not, stands in an expression. Without them it means the same over
 /// every alphabet.
 #[cycle(walk)]
 pub fn uses_alphabet<A>(expr: &Expr<A>) -> bool
@@ -12,8 +12,12 @@ pub fn uses_alphabet<A>(expr: &Expr<A>) -> bool
 {
     match expr {
         Expr::Empty | Expr::Edge | Expr::Atom(_) | Expr::Letters(_) => false,
-        Expr::Any | Expr::NotOne(_, _) | Expr::Prefixed(_, _) | Expr::Only(_, _) | Expr::Rules(_) =>
-            true,
+        Expr::Any
+        | Expr::NotOne(_, _)
+        | Expr::Prefixed(_, _)
+        | Expr::Only(_, _)
+        | Expr::Rules(_)
+        | Expr::Directed(_) => true,
         Expr::Group(inner) => uses_alphabet(inner),
         Expr::Maybe(inner) => uses_alphabet(inner),
         Expr::Suffixed(inner, _) => uses_alphabet(inner),

@@ -59,6 +59,10 @@ fn add_leaves<'a, A>(expr: &'a Expr<A>, found: &mut Vec<&'a A>) -> Result<(), Al
             add_contexts(contexts, found)
         }
         Expr::Rules(rules) => add_groups(&rules.groups, found),
+        Expr::Directed(rule) => {
+            add_mappings(&rule.maps, found)?;
+            add_contexts(&rule.contexts, found)
+        }
         Expr::Steps(first, steps) => {
             add_leaves(first, found)?;
             add_steps(steps, found)

@@ -1,8 +1,8 @@
 ghost use Rattle.std.specs.Prelude.{◌≡◌, map, IfOk};
-ghost use Rattle.regex_ast.specs.Terms.{rules, term, maps_of, side_of, contexts_in, terms_of, links_of, contexts_of, steps_by, mappings_of, groups_of};
+ghost use Rattle.regex_ast.specs.Terms.{rules, directed, term, maps_of, side_of, contexts_in, terms_of, links_of, contexts_of, steps_by, mappings_of, groups_of};
 ghost use Rattle.expr_leaves.specs.Mapped.{mapped, mapped_contexts, mapped_each, mapped_groups, mapped_links, mapped_mappings, mapped_steps};
 
-use regex_ast::{Context, Expr, Group, Link, Mapping, RuleSet, Side, Step};
+use regex_ast::{Context, Directed, Expr, Group, Link, Mapping, RuleSet, Side, Step, Way};
 use std::alloc::{AllocError, Global};
 
 /// What the leaves of expressions are replaced by.
@@ -20,6 +20,17 @@ fn with_groups<B>(optional: bool, groups: Vec<Group<B>>) -> Expr<B>
     ensures { term result ≡ rules optional (groups_of groups.items) }
 {
     Expr::Rules(RuleSet { optional, groups })
+}
+
+/// A directed rule.
+fn with_way<B>(way: Way, maps: Vec<Mapping<B>>, contexts: Vec<Context<B>>) -> Expr<B>
+    ensures { term result ≡ directed way (mappings_of maps.items) (contexts_of contexts.items) }
+{
+    Expr::Directed(Directed {
+        way,
+        maps,
+        contexts,
+    })
 }
 
 /// A group of these parts.
@@ -119,6 +130,11 @@ impl<M> Walk<'_, M> {
                 let optional = rules.optional;
                 let groups = self.groups(&rules.groups)?;
                 Ok(with_groups(optional, groups))
+            }
+            Expr::Directed(rule) => {
+                let maps = self.mappings(&rule.maps)?;
+                let contexts = self.contexts(&rule.contexts)?;
+                Ok(with_way(rule.way, maps, contexts))
             }
             Expr::Steps(first, steps) => {
                 let first = Box::new(self.alloc, self.leaves(first)?)?;

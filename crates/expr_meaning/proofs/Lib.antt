@@ -4,3 +4,4 @@ pub mod Languages
 pub mod Operators
 pub mod Rules
 mod Turned
+pub mod Directed

@@ -12,9 +12,10 @@ use Rattle.fsm_base.specs.declared.letters.Bound.{Bound}
 use Rattle.word_relations.specs.Words.{IsConcatenation}
 use Rattle.word_relations.specs.Relations.{IsConcatenationOfPairs, IsComposition}
 use Rattle.word_relations.specs.Operations.{IsOneLetter, IsIgnoring}
-use Rattle.regex_ast.specs.Terms.{Term, Terms, Links, Contexts, Steps, Mappings, Groups, empty, any, edge, atom, letters, group, maybe, not_one, cross, suffixed, prefixed, ignore, concat, chain, only, rules, steps, no_term, then_term, no_link, or, and, less, no_context, between, no_step, cross_with, then, no_mapping, plain, markup, insert, no_group, then_group}
+use Rattle.regex_ast.specs.Terms.{Term, Terms, Links, Contexts, Steps, Mappings, Groups, empty, any, edge, atom, letters, group, maybe, not_one, cross, suffixed, prefixed, ignore, concat, chain, only, rules, directed, steps, no_term, then_term, no_link, or, and, less, no_context, between, no_step, cross_with, then, no_mapping, plain, markup, insert, no_group, then_group}
 use Rattle.expr_meaning.specs.Operators.{inner, IsEmpty, IsEdge, WithEdge, IsItself, HoldsLeft, HoldsRight, AreSuffixed, RelateSuffixed, ArePrefixed, IsNotOne, IsRestricted}
 use Rattle.expr_meaning.specs.Replacement.{Piece, IsAround, IsAllowed, IsRewritten}
+use Rattle.expr_meaning.specs.Directed.{IsMatchBy, DirectsBy, IsDirectedBy}
 
 module _ {A L : Type 0} (leaf : A → List L → List L → Type 0) (alphabet : List L) where
   -- a word of a leaf's language
@@ -48,6 +49,7 @@ module _ {A L : Type 0} (leaf : A → List L → List L → Type 0) (alphabet : 
     In (steps e more) w = InSteps (In e) more w
     -- replacement is a relation
     In (rules optional groups) w = ⊥
+    In (directed way maps contexts) w = ⊥
 
     -- a word of each language, one after another
     pub InEach : Terms A → List (Bound L) → Type 0
@@ -122,6 +124,8 @@ module _ {A L : Type 0} (leaf : A → List L → List L → Type 0) (alphabet : 
     Relates (only e contexts) u w = IsItself (IsRestricted alphabet (In e) (InContext contexts)) u w
     Relates (steps e more) u w = RelatesSteps (In e) (Relates e) more u w
     Relates (rules optional groups) u w = IsRewritten alphabet (Replaces groups) (Applies groups) optional u w
+    Relates (directed way maps contexts) u w =
+        IsDirectedBy (IsMatchBy contexts (IsCentre maps) (InContext contexts)) alphabet (DirectsBy contexts (IsMapped maps) (InContext contexts)) way u w
 
     -- a pair of each relation, one after another
     pub RelatesEach : Terms A → List L → List L → Type 0
@@ -140,3 +144,10 @@ module _ {A L : Type 0} (leaf : A → List L → List L → Type 0) (alphabet : 
     RelatesSteps P R no_step u w = R u w
     RelatesSteps P R (cross_with e more) u w = RelatesSteps (λ v. P v × In e v) (λ u w. P (inner u) × In e (inner w)) more u w
     RelatesSteps P R (then e more) u w = RelatesSteps (λ v. P v × In e v) (IsComposition R (Relates e)) more u w
+
+  -- the matches of a directed rule with these mappings and contexts, and its replacements
+  abbrev pub IsMatch : Mappings A → Contexts A → List L → List L → List L → Type 0
+  IsMatch maps contexts = IsMatchBy contexts (IsCentre maps) (InContext contexts)
+
+  abbrev pub Directs : Mappings A → Contexts A → List (Piece L) → List L → List L → List (Piece L) → Type 0
+  Directs maps contexts = DirectsBy contexts (IsMapped maps) (InContext contexts)

@@ -1,20 +1,22 @@
 -- What an expression means on one side it means on the other, by its form.
-use Rattle.std.proofs.Common.{◌≡◌, Bool, IsTrue, List, [], ◌∷◌, map, refl, sym, subst, inl, inr}
+use Rattle.std.proofs.Common.{◌≡◌, ◌⊎◌, Bool, IsTrue, List, [], ◌∷◌, map, refl, sym, subst, inl, inr}
 use Rattle.std.proofs.Math.Path.{subst₂}
 use Rattle.std.specs.List.{list_all}
 use Rattle.std.proofs.lemmas.Bool.{and_parts}
 use Rattle.fsm_base.specs.declared.letters.Bound.{Bound}
-use Rattle.regex_ast.specs.Terms.{Term, Terms, Links, Contexts, Steps, Mappings, Groups, empty, any, edge, atom, letters, group, maybe, not_one, cross, suffixed, prefixed, ignore, concat, chain, only, rules, steps, no_term, then_term, no_link, or, and, less, no_context, between, no_step, cross_with, then, no_mapping, plain, markup, insert, no_group, then_group}
+use Rattle.regex_ast.specs.Terms.{Term, Terms, Links, Contexts, Steps, Mappings, Groups, empty, any, edge, atom, letters, group, maybe, not_one, cross, suffixed, prefixed, ignore, concat, chain, only, rules, directed, steps, no_term, then_term, no_link, or, and, less, no_context, between, no_step, cross_with, then, no_mapping, plain, markup, insert, no_group, then_group}
 use Rattle.regex_ast.specs.declared.expr.Side.{Side as Reading}
+use Rattle.regex_ast.specs.declared.expr.Side.TheVariants.{UpUp}
 use Rattle.expr_kinds.specs.Built.{IsBuilt, AreBuilt, LinksAreBuilt, ContextsAreBuilt, StepsAreBuilt, MappingsAreBuilt, GroupsAreBuilt}
-use Rattle.expr_meaning.specs.Meaning.{InLeaf, InLeaves, In, InEach, InIgnoring, InChain, InContext, InSteps, IsCentre, IsMapped, Replaces, Applies, Relates, RelatesEach, RelatesChain, RelatesSteps}
+use Rattle.expr_meaning.specs.Meaning.{InLeaf, InLeaves, In, InEach, InIgnoring, InChain, InContext, InSteps, IsCentre, IsMapped, Replaces, Applies, IsMatch, Relates, RelatesEach, RelatesChain, RelatesSteps}
 use Rattle.expr_meaning.specs.Operators.{inner}
 use Rattle.expr_meaning.specs.Replacement.{Piece, read_before, read_behind, IsAround, IsAllowed}
 use Rattle.expr_leaves.specs.Mapped.{mapped, mapped_each, mapped_links, mapped_contexts, mapped_steps, mapped_mappings, mapped_groups}
 use Rattle.expr_spelling.proofs.Words.{Tells, at}
 use Rattle.expr_spelling.proofs.Pairs.{empty_pair, either_pair, concatenation_pairs, composition, fixed}
-use Rattle.expr_spelling.proofs.Edges.{bound, edge_word, with_edge, without_edge, itself, crossed, left_context, right_context, suffixed_sets, suffixed_pairs}
+use Rattle.expr_spelling.proofs.Edges.{bound, inner_spelled, edge_word, with_edge, without_edge, itself, crossed, left_context, right_context, suffixed_sets, suffixed_pairs}
 use Rattle.expr_spelling.proofs.Pieces.{piece, reads_before, reads_behind, around_words, around, rewritten}
+use Rattle.expr_spelling.proofs.Directions.{directed as directed_rule}
 use Rattle.expr_spelling.proofs.Sides.{Side, Meets, Goes, GoesPairs, one_letter, empty_goes, either_goes, concatenation_goes, ignoring_goes, both_go, less_goes, restricted_goes, not_once, with_prefixes}
 
 -- the language and the relation of an expression on a side
@@ -56,6 +58,18 @@ module _ {K C A B L M : Type 0} (s : Side K C A L) (t : Side K C B M) where
             )
       ]
 
+  -- the same of words: where no context is asked for, or one holds between these
+  held : (contexts : Contexts C) (N : List (Bound L) → List (Bound L) → Type 0) (N' : List (Bound M) → List (Bound M) → Type 0)
+      → ((y z : List (Bound K)) → N (map (bound s.letter) y) (map (bound s.letter) z) → N' (map (bound t.letter) y) (map (bound t.letter) z)) → (x z : List K)
+      → (mapped_contexts s.leaf_of contexts ≡ no_context) ⊎ N (inner (map s.letter x)) (inner (map s.letter z))
+      → (mapped_contexts t.leaf_of contexts ≡ no_context) ⊎ N' (inner (map t.letter x)) (inner (map t.letter z))
+  held contexts N N' holds x z h = elim h as (λ _. (mapped_contexts t.leaf_of contexts ≡ no_context) ⊎ N' (inner (map t.letter x)) (inner (map t.letter z))) [
+    | inl none ↦ inl (none_asked s.leaf_of t.leaf_of contexts none)
+    | inr here ↦ inr (
+        subst₂ N' (sym (inner_spelled t.letter x)) (sym (inner_spelled t.letter z)) (holds (inner x) (inner z) (subst₂ N (inner_spelled s.letter x) (inner_spelled s.letter z) here))
+        )
+  ]
+
 module _ {K C : Type 0} (spells : C → Bool) where
   leaf_goes : {A B L M : Type 0} (s : Side K C A L) (t : Side K C B M) → Meets spells s t → (c : C) → IsTrue (spells c)
       → Goes s t (InLeaf s.leaf s.alphabet (s.leaf_of c)) (InLeaf t.leaf t.alphabet (t.leaf_of c))
@@ -90,6 +104,7 @@ module _ {K C : Type 0} (spells : C → Bool) where
         restricted_goes s t n.tells (set_goes t s n m e built.0) (context_goes s t m n contexts built.1)
     set_goes s t m n (steps e more) built = steps_go s t m n more built.1 (set_goes s t m n e built.0)
     set_goes s t m n (rules optional groups) built = record { word = λ v h. absurd h }
+    set_goes s t m n (directed way maps contexts) built = record { word = λ v h. absurd h }
 
     each_goes : {A B L M : Type 0} (s : Side K C A L) (t : Side K C B M) → Meets spells s t → Meets spells t s → (es : Terms C) → AreBuilt spells es
         → Goes s t (InEach s.leaf s.alphabet (mapped_each s.leaf_of es)) (InEach t.leaf t.alphabet (mapped_each t.leaf_of es))
@@ -163,6 +178,22 @@ module _ {K C : Type 0} (spells : C → Bool) where
           applies = λ before behind y h. group_applies t s n m groups built.1 before behind y h;
         })
         optional
+    pairs_go s t m n (directed way maps contexts) built =
+        directed_rule s.letter t.letter m.tells s.alphabet t.alphabet {N = IsMatch s.leaf s.alphabet (mapped_mappings s.leaf_of maps) (mapped_contexts s.leaf_of contexts)}
+        {O = IsMatch t.leaf t.alphabet (mapped_mappings t.leaf_of maps) (mapped_contexts t.leaf_of contexts)}
+        (record {
+          letter = λ x among. let r = s.known x among in (r.0, sym r.1, t.named r.0);
+          words = λ before behind c r h. mapping_words s t m n maps built.1 c r h.0;
+          replaces = λ before behind y z h. (
+            mapping_goes s t m n maps built.1 y z h.0,
+            allowed s t contexts (InContext s.leaf s.alphabet (mapped_contexts s.leaf_of contexts)) (InContext t.leaf t.alphabet (mapped_contexts t.leaf_of contexts)) UpUp (context_goes s t m n contexts built.2) before behind h.1,
+          );
+          matches = λ x y z h. (
+            centre_goes t s n m maps built.1 y h.0,
+            held t s contexts (InContext t.leaf t.alphabet (mapped_contexts t.leaf_of contexts)) (InContext s.leaf s.alphabet (mapped_contexts s.leaf_of contexts)) (context_goes t s n m contexts built.2) x z h.1,
+          );
+        })
+        way
 
     each_pair_goes : {A B L M : Type 0} (s : Side K C A L) (t : Side K C B M) → Meets spells s t → Meets spells t s → (es : Terms C) → AreBuilt spells es
         → GoesPairs s t (RelatesEach s.leaf s.alphabet (mapped_each s.leaf_of es)) (RelatesEach t.leaf t.alphabet (mapped_each t.leaf_of es))

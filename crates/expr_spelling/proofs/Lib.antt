@@ -3,6 +3,7 @@ mod Sets
 mod Pairs
 pub mod Edges
 mod Pieces
+mod Directions
 pub mod Sides
 pub mod Carrying
 pub mod Spelling

@@ -1,7 +1,7 @@
 -- How a run ends beside lanes, by what it did, and what follows of its status.
 use Rattle.std.proofs.Common.{◌≡◌, ◌≢◌, ◌⊎◌, ◌<◌, ℕ, zero, suc, List, [], ◌∷◌, Option, None, Some, Ok, Err, length, slice_get, refl, sym, ap, ◌∙◌, inl, inr, arith}
 use Rattle.fsm_io.specs.Causes.{Rose}
-use Rattle.fsm_io.specs.Folders.{Told, IsTold}
+use Rattle.fsm_io.specs.Folders.{Files, Told, IsTold, file_of}
 use Rattle.generated_report.specs.Reports.{IsReport}
 use Rattle.interlinear.specs.Glosses.{Entry}
 use Rattle.interlinear.specs.Replies.{GlossesLine}
@@ -21,11 +21,24 @@ use Rattle.reply_meaning.specs.declared.ending.Ending.TheVariants.{Finished, Wri
 use Rattle.reply_meaning.specs.Replies.{Replies}
 use Rattle.reply_text.specs.Projects.{accepted_line, refused_line}
 use Rattle.fsm_program.specs.Beside.{EndsBeside, HasServed, LaneFailed, LaneReadFailed, LaneSpent, LaneWriteFailed, Lanes, OfSomeLane, alone, served}
-use Rattle.fsm_program.specs.Ends.{Asked, IsAnswered, Loads, no_memory, for_check, for_gen, for_help, for_look, for_serve, glosses_in, status_of, usage_text, words_in}
+use Rattle.named_networks.specs.Comparisons.{IsCompared}
+use Rattle.named_networks.specs.Responses.{Response}
+use Rattle.named_networks.specs.Texts.{IsAtt}
+use Rattle.named_networks.specs.declared.told.Question.{Question}
+use Rattle.pair_lines.specs.Replies.{HasGrammar, RefusesPairs, RepliesToPairs}
+use Rattle.project_meaning.specs.Leaves.{Leaf}
+use Rattle.project_meaning.specs.Trees.{Grammar}
+use Rattle.saved_networks.specs.Faults.{file_fault}
+use Rattle.saved_networks.specs.Refusals.{refused_line as file_refused_line}
+use Rattle.saved_networks.specs.Replies.{RepliesBySaved}
+use Rattle.saved_networks.specs.declared.faults.SavedWhy.{SavedWhy}
+use Rattle.fsm_program.specs.Ends.{Asked, Declines, HaveFault, IsAnswered, Loads, no_memory, for_att, for_check, for_compared, for_gen, for_help, for_look, for_pairs, for_saved, for_serve, glosses_in, response_bytes, response_status, status_of, usage_text, words_in}
+use Rattle.fsm_program.specs.Saved.{HasSavedText, IsSavedFault}
 use Rattle.fsm_program.specs.Outside.{FolderFailed, Outside, ReadNothing, Wrote, WroteNothing}
 use Rattle.fsm_program.specs.Running.{HasSpent, most_taken}
 use Rattle.fsm_program.specs.Serving.{IsFirstVersion}
-use Rattle.fsm_program.proofs.Endings.{answered_other, asks_none, check, check_serve, completes, fault_cause, gloss, help, look, look_serve, make, no_fault, no_help, no_load, one_told, refusal, same_project, spent_cause, unsaid, unserved, usage_cause}
+use Rattle.fsm_program.proofs.Outcomes.{att, check, compare, completes, completes_saved, declined_cause, fault_cause, gloss, help, look, look_saved, make, pair, refusal, spent_cause, unsaid, unserved, usage_cause}
+use Rattle.fsm_program.proofs.Unique.{answered_other, answered_seven, asks_none, check_serve, look_serve, no_fault, no_help, no_load, one_told, same_asked, same_project}
 
 -- of two endings the one that is told
 worse_of : (a b e : Ending) → e ≢ Finished → worse a b ≡ e → (a ≡ e) ⊎ (b ≡ e)
@@ -142,7 +155,7 @@ module _ {version : ℕ} {asked : Option Asked} {before after : Outside} {old ne
   usage_beside (alone ends same) e = usage_cause ends e
   usage_beside (served loaded is whole told (first, (ending, endings, s, live, causes))) e = answered_other (worst (ending ∷ endings)) 1 s e (inl refl)
 
-  pub fault_beside : EndsBeside version asked before after old new status → status ≡ 2 → (fault : Fault) × Told before.files (λ fs. Reads fs (Err fault)) × ¬ FolderFailed before after
+  pub fault_beside : EndsBeside version asked before after old new status → status ≡ 2 → HaveFault asked before.files × ¬ FolderFailed before after
   fault_beside (alone ends same) e = fault_cause ends e
   fault_beside (served loaded is whole told (first, (ending, endings, s, live, causes))) e = answered_other (worst (ending ∷ endings)) 2 s e (inr refl)
 
@@ -170,6 +183,32 @@ module _ {version : ℕ} {asked : Option Asked} {before after : Outside} {old ne
   make_beside (alone ends same) stems e = make ends stems e
   make_beside (served loaded is whole told serves) stems e = no_load asked for_serve stems e is tt
 
+  pub att_beside : EndsBeside version asked before after old new status → (net : List ℕ) (project : Project) → asked ≡ Some (for_att net) → IsTold before.files (λ fs. Reads fs (Ok project)) → (FolderFailed before after → ⊥)
+      → ((response : Response) × IsAtt project version net response × Wrote before after (response_bytes response) (response_status response) status) ⊎ (status ≡ 5)
+  att_beside (alone ends same) net project e told whole = att ends net project e told whole
+  att_beside (served loaded is whole' told' serves) net project e told whole = let clash : for_att net ≡ for_serve = same_asked asked (for_att net) for_serve e is in cc
+
+  pub compare_beside : EndsBeside version asked before after old new status → (question : Question) (first second : List ℕ) (project : Project) → asked ≡ Some (for_compared question first second) → IsTold before.files (λ fs. Reads fs (Ok project)) → (FolderFailed before after → ⊥)
+      → ((response : Response) × IsCompared project version question first second response × Wrote before after (response_bytes response) (response_status response) status) ⊎ (status ≡ 5)
+  compare_beside (alone ends same) question first second project e told whole = compare ends question first second project e told whole
+  compare_beside (served loaded is whole' told' serves) question first second project e told whole = let clash : for_compared question first second ≡ for_serve = same_asked asked (for_compared question first second) for_serve e is in cc
+
+  pub pair_beside : EndsBeside version asked before after old new status → (net : List ℕ) (project : Project) → asked ≡ Some (for_pairs net) → IsTold before.files (λ fs. Reads fs (Ok project)) → (FolderFailed before after → ⊥)
+      → ((grammar : Grammar Leaf) × HasGrammar project net grammar × IsAnswered (RepliesToPairs project version net) before after status)
+      ⊎ ((line : List ℕ) × RefusesPairs project version net line × Wrote before after line 7 status) ⊎ (status ≡ 5)
+  pair_beside (alone ends same) net project e told whole = pair ends net project e told whole
+  pair_beside (served loaded is whole' told' serves) net project e told whole = let clash : for_pairs net ≡ for_serve = same_asked asked (for_pairs net) for_serve e is in cc
+
+  pub look_saved_beside : EndsBeside version asked before after old new status → (file : List ℕ) (files : Files) → asked ≡ Some (for_saved file) → before.files ≡ Some files → (FolderFailed before after → ⊥)
+      → ((text : List ℕ) × HasSavedText file text files × IsAnswered (RepliesBySaved text version) before after status)
+      ⊎ ((line : ℕ) × (why : SavedWhy) × IsSavedFault file line why files × Wrote before after (file_refused_line file line why) 2 status) ⊎ (status ≡ 5)
+  look_saved_beside (alone ends same) file files e held whole = look_saved ends file files e held whole
+  look_saved_beside (served loaded is whole' told' serves) file files e held whole = let clash : for_saved file ≡ for_serve = same_asked asked (for_saved file) for_serve e is in cc
+
+  pub declined_beside : EndsBeside version asked before after old new status → status ≡ 7 → (what : Asked) × (project : Project) × (asked ≡ Some what) × Told before.files (λ fs. Reads fs (Ok project)) × Declines what project × ¬ FolderFailed before after
+  declined_beside (alone ends same) e = declined_cause ends e
+  declined_beside (served loaded is whole told (first, (ending, endings, s, live, causes))) e = answered_seven (worst (ending ∷ endings)) s e
+
   -- a project without a fault, whose commands are served
   pub serve_beside : EndsBeside version asked before after old new status → (project : Project) → asked ≡ Some for_serve → IsTold before.files (λ fs. Reads fs (Ok project)) → (FolderFailed before after → ⊥)
       → ((loaded : Version) × (loaded.project ≡ project) × HasServed loaded before after old new status) ⊎ (status ≡ 5)
@@ -179,7 +218,7 @@ module _ {version : ℕ} {asked : Option Asked} {before after : Outside} {old ne
   -- with no failure and bytes left to take, all was done or there was no memory
   pub completes_beside : {I O : Type 0} → EndsBeside version asked before after old new status → (status ≡ 3 → FolderFailed before after ⊎ I ⊎ OfSomeLane LaneReadFailed old new) → (status ≡ 4 → O ⊎ OfSomeLane LaneWriteFailed old new)
       → (what : Asked) (project : Project) → asked ≡ Some what → Loads what → IsTold before.files (λ fs. Reads fs (Ok project)) → (FolderFailed before after → ⊥) → (I → ⊥) → (O → ⊥) → (OfSomeLane LaneFailed old new → ⊥) → status ≢ 6
-      → (status ≡ 0) ⊎ (status ≡ 5)
+      → (status ≡ 0) ⊎ (status ≡ 5) ⊎ ((status ≡ 7) × Declines what project)
   completes_beside {I} {O} ends three four what project e loads told whole read written lanes unspent = by ends
     where
       no_read : I ⊎ OfSomeLane LaneReadFailed old new → ⊥
@@ -190,15 +229,29 @@ module _ {version : ℕ} {asked : Option Asked} {before after : Outside} {old ne
       no_write (inl own) = written own
       no_write (inr (i, a, b, at, at', rose)) = lanes (i, a, b, at, at', inr rose)
 
-      by_ending : (e : Ending) → status ≡ status_of e → (status ≡ 0) ⊎ (status ≡ 5)
+      by_ending : (e : Ending) → status ≡ status_of e → (status ≡ 0) ⊎ (status ≡ 5) ⊎ ((status ≡ 7) × Declines what project)
       by_ending Finished s = inl s
       by_ending WriteFailed s = absurd (no_write (four s))
       by_ending ReadFailed s = absurd (elim (three s) as (λ _. ⊥) [ inl rose ↦ whole rose | inr rose ↦ no_read rose ])
       by_ending Spent s = absurd (unspent s)
 
-      by : EndsBeside version asked before after old new status → (status ≡ 0) ⊎ (status ≡ 5)
+      by : EndsBeside version asked before after old new status → (status ≡ 0) ⊎ (status ≡ 5) ⊎ ((status ≡ 7) × Declines what project)
       by (alone ends same) = completes ends three four what project e loads told whole no_read no_write unspent
       by (served loaded is whole' told' (first, (ending, endings, s, live, causes))) = by_ending (worst (ending ∷ endings)) s
+
+  pub completes_saved_beside : {I O : Type 0} → EndsBeside version asked before after old new status → (status ≡ 3 → FolderFailed before after ⊎ I ⊎ OfSomeLane LaneReadFailed old new) → (status ≡ 4 → O ⊎ OfSomeLane LaneWriteFailed old new)
+      → (file : List ℕ) (files : Files) → asked ≡ Some (for_saved file) → before.files ≡ Some files → file_fault (file_of file files) ≡ None → (FolderFailed before after → ⊥) → (I → ⊥) → (O → ⊥) → (OfSomeLane LaneFailed old new → ⊥) → status ≢ 6
+      → (status ≡ 0) ⊎ (status ≡ 5)
+  completes_saved_beside {I} {O} (alone ends same) three four file files e held free whole read written lanes unspent = completes_saved ends three four file files e held free whole no_read no_write unspent
+    where
+      no_read : I ⊎ OfSomeLane LaneReadFailed old new → ⊥
+      no_read (inl own) = read own
+      no_read (inr (i, a, b, at, at', rose)) = lanes (i, a, b, at, at', inl rose)
+
+      no_write : O ⊎ OfSomeLane LaneWriteFailed old new → ⊥
+      no_write (inl own) = written own
+      no_write (inr (i, a, b, at, at', rose)) = lanes (i, a, b, at, at', inr rose)
+  completes_saved_beside (served loaded is whole' told' serves) three four file files e held free whole read written lanes unspent = let clash : for_saved file ≡ for_serve = same_asked asked (for_saved file) for_serve e is in cc
 
   -- as many bytes as may be were taken of the input, or of a lane's
   pub spent_beside : EndsBeside version asked before after old new status → status ≡ 6 → HasSpent before.input after.input ⊎ OfSomeLane LaneSpent old new

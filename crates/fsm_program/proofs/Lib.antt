@@ -1,10 +1,17 @@
+pub mod Asking
 pub mod Beside
 pub mod Endings
+pub mod FileNames
 pub mod LastByte
+pub mod Lawful
 pub mod Loading
+pub mod Outcomes
+pub mod Requests
 pub mod Gathering
 pub mod Runs
+pub mod Saving
 pub mod Sending
 pub mod Stems
 pub mod Tasks
 pub mod Unread
+pub mod Unique

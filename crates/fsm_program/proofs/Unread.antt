@@ -8,31 +8,67 @@ use Rattle.std.specs.Result.{IsErrAnd}
 use Rattle.std.specs.String.{string_bytes}
 use Rattle.std.specs.declared.alloc.AllocError.{AllocError}
 use Rattle.std.specs.declared.string.String.{String}
-use Rattle.fsm_base.specs.Normal.{nfc_of}
-use Rattle.fsm_program.specs.Ends.{Asked, Query, IsWhyUnread, asked_of, for_check, for_gen, for_look, for_serve, stems_of, task_of}
-use Rattle.fsm_program.specs.declared.look_up.Task.{Task}
+use Rattle.fsm_program.specs.Ends.{Asked, IsOfNames, IsWhyUnread, asked_by, asked_of, asked_of_four, asked_of_one, asked_of_three, asked_of_two, for_check, for_gen, for_serve, stems_of}
 use Rattle.fsm_program.specs.declared.words.Command.{Command}
 use Rattle.fsm_program.specs.declared.words.WordsError.{WordsError}
 use Rattle.fsm_program.specs.declared.words.WordsError.TheVariants.{Memory}
 
--- three words, of which the first says what is done with lines, and the last is a name
-pub asked_look : (words : List (String Global)) (command net : String Global) (task : Task) → 3 ≤ length words → length words < 4 → command ≡ slice_index_or words 0 command → net ≡ slice_index_or words 2 net
-    → task_of (string_bytes command) ≡ Some task → asked_of (map string_bytes words) ≡ Some (for_look (record { task = task; net = nfc_of (string_bytes net) }))
-asked_look [] command net task many few first last is = absurd (omega (arith, many))
-asked_look (a ∷ []) command net task many few first last is = absurd (omega (arith, many))
-asked_look (a ∷ b ∷ []) command net task many few first last is = absurd (omega (arith, many))
-asked_look (a ∷ b ∷ d ∷ []) command net task many few first last is =
-    let with_net = λ (name : String Global). option_map (λ task. for_look (record { task = task; net = nfc_of (string_bytes name) })) in
-    ap (λ (name : String Global). with_net name (task_of (string_bytes a))) (sym last)
-    ∙ ap (λ (word : String Global). with_net net (task_of (string_bytes word))) (sym first)
-    ∙ ap (with_net net) is
-asked_look (a ∷ b ∷ d ∷ e ∷ words) command net task many few first last is = absurd (omega (arith, few))
+-- what words ask for, by how many they are
+pub asked_one : (words : List (String Global)) (word : String Global) → 1 ≤ length words → length words < 2 → word ≡ slice_index_or words 0 word → asked_of (map string_bytes words) ≡ asked_of_one (string_bytes word)
+asked_one [] word many few first = absurd (omega (arith, many))
+asked_one (a ∷ []) word many few first = ap (λ (w : String Global). asked_of_one (string_bytes w)) (sym first)
+asked_one (a ∷ b ∷ words) word many few first = absurd (omega (arith, few))
 
--- there was no memory for the name
-pub unread_look : (r : Result Command WordsError) (what : Option Asked) (P : Command → Type 0) (refused : AllocError) (query : Query) → IsErrAnd r (λ error. error ≡ Memory refused) → what ≡ Some (for_look query)
+pub asked_two : (words : List (String Global)) (command word : String Global) → 2 ≤ length words → length words < 3 → command ≡ slice_index_or words 0 command → word ≡ slice_index_or words 1 word
+    → asked_of (map string_bytes words) ≡ asked_of_two (string_bytes command) (string_bytes word)
+asked_two [] command word many few one two = absurd (omega (arith, many))
+asked_two (a ∷ []) command word many few one two = absurd (omega (arith, many))
+asked_two (a ∷ b ∷ []) command word many few one two =
+    ap (λ (w : String Global). asked_of_two (string_bytes w) (string_bytes b)) (sym one) ∙ ap (λ (w : String Global). asked_of_two (string_bytes command) (string_bytes w)) (sym two)
+asked_two (a ∷ b ∷ d ∷ words) command word many few one two = absurd (omega (arith, few))
+
+pub asked_three : (words : List (String Global)) (command name : String Global) → 3 ≤ length words → length words < 4 → command ≡ slice_index_or words 0 command → name ≡ slice_index_or words 2 name
+    → asked_of (map string_bytes words) ≡ asked_of_three (string_bytes command) (string_bytes name)
+asked_three [] command name many few one three = absurd (omega (arith, many))
+asked_three (a ∷ []) command name many few one three = absurd (omega (arith, many))
+asked_three (a ∷ b ∷ []) command name many few one three = absurd (omega (arith, many))
+asked_three (a ∷ b ∷ d ∷ []) command name many few one three =
+    ap (λ (w : String Global). asked_of_three (string_bytes w) (string_bytes d)) (sym one) ∙ ap (λ (w : String Global). asked_of_three (string_bytes command) (string_bytes w)) (sym three)
+asked_three (a ∷ b ∷ d ∷ e ∷ words) command name many few one three = absurd (omega (arith, few))
+
+pub asked_four : (words : List (String Global)) (command first second : String Global) → 4 ≤ length words → length words < 5 → command ≡ slice_index_or words 0 command → first ≡ slice_index_or words 2 first
+    → second ≡ slice_index_or words 3 second → asked_of (map string_bytes words) ≡ asked_of_four (string_bytes command) (string_bytes first) (string_bytes second)
+asked_four [] command first second many few one three four = absurd (omega (arith, many))
+asked_four (a ∷ []) command first second many few one three four = absurd (omega (arith, many))
+asked_four (a ∷ b ∷ []) command first second many few one three four = absurd (omega (arith, many))
+asked_four (a ∷ b ∷ d ∷ []) command first second many few one three four = absurd (omega (arith, many))
+asked_four (a ∷ b ∷ d ∷ e ∷ []) command first second many few one three four =
+    ap (λ (w : String Global). asked_of_four (string_bytes w) (string_bytes d) (string_bytes e)) (sym one)
+    ∙ ap (λ (w : String Global). asked_of_four (string_bytes command) (string_bytes w) (string_bytes e)) (sym three)
+    ∙ ap (λ (w : String Global). asked_of_four (string_bytes command) (string_bytes first) (string_bytes w)) (sym four)
+asked_four (a ∷ b ∷ d ∷ e ∷ f ∷ words) command first second many few one three four = absurd (omega (arith, few))
+
+pub asks_too_few : (words : List (String Global)) → length words < 1 → asked_of (map string_bytes words) ≡ None
+asks_too_few [] few = refl
+asks_too_few (a ∷ words) few = absurd (omega (arith, few))
+
+pub asks_too_many : (words : List (String Global)) → 5 ≤ length words → asked_of (map string_bytes words) ≡ None
+asks_too_many [] many = absurd (omega (arith, many))
+asks_too_many (a ∷ []) many = absurd (omega (arith, many))
+asks_too_many (a ∷ b ∷ []) many = absurd (omega (arith, many))
+asks_too_many (a ∷ b ∷ d ∷ []) many = absurd (omega (arith, many))
+asks_too_many (a ∷ b ∷ d ∷ e ∷ []) many = absurd (omega (arith, many))
+asks_too_many (a ∷ b ∷ d ∷ e ∷ f ∷ words) many = refl
+
+-- what is read of some is read of those that ask for the same
+pub reads_as : (r : Result Command WordsError) (what other : Option Asked) → what ≡ other → MatchResult r (λ command. other ≡ Some (asked_by command)) (IsWhyUnread other) → MatchResult r (λ command. what ≡ Some (asked_by command)) (IsWhyUnread what)
+reads_as r what other same reads = subst (λ (w : Option Asked). MatchResult r (λ command. w ≡ Some (asked_by command)) (IsWhyUnread w)) (sym same) reads
+
+-- there was no memory for names
+pub unread_named : (r : Result Command WordsError) (what : Option Asked) (P : Command → Type 0) (refused : AllocError) (named : Asked) → IsErrAnd r (λ error. error ≡ Memory refused) → what ≡ Some named → IsOfNames named
     → MatchResult r P (IsWhyUnread what)
-unread_look (Ok command) what P refused query is asks = absurd is
-unread_look (Err error) what P refused query is asks = subst (IsWhyUnread what) (sym is) (query, asks)
+unread_named (Ok command) what P refused named is asks of_names = absurd is
+unread_named (Err error) what P refused named is asks of_names = subst (IsWhyUnread what) (sym is) (named, asks, of_names)
 
 -- what is made isn't served
 not_made : (stems : Option ℕ) → option_map (λ (n : ℕ). for_gen n) stems ≡ Some for_serve → ⊥

@@ -5,6 +5,9 @@ pub mod Tasks
 pub mod Files
 pub mod Gathered
 pub mod Outside
+pub mod FileNames
+pub mod Saved
 pub mod Serving
 pub mod Ends
+pub mod Naming
 pub mod Beside

@@ -4,14 +4,19 @@
 //! - [`Lane`]: an input and an output, whose lines are answered beside the commands of an editor.
 //! - [`read_words`]: the [`Command`] of the words, or why there is none, a [`WordsError`].
 //!
-//! Inside, `load` reads the files of the folder's project, whose networks project_store builds, `look_up` answers one line of the input, `session` all of
-//! them, `saying` writes what ends a run, and `words` reads the command line.
+//! Inside, `words` reads the command line, and `alone` does what it asks for, as `naming`, `pairing` and `saved` do for names, strings of pairs and saved
+//! networks. `load` reads the files of the folder's project, whose networks project_store builds, `look_up` answers one line of the input, `session` all of
+//! them (`answering`), and `saying` writes what ends a run.
 #![tactic(auto)]
 
 mod alone;
+mod answering;
 mod load;
 mod look_up;
+mod naming;
+mod pairing;
 mod program;
+mod saved;
 mod saying;
 mod session;
 mod words;

@@ -15,12 +15,15 @@ ghost use Rattle.word_relations.specs.Words.{IsDistinct};
 use fsm_base::Text;
 use fsm_io::{Folder, FolderError, Found, rose};
 use project_model::{Manifest, manifest_of};
-use project_sources::{PlanError, Sources};
+use project_sources::{MOST_BYTES, PlanError, Sources};
 use project_store::{Ready, StoreError, project_of};
 use project_versions::Version;
 use regex_ast::Fault;
 use std::alloc::{AllocError, Global};
 use thiserror::Error;
+
+/// The most bytes that are read of a file: one more than a file may have.
+pub const MOST_READ: usize = MOST_BYTES + 1;
 
 /// Why a project isn't loaded.
 #[derive(Debug, Drop, Error)]
@@ -173,6 +176,7 @@ fn gather<F: Folder>(alloc: Global, folder: &mut F, most: usize) -> Result<Sourc
 pub fn load<F: Folder>(alloc: Global, folder: &mut F, most: usize) -> Result<Ready, LoadError>
     requires { most ≡ most_read }
     ensures loaded { IfOk result (λ project. IsLoaded project (F.files folder.old)) }
+    ensures whole { OnOk result (¬ (Rose (F.faults folder.old) (F.faults folder.new))) }
     ensures error { IfErr result (λ error. IsLoadError error (F.files folder.old) (F.faults folder.old) (F.faults folder.new)) }
     ensures asked { AskedForFiles (F.files folder.old) (F.asked folder.old) (F.asked folder.new) }
     ensures later { F.faults folder.old ≤ F.faults folder.new }

@@ -1,4 +1,4 @@
-ghost use Rattle.std.specs.Prelude.{◌≤◌, Some, codes, length, IfOk};
+ghost use Rattle.std.specs.Prelude.{◌<◌, ◌≤◌, ◌-◌, ◌^◌, Some, codes, length, IfOk};
 ghost use Rattle.fsm_base.specs.Normal.{nfc_of};
 ghost use Rattle.fsm_io.specs.Causes.{HasCause};
 ghost use Rattle.fsm_io.specs.Lines.{most_line};
@@ -8,14 +8,16 @@ ghost use Rattle.reply_meaning.specs.Replies.{headed};
 ghost use Rattle.reply_text.specs.Heads.{head_word};
 ghost use Rattle.project_store.specs.Networks.{Shows};
 ghost use Rattle.fsm_program.specs.Sending.{Sends};
-ghost use Rattle.fsm_program.specs.Tasks.{RepliesToLine, RepliesToText};
+ghost use Rattle.fsm_program.specs.Tasks.{RepliesToLineIn, RepliesToText, RepliesToTextIn};
 
 use fsm_base::nfc;
 use fsm_io::{Failed, Outbox, Sink};
 use lookup_answers::Direction;
+use pair_lines::PairRules;
 use project_store::Network;
 use reply_meaning::without_return;
 use reply_text::{Head, short};
+use saved_networks::SavedNetwork;
 use std::alloc::{AllocError, Global};
 use std::str;
 
@@ -28,15 +30,46 @@ pub enum Task {
     Glosses,
 }
 
-/// What lines are looked up in: a name's network, and what is done with each, at a version of the project.
+/// What lines are looked up in.
+#[derive(Drop)]
+pub enum Subject {
+    /// A name of a project.
+    Named {
+        /// The name, and its network if the project defines it.
+        network: Network,
+        /// What is done with each line.
+        task: Task,
+    },
+    /// The rules of a name: each line is a string of pairs, which keeps them or breaks one.
+    Rules(PairRules),
+    /// A network that was saved as AT&T text: of each line, a word, the upper words are told.
+    Saved(SavedNetwork),
+}
+
+/// What lines are looked up in, at a version of the project.
 #[derive(Drop)]
 pub struct LookUp {
-    /// The name, and its network if the project defines it.
-    pub network: Network,
-    /// What is done with each line.
-    pub task: Task,
+    /// What they are looked up in.
+    pub subject: Subject,
     /// The version's number, which every reply names.
     pub version: u64,
+}
+
+/// The reply to a text in Normalization Form C that is looked up in a name.
+fn reply_of_name(
+    alloc: Global,
+    network: &Network,
+    task: Task,
+    version: u64,
+    text: &str,
+) -> Result<Vec<u8>, AllocError>
+    requires { length text.now < 2 ^ 32 - 1 }
+    ensures { (project : Project) → Shows network.now project → IfOk result (λ bytes. RepliesToText task project network.now.glosses version network.now.name text.now bytes.items) }
+{
+    match task {
+        Task::Words(direction) => network.reply_to(alloc, direction, version, text),
+        Task::Glosses => network.gloss(alloc, version, text),
+    }
 }
 
 impl LookUp {
@@ -58,14 +91,15 @@ impl LookUp {
     /// The reply to the text of a line, which is put into Normalization Form C first.
     fn reply_to_text(&self, alloc: Global, text: &str) -> Result<Vec<u8>, AllocError>
         requires { length text.now ≤ most_line }
-        ensures { (project : Project) → Shows self.now.network project → IfOk result (λ bytes. RepliesToText self.now.task project self.now.network.glosses self.now.version self.now.network.name (nfc_of text.now) bytes.items) }
+        ensures { IfOk result (λ bytes. RepliesToTextIn self.now.subject self.now.version (nfc_of text.now) bytes.items) }
     {
         let text = nfc(alloc, text)?;
-        match self.task {
-            Task::Words(direction) => self
-                .network
-                .reply_to(alloc, direction, self.version, text.as_str()),
-            Task::Glosses => self.network.gloss(alloc, self.version, text.as_str()),
+        match &self.subject {
+            Subject::Named { network, task } => {
+                reply_of_name(alloc, network, *task, self.version, text.as_str())
+            }
+            Subject::Rules(rules) => rules.reply_to(alloc, self.version, text.as_str()),
+            Subject::Saved(network) => network.reply_to(alloc, self.version, text.as_str()),
         }
     }
 
@@ -78,8 +112,7 @@ impl LookUp {
         output: &mut O,
     ) -> Result<(), Failed>
         requires { length line.now ≤ most_line }
-        ensures sends { (project : Project) → Shows self.now.network project
-            → Sends (RepliesToLine self.now.task project self.now.network.glosses self.now.version self.now.network.name (Some line.now)) (O.held output.old) (O.held output.new) outbox.old outbox.new result }
+        ensures sends { Sends (RepliesToLineIn self.now.subject self.now.version (Some line.now)) (O.held output.old) (O.held output.new) outbox.old outbox.new result }
         ensures cause { HasCause (O.faults output.old) (O.faults output.new) result }
     {
         match str::from_utf8(without_return(line)) {

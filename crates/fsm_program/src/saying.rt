@@ -1,26 +1,30 @@
-ghost use Rattle.std.specs.Prelude.{◌≡◌, ◌≢◌, ◌⊎◌, ◌<◌, ℕ, List, IfOk};
+ghost use Rattle.std.specs.Prelude.{◌≡◌, ◌≢◌, ◌⊎◌, ℕ, List, IfOk};
 ghost use Rattle.fsm_io.specs.Causes.{Rose};
 ghost use Rattle.project_sources.specs.Sources.{Said, project_in};
 ghost use Rattle.project_store.specs.Loaded.{AreNames, IsLoadedFrom};
 ghost use Rattle.reply_text.specs.Projects.{accepted_line};
-ghost use Rattle.fsm_program.specs.Ends.{IsNotLoaded, status_of, usage_text};
+ghost use Rattle.named_networks.specs.Responses.{response_of};
+ghost use Rattle.fsm_program.specs.Ends.{IsNotLoaded, response_bytes, response_status, status_of, usage_text};
 ghost use Rattle.fsm_program.specs.Outside.{IsSaid};
+ghost use Rattle.fsm_program.specs.Saved.{IsNotOpened};
 
 use crate::load::LoadError;
 use crate::words::WordsError;
 use fsm_io::{Failed, Sink, write_all};
+use named_networks::Told;
 use project_store::Project;
 use reply_meaning::Ending;
 use reply_text::{accepted, refused};
+use saved_networks::SavedError;
 use std::alloc::{AllocError, Global};
 
 /// What is written for help, and where the words are in no form.
 pub const USAGE: &[u8] =
-    b"check DIR\nup DIR NET\ndown DIR NET\ngloss DIR NET\nserve DIR\ngen N\nhelp\n";
+    b"check DIR\nup DIR NET\ndown DIR NET\ngloss DIR NET\nserve DIR\ngen N\natt DIR NET\nattup DIR FILE\npairs DIR NET\nequal DIR A B\nwithin DIR A B\nhelp\n";
 
 /// Writes a text that ends the run with this status, or with 4 where the write fails.
 pub fn said<O: Sink>(output: &mut O, text: &[u8], status: u8) -> u8
-    requires { status < 3 }
+    requires { status ≢ 4 }
     ensures said { IsSaid (O.held output.old) (O.held output.new) text.now status result }
     ensures status { (result ≡ status) ⊎ (result ≡ 4) }
     ensures write { result ≡ 4 → Rose (O.faults output.old) (O.faults output.new) }
@@ -72,6 +76,36 @@ pub fn not_loaded<O: Sink>(alloc: Global, error: LoadError, output: &mut O) -> u
             Ok(text) => said(output, &text, 2),
             Err(_) => 5,
         },
+    }
+}
+
+/// Ends a run whose file of AT&T text isn't opened.
+pub fn not_opened<O: Sink>(alloc: Global, file: &str, error: SavedError, output: &mut O) -> u8
+    ensures ends { IsNotOpened error file.now (O.held output.old) (O.held output.new) result }
+    ensures status { (result ≡ 2) ⊎ (result ≡ 4) ⊎ (result ≡ 5) }
+    ensures unwritten { result ≡ 5 → output.new ≡ output.old }
+    ensures write { result ≡ 4 → Rose (O.faults output.old) (O.faults output.new) }
+{
+    match error {
+        SavedError::Memory(_) => 5,
+        SavedError::Refused { line, why } => {
+            match saved_networks::refused(alloc, file, line, why) {
+                Ok(text) => said(output, &text, 2),
+                Err(_) => 5,
+            }
+        }
+    }
+}
+
+/// Writes what is told of names, with the status 0, or 7 where that is a refusal.
+pub fn say_told<O: Sink>(told: Told, output: &mut O) -> u8
+    ensures said { IsSaid (O.held output.old) (O.held output.new) (response_bytes (response_of told)) (response_status (response_of told)) result }
+    ensures status { (result ≡ 0) ⊎ (result ≡ 4) ⊎ (result ≡ 7) }
+    ensures write { result ≡ 4 → Rose (O.faults output.old) (O.faults output.new) }
+{
+    match told {
+        Told::Answer(bytes) => said(output, &bytes, 0),
+        Told::Refusal(line) => said(output, &line, 7),
     }
 }
 

@@ -2,9 +2,7 @@ ghost use Rattle.std.specs.Prelude.{◌≡◌, ◌<◌, ◌≤◌, ℕ, [], List
 ghost use Rattle.fsm_io.specs.Causes.{HasCause, Rose};
 ghost use Rattle.fsm_io.specs.Reading.{at_start, size_of};
 ghost use Rattle.fsm_io.specs.Sinks.{Gathers};
-ghost use Rattle.project_meaning.specs.Projects.{Project};
 ghost use Rattle.reply_meaning.specs.Transcripts.{HasAnswered};
-ghost use Rattle.project_store.specs.Networks.{Shows};
 ghost use Rattle.fsm_program.specs.Steps.{steps};
 ghost use Rattle.fsm_program.specs.Running.{MayRead, Sofar, Turns, flushed, most_taken};
 
@@ -59,9 +57,9 @@ impl Session {
         output: &mut O,
     ) -> Option<Ending>
         requires { MayRead self.old.lines self.old.outbox }
-        ensures turns { (project : Project) (budget : ℕ) (left0 held0 : Option (List ℕ)) → Shows self.old.look_up.network project
-            → Sofar (steps project self.old.look_up) tt budget left0 (I.left input.old) held0 (O.held output.old) self.old.lines self.old.outbox
-            → Turns (steps project self.old.look_up) tt budget left0 (I.left input.new) held0 (O.held output.new) self.new.lines self.new.outbox result }
+        ensures turns { (budget : ℕ) (left0 held0 : Option (List ℕ))
+            → Sofar (steps self.old.look_up) tt budget left0 (I.left input.old) held0 (O.held output.old) self.old.lines self.old.outbox
+            → Turns (steps self.old.look_up) tt budget left0 (I.left input.new) held0 (O.held output.new) self.new.lines self.new.outbox result }
         ensures same { self.new.look_up ≡ self.old.look_up }
         ensures progress { IfNone result (size_of self.new.lines < size_of self.old.lines) }
         ensures read { result ≡ Some Ending.ReadFailed → Rose (I.faults input.old) (I.faults input.new) }
@@ -89,9 +87,9 @@ impl Session {
         input: &mut I,
         output: &mut O,
     ) -> Option<Ending>
-        ensures turns { (project : Project) (budget : ℕ) (left0 held0 : Option (List ℕ)) → Shows self.old.look_up.network project
-            → Sofar (steps project self.old.look_up) tt budget left0 (I.left input.old) held0 (O.held output.old) self.old.lines self.old.outbox
-            → Turns (steps project self.old.look_up) tt budget left0 (I.left input.new) held0 (O.held output.new) self.new.lines self.new.outbox result }
+        ensures turns { (budget : ℕ) (left0 held0 : Option (List ℕ))
+            → Sofar (steps self.old.look_up) tt budget left0 (I.left input.old) held0 (O.held output.old) self.old.lines self.old.outbox
+            → Turns (steps self.old.look_up) tt budget left0 (I.left input.new) held0 (O.held output.new) self.new.lines self.new.outbox result }
         ensures same { self.new.look_up ≡ self.old.look_up }
         ensures progress { IfNone result (size_of self.new.lines < size_of self.old.lines) }
         ensures read { result ≡ Some Ending.ReadFailed → Rose (I.faults input.old) (I.faults input.new) }
@@ -133,8 +131,7 @@ impl Session {
     ) -> Ending
         requires start { self.lines ≡ at_start most_taken }
         requires empty { self.outbox ≡ [] }
-        ensures answered { (project : Project) → Shows self.look_up.network project
-            → HasAnswered (steps project self.look_up) tt most_taken (I.left input.old) (I.left input.new) (O.held output.old) (O.held output.new) result }
+        ensures answered { HasAnswered (steps self.look_up) tt most_taken (I.left input.old) (I.left input.new) (O.held output.old) (O.held output.new) result }
         ensures read { result ≡ Ending.ReadFailed → Rose (I.faults input.old) (I.faults input.new) }
         ensures write { result ≡ Ending.WriteFailed → Rose (O.faults output.old) (O.faults output.new) }
         ensures later_input { I.faults input.old ≤ I.faults input.new }

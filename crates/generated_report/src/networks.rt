@@ -7,14 +7,14 @@ ghost use Rattle.generated_report.specs.Told.{FindsUpper};
 
 use fsa::Fsa;
 use network_build::{Compiled, Network};
-use project_store::{Project, network_at};
+use project_store::{Project, Shared, network_at};
 use std::alloc::{AllocError, Global};
 
 /// The network of a name, ready for look-ups. That of a name that the project doesn't define relates nothing.
 pub fn net_of(
     alloc: Global,
     project: &Project,
-    built: Vec<Option<Network>>,
+    built: Vec<Option<Shared>>,
     name: &str,
 ) -> Result<Compiled, AllocError>
     requires { CentresAreBuilt project.now built.items }

@@ -67,7 +67,7 @@ abbrev pub symbol_in : Atom → Symbol
 symbol_in (Sym symbol) = symbol
 symbol_in (Name name) = record { 0 = name }
 
--- The forms of expressions that a grammar has: braces, `:`, `=>`, replacement, `.x.` and `.o.` stand in none.
+-- The forms of expressions that a grammar has: braces, `:`, `=>`, replacement, directed or not, `.x.` and `.o.` stand in none.
 abbrev mutual
   pub IsPairForm : {A : Type 0} → Term A → Type 0
   IsPairForm empty = Unit {0}

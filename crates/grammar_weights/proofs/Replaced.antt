@@ -1,7 +1,7 @@
 -- An expression whose leaves are replaced weighs what it weighs by what they are replaced by.
 use Rattle.std.proofs.Common.{◌≡◌, ◌+◌, ◌-◌, ℕ, length, refl, ap}
 use Rattle.std.proofs.lemmas.List.{length-map}
-use Rattle.regex_ast.specs.Terms.{Term, Terms, Links, Contexts, Steps, Mappings, Groups, empty, any, edge, atom, letters, group, maybe, not_one, cross, suffixed, prefixed, ignore, concat, chain, only, rules, steps, no_term, then_term, no_link, or, and, less, no_context, between, no_step, cross_with, then, no_mapping, plain, markup, insert, no_group, then_group}
+use Rattle.regex_ast.specs.Terms.{Term, Terms, Links, Contexts, Steps, Mappings, Groups, empty, any, edge, atom, letters, group, maybe, not_one, cross, suffixed, prefixed, ignore, concat, chain, only, rules, directed, steps, no_term, then_term, no_link, or, and, less, no_context, between, no_step, cross_with, then, no_mapping, plain, markup, insert, no_group, then_group}
 use Rattle.expr_kinds.specs.Weights.{weight_of, weight_of_each, weight_of_links, weight_of_steps, weight_of_contexts, weight_of_mappings, weight_of_groups, suffixed_weight, count_of}
 use Rattle.expr_leaves.specs.Mapped.{mapped, mapped_each, mapped_links, mapped_contexts, mapped_steps, mapped_mappings, mapped_groups}
 
@@ -28,6 +28,7 @@ module _ {A B : Type 0} (leaf : B → ℕ) (f : A → B) where
     mapped_weight (chain e links) = let a = mapped_weight e in let b = links_weight links in λ i. a i + b i
     mapped_weight (only e contexts) = let a = mapped_weight e in let b = contexts_weight contexts in λ i. a i + b i + 1
     mapped_weight (rules optional groups) = ap (λ n. n + 1) (groups_weight groups)
+    mapped_weight (directed way maps contexts) = let a = mappings_weight maps in let b = contexts_weight contexts in λ i. a i + b i + 1
     mapped_weight (steps e more) = let a = mapped_weight e in let b = steps_weight more in λ i. a i + b i
 
     each_weight : (es : Terms A) → weight_of_each leaf (mapped_each f es) ≡ weight_of_each (λ a. leaf (f a)) es

@@ -2,7 +2,7 @@
 use Rattle.std.proofs.Common.{◌≡◌, List, [], ◌∷◌, ◌++◌, refl, sym, ap, ◌∙◌, append-nil}
 use Rattle.std.proofs.lemmas.Grind.{flat_map-append}
 use Rattle.std.specs.List.{flat_map}
-use Rattle.regex_ast.specs.Terms.{Term, Terms, Links, Contexts, Steps, Mappings, Groups, empty, any, edge, atom, letters, group, maybe, not_one, cross, suffixed, prefixed, ignore, concat, chain, only, rules, steps, no_term, then_term, no_link, or, and, less, no_context, between, no_step, cross_with, then, no_mapping, plain, markup, insert, no_group, then_group}
+use Rattle.regex_ast.specs.Terms.{Term, Terms, Links, Contexts, Steps, Mappings, Groups, empty, any, edge, atom, letters, group, maybe, not_one, cross, suffixed, prefixed, ignore, concat, chain, only, rules, directed, steps, no_term, then_term, no_link, or, and, less, no_context, between, no_step, cross_with, then, no_mapping, plain, markup, insert, no_group, then_group}
 use Rattle.expr_leaves.specs.Leaves.{listed, listed_each, listed_links, listed_contexts, listed_steps, listed_mappings, listed_groups}
 
 module _ {A B : Type 0} (of : A → List B) where
@@ -34,6 +34,7 @@ module _ {A B : Type 0} (of : A → List B) where
     listed_is (chain e links) = two (listed alone e) (listed_links alone links) _ _ (listed_is e) (links_is links)
     listed_is (only e contexts) = two (listed alone e) (listed_contexts alone contexts) _ _ (listed_is e) (contexts_is contexts)
     listed_is (rules optional groups) = groups_is groups
+    listed_is (directed way maps contexts) = two (listed_mappings alone maps) (listed_contexts alone contexts) _ _ (mappings_is maps) (contexts_is contexts)
     listed_is (steps e more) = two (listed alone e) (listed_steps alone more) _ _ (listed_is e) (steps_is more)
 
     each_is : (es : Terms A) → listed_each of es ≡ flat_map of (listed_each alone es)

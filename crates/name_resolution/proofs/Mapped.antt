@@ -2,7 +2,7 @@
 use Rattle.std.proofs.Common.{◌≡◌, List, [], ◌∷◌, ◌++◌, map, refl, ap}
 use Rattle.std.proofs.lemmas.Simd.{map-map}
 use Rattle.std.specs.List.{flat_map}
-use Rattle.regex_ast.specs.Terms.{Term, Terms, Links, Contexts, Steps, Mappings, Groups, empty, any, edge, atom, letters, group, maybe, not_one, cross, suffixed, prefixed, ignore, concat, chain, only, rules, steps, no_term, then_term, no_link, or, and, less, no_context, between, no_step, cross_with, then, no_mapping, plain, markup, insert, no_group, then_group}
+use Rattle.regex_ast.specs.Terms.{Term, Terms, Links, Contexts, Steps, Mappings, Groups, empty, any, edge, atom, letters, group, maybe, not_one, cross, suffixed, prefixed, ignore, concat, chain, only, rules, directed, steps, no_term, then_term, no_link, or, and, less, no_context, between, no_step, cross_with, then, no_mapping, plain, markup, insert, no_group, then_group}
 use Rattle.expr_leaves.specs.Leaves.{listed, listed_each, listed_links, listed_contexts, listed_steps, listed_mappings, listed_groups}
 use Rattle.expr_leaves.specs.Mapped.{mapped, mapped_each, mapped_links, mapped_contexts, mapped_steps, mapped_mappings, mapped_groups}
 
@@ -26,6 +26,7 @@ module _ {A B C : Type 0} (g : B → C) (f : A → B) where
     mapped_twice (chain e links) = let a = mapped_twice e in let b = links_twice links in λ i. chain (a i) (b i)
     mapped_twice (only e contexts) = let a = mapped_twice e in let b = contexts_twice contexts in λ i. only (a i) (b i)
     mapped_twice (rules optional groups) = ap (rules optional) (groups_twice groups)
+    mapped_twice (directed way maps contexts) = let a = mappings_twice maps in let b = contexts_twice contexts in λ i. directed way (a i) (b i)
     mapped_twice (steps e more) = let a = mapped_twice e in let b = steps_twice more in λ i. steps (a i) (b i)
 
     each_twice : (es : Terms A) → mapped_each g (mapped_each f es) ≡ mapped_each (λ a. g (f a)) es
@@ -83,6 +84,7 @@ module _ {A B C : Type 0} (of : B → List C) (f : A → B) where
     mapped_listed (chain e links) = let a = mapped_listed e in let b = links_listed links in λ i. a i ++ b i
     mapped_listed (only e contexts) = let a = mapped_listed e in let b = contexts_listed contexts in λ i. a i ++ b i
     mapped_listed (rules optional groups) = groups_listed groups
+    mapped_listed (directed way maps contexts) = let a = mappings_listed maps in let b = contexts_listed contexts in λ i. a i ++ b i
     mapped_listed (steps e more) = let a = mapped_listed e in let b = steps_listed more in λ i. a i ++ b i
 
     each_listed : (es : Terms A) → listed_each of (mapped_each f es) ≡ listed_each (λ a. of (f a)) es

@@ -4,7 +4,7 @@ use Rattle.std.proofs.lemmas.List.Elements.{All-nil, All-cons, All-append, All-c
 use Rattle.std.proofs.lemmas.List.Sums.{AllPass-from_list_all, list_all-from_AllPass}
 use Rattle.std.specs.List.{list_all}
 use Rattle.regex_ast.specs.Terms.{Term, Terms, Links, Contexts, Steps, Mappings, Groups}
-use Rattle.regex_ast.specs.Terms.{empty, any, edge, atom, letters, group, maybe, not_one, cross, suffixed, prefixed, ignore, concat, chain, only, rules, steps, no_term, then_term, no_link, or, and, less, no_context, between, no_step, cross_with, then, no_mapping, plain, markup, insert, no_group, then_group}
+use Rattle.regex_ast.specs.Terms.{empty, any, edge, atom, letters, group, maybe, not_one, cross, suffixed, prefixed, ignore, concat, chain, only, rules, directed, steps, no_term, then_term, no_link, or, and, less, no_context, between, no_step, cross_with, then, no_mapping, plain, markup, insert, no_group, then_group}
 use Rattle.expr_kinds.specs.Built.{AreBuilt, LinksAreBuilt, ContextsAreBuilt, StepsAreBuilt, MappingsAreBuilt, GroupsAreBuilt, AnyCentre, IsBuiltBy, AreBuiltWith, LinksAreBuiltWith, ContextsAreBuiltWith, StepsAreBuiltWith, MappingsAreBuiltWith, GroupsAreBuiltWith}
 use Rattle.expr_leaves.specs.Leaves.{leaves_in, leaves_in_each, leaves_in_links, leaves_in_contexts, leaves_in_steps, leaves_in_mappings, leaves_in_groups}
 use Rattle.expr_leaves.proofs.Behind.{flat_map-alone}
@@ -36,6 +36,7 @@ module _ {A : Type 0} (spells : A → Bool) where
     leaves_pass (chain e links) h = All-append Passes (leaves_in e) (leaves_in_links links) (leaves_pass e h.0) (links_pass links h.1)
     leaves_pass (only e contexts) h = All-append Passes (leaves_in e) (leaves_in_contexts contexts) (leaves_pass e h.0) (contexts_pass contexts h.1)
     leaves_pass (rules optional groups) h = groups_pass groups h.1
+    leaves_pass (directed way maps contexts) h = All-append Passes (leaves_in_mappings maps) (leaves_in_contexts contexts) (mappings_pass maps h.1) (contexts_pass contexts h.2)
     leaves_pass (steps e more) h = All-append Passes (leaves_in e) (leaves_in_steps more) (leaves_pass e h.0) (steps_pass more h.1)
 
     each_passes : (es : Terms A) → AreBuilt spells es → All Passes (leaves_in_each es)
@@ -113,6 +114,7 @@ module _ {A : Type 0} (spells letter passes held : A → Bool) where
     built_by (chain e links) h s = both (leaves_in e) (leaves_in_links links) (built_by e h.0) (links_by links h.1) s
     built_by (only e contexts) h s = both (leaves_in e) (leaves_in_contexts contexts) (built_by e h.0) (contexts_by contexts h.1) s
     built_by (rules optional groups) h s = (h.0, groups_by groups h.1 s)
+    built_by (directed way maps contexts) h s = let parts = both (leaves_in_mappings maps) (leaves_in_contexts contexts) (mappings_by maps h.1) (contexts_by contexts h.2) s in (h.0, parts.0, parts.1)
     built_by (steps e more) h s = both (leaves_in e) (leaves_in_steps more) (built_by e h.0) (steps_by more h.1) s
 
     each_by : (es : Terms A) → AreBuiltWith spells letter AnyCentre es → Both (leaves_in_each es) → AreBuiltWith passes held AnyCentre es
@@ -185,6 +187,7 @@ module _ {A : Type 0} (one one_letter two two_letter passes : A → Bool) (leaf 
     built_both (chain e links) h g = (built_both e h.0 g.0, links_both links h.1 g.1)
     built_both (only e contexts) h g = (built_both e h.0 g.0, contexts_both contexts h.1 g.1)
     built_both (rules optional groups) h g = (h.0, groups_both groups h.1 g.1)
+    built_both (directed way maps contexts) h g = (h.0, mappings_both maps h.1 g.1, contexts_both contexts h.2 g.2)
     built_both (steps e more) h g = (built_both e h.0 g.0, steps_both more h.1 g.1)
 
     each_both : (es : Terms A) → AreBuiltWith one one_letter AnyCentre es → AreBuiltWith two two_letter AnyCentre es → AreBuilt passes es

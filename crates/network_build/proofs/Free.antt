@@ -1,6 +1,6 @@
 -- An expression that doesn't use the alphabet has no rules of replacement, so no centres.
 use Rattle.std.proofs.Common.{◌≡◌, ◌++◌, ◌||◌, Bool, true, false, List, [], refl, ap, ◌∙◌}
-use Rattle.regex_ast.specs.Terms.{Term, Terms, Links, Steps, empty, any, edge, atom, letters, group, maybe, not_one, cross, suffixed, prefixed, ignore, concat, chain, only, rules, steps, no_term, then_term, no_link, or, and, less, no_step, cross_with, then}
+use Rattle.regex_ast.specs.Terms.{Term, Terms, Links, Steps, empty, any, edge, atom, letters, group, maybe, not_one, cross, suffixed, prefixed, ignore, concat, chain, only, rules, directed, steps, no_term, then_term, no_link, or, and, less, no_step, cross_with, then}
 use Rattle.expr_leaves.specs.Alphabet.{uses_alphabet, one_uses_alphabet, link_uses_alphabet, step_uses_alphabet}
 use Rattle.project_meaning.specs.Centres.{centres_in, centres_in_each, centres_in_links, centres_in_steps}
 
@@ -33,6 +33,7 @@ mutual
       let (first, second) = neither (uses_alphabet e) (link_uses_alphabet links) h in none (centres_in e) (centres_in_links links) (no_centres e first) (none_in_links links second)
   no_centres (only e contexts) h = always h
   no_centres (rules optional groups) h = always h
+  no_centres (directed way maps contexts) h = always h
   no_centres (steps e more) h = let (first, second) = neither (uses_alphabet e) (step_uses_alphabet more) h in none (centres_in e) (centres_in_steps more) (no_centres e first) (none_in_steps more second)
 
   none_in_each : {A : Type 0} (es : Terms A) → one_uses_alphabet es ≡ false → centres_in_each es ≡ []

@@ -1,7 +1,7 @@
 -- What is asked of all centres in an expression is asked of it as a whole.
 use Rattle.std.proofs.Common.{List, ◌∷◌, ◌++◌, Bool, All}
 use Rattle.std.proofs.lemmas.List.Elements.{All-head, All-tail}
-use Rattle.regex_ast.specs.Terms.{Term, Terms, Links, Contexts, Steps, Mappings, Groups, empty, any, edge, atom, letters, group, maybe, not_one, cross, suffixed, prefixed, ignore, concat, chain, only, rules, steps, no_term, then_term, no_link, or, and, less, no_context, between, no_step, cross_with, then, no_mapping, plain, markup, insert, no_group, then_group}
+use Rattle.regex_ast.specs.Terms.{Term, Terms, Links, Contexts, Steps, Mappings, Groups, empty, any, edge, atom, letters, group, maybe, not_one, cross, suffixed, prefixed, ignore, concat, chain, only, rules, directed, steps, no_term, then_term, no_link, or, and, less, no_context, between, no_step, cross_with, then, no_mapping, plain, markup, insert, no_group, then_group}
 use Rattle.expr_kinds.specs.Built.{AnyCentre, IsBuiltWith, AreBuiltWith, LinksAreBuiltWith, ContextsAreBuiltWith, StepsAreBuiltWith, MappingsAreBuiltWith, GroupsAreBuiltWith}
 use Rattle.network_sets.proofs.Inside.{over_left, over_right}
 use Rattle.project_meaning.specs.Centres.{centres_in, centres_in_contexts, centres_in_each, centres_in_groups, centres_in_links, centres_in_mappings, centres_in_steps}
@@ -31,6 +31,8 @@ module _ {A : Type 0} (leaf letter : A → Bool) (Centre : Term A → Type 0) wh
     filled_built (chain e links) b h = (filled_built e b.0 (front (centres_in e) (centres_in_links links) h), links_filled links b.1 (back (centres_in e) (centres_in_links links) h))
     filled_built (only e contexts) b h = (filled_built e b.0 (front (centres_in e) (centres_in_contexts contexts) h), contexts_filled contexts b.1 (back (centres_in e) (centres_in_contexts contexts) h))
     filled_built (rules optional groups) b h = (b.0, groups_filled groups b.1 h)
+    filled_built (directed way maps contexts) b h =
+        (b.0, mappings_filled maps b.1 (front (centres_in_mappings maps) (centres_in_contexts contexts) h), contexts_filled contexts b.2 (back (centres_in_mappings maps) (centres_in_contexts contexts) h))
     filled_built (steps e more) b h = (filled_built e b.0 (front (centres_in e) (centres_in_steps more) h), steps_filled more b.1 (back (centres_in e) (centres_in_steps more) h))
 
     each_filled : (es : Terms A) → AreBuiltWith leaf letter AnyCentre es → All Centre (centres_in_each es) → AreBuiltWith leaf letter Centre es

@@ -1,7 +1,7 @@
 -- The centres of an expression whose leaves are replaced by others: the centres of the expression, their leaves replaced so.
 use Rattle.std.proofs.Common.{◌≡◌, List, ◌∷◌, ◌++◌, map, refl, ap, sym, ◌∙◌}
 use Rattle.std.proofs.lemmas.List.{map-append}
-use Rattle.regex_ast.specs.Terms.{Term, Terms, Links, Contexts, Steps, Mappings, Groups, empty, any, edge, atom, letters, group, maybe, not_one, cross, suffixed, prefixed, ignore, concat, chain, only, rules, steps, no_term, then_term, no_link, or, and, less, no_context, between, no_step, cross_with, then, no_mapping, plain, markup, insert, no_group, then_group}
+use Rattle.regex_ast.specs.Terms.{Term, Terms, Links, Contexts, Steps, Mappings, Groups, empty, any, edge, atom, letters, group, maybe, not_one, cross, suffixed, prefixed, ignore, concat, chain, only, rules, directed, steps, no_term, then_term, no_link, or, and, less, no_context, between, no_step, cross_with, then, no_mapping, plain, markup, insert, no_group, then_group}
 use Rattle.expr_leaves.specs.Mapped.{mapped, mapped_each, mapped_links, mapped_contexts, mapped_steps, mapped_mappings, mapped_groups}
 use Rattle.project_meaning.specs.Centres.{centres_in, centres_in_contexts, centres_in_each, centres_in_groups, centres_in_links, centres_in_mappings, centres_in_steps}
 
@@ -35,6 +35,8 @@ module _ {A B : Type 0} (f : A → B) where
     centres_in-mapped (only e contexts) =
         two (centres_in (mapped f e)) (centres_in_contexts (mapped_contexts f contexts)) (centres_in e) (centres_in_contexts contexts) (centres_in-mapped e) (contexts_mapped contexts)
     centres_in-mapped (rules optional groups) = groups_mapped groups
+    centres_in-mapped (directed way maps contexts) =
+        two (centres_in_mappings (mapped_mappings f maps)) (centres_in_contexts (mapped_contexts f contexts)) (centres_in_mappings maps) (centres_in_contexts contexts) (mappings_mapped maps) (contexts_mapped contexts)
     centres_in-mapped (steps e more) = two (centres_in (mapped f e)) (centres_in_steps (mapped_steps f more)) (centres_in e) (centres_in_steps more) (centres_in-mapped e) (steps_mapped more)
 
     each_mapped : (es : Terms A) → centres_in_each (mapped_each f es) ≡ all (centres_in_each es)

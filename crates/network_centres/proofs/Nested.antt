@@ -2,7 +2,7 @@
 use Rattle.std.proofs.Common.{List, [], ◌∷◌, ◌++◌, All}
 use Rattle.std.specs.List.{Contains}
 use Rattle.std.proofs.lemmas.List.Elements.{All-weaker, All-contains_itself, Contains-append_left}
-use Rattle.regex_ast.specs.Terms.{Term, Terms, Links, Contexts, Steps, Mappings, Groups, empty, any, edge, atom, letters, group, maybe, not_one, cross, suffixed, prefixed, ignore, concat, chain, only, rules, steps, no_term, then_term, no_link, or, and, less, no_context, between, no_step, cross_with, then, no_mapping, plain, markup, insert, no_group, then_group}
+use Rattle.regex_ast.specs.Terms.{Term, Terms, Links, Contexts, Steps, Mappings, Groups, empty, any, edge, atom, letters, group, maybe, not_one, cross, suffixed, prefixed, ignore, concat, chain, only, rules, directed, steps, no_term, then_term, no_link, or, and, less, no_context, between, no_step, cross_with, then, no_mapping, plain, markup, insert, no_group, then_group}
 use Rattle.project_meaning.specs.Centres.{centres_in, centres_in_contexts, centres_in_each, centres_in_groups, centres_in_links, centres_in_mappings, centres_in_steps}
 
 -- what is inside each of these is among those behind it
@@ -36,6 +36,7 @@ mutual
   nested_in (chain e links) = both (centres_in e) (centres_in_links links) (nested_in e) (nested_links links)
   nested_in (only e contexts) = both (centres_in e) (centres_in_contexts contexts) (nested_in e) (nested_contexts contexts)
   nested_in (rules optional groups) = nested_groups groups
+  nested_in (directed way maps contexts) = both (centres_in_mappings maps) (centres_in_contexts contexts) (nested_mappings maps) (nested_contexts contexts)
   nested_in (steps e more) = both (centres_in e) (centres_in_steps more) (nested_in e) (nested_steps more)
 
   nested_each : {A : Type 0} (es : Terms A) → AreNested (centres_in_each es)

@@ -1,7 +1,7 @@
 -- The centres of an expression that is built and fits are languages, and are built and fit themselves.
 use Rattle.std.proofs.Common.{List, [], ◌∷◌, ◌++◌, Bool, All}
 use Rattle.std.proofs.lemmas.List.Elements.{All-nil, All-cons, All-append}
-use Rattle.regex_ast.specs.Terms.{Term, Terms, Links, Contexts, Steps, Mappings, Groups, empty, any, edge, atom, letters, group, maybe, not_one, cross, suffixed, prefixed, ignore, concat, chain, only, rules, steps, no_term, then_term, no_link, or, and, less, no_context, between, no_step, cross_with, then, no_mapping, plain, markup, insert, no_group, then_group}
+use Rattle.regex_ast.specs.Terms.{Term, Terms, Links, Contexts, Steps, Mappings, Groups, empty, any, edge, atom, letters, group, maybe, not_one, cross, suffixed, prefixed, ignore, concat, chain, only, rules, directed, steps, no_term, then_term, no_link, or, and, less, no_context, between, no_step, cross_with, then, no_mapping, plain, markup, insert, no_group, then_group}
 use Rattle.expr_kinds.specs.Built.{AnyCentre, AreBuiltWith, LinksAreBuiltWith, ContextsAreBuiltWith, StepsAreBuiltWith, MappingsAreBuiltWith, GroupsAreBuiltWith, IsBuiltWith}
 use Rattle.expr_kinds.specs.Kinds.{Leaves, ChainFits, ContextsFit, EachFits, EachFitsAsLanguage, Fits, GroupsFit, IsLanguage, MappingsFit, StepsFit, both, kind_of}
 use Rattle.expr_kinds.specs.declared.form.Kind.{Kind}
@@ -39,6 +39,7 @@ module _ {A : Type 0} (leaf letter : A → Bool) (leaves : Leaves A) where
     ready_in (chain e links) b f = two (centres_in e) (centres_in_links links) (ready_in e b.0 f.0) (ready_links (kind_of leaves e) links b.1 f.1)
     ready_in (only e contexts) b f = two (centres_in e) (centres_in_contexts contexts) (ready_in e b.0 f.1) (ready_contexts contexts b.1 f.2)
     ready_in (rules optional groups) b f = ready_groups groups b.1 f
+    ready_in (directed way maps contexts) b f = two (centres_in_mappings maps) (centres_in_contexts contexts) (ready_mappings maps b.1 f.0) (ready_contexts contexts b.2 f.1)
     ready_in (steps e more) b f = two (centres_in e) (centres_in_steps more) (ready_in e b.0 f.0) (ready_steps (kind_of leaves e) more b.1 f.1)
 
     ready_each : (es : Terms A) → AreBuiltWith leaf letter AnyCentre es → EachFits leaves es → All IsReady (centres_in_each es)

@@ -1,7 +1,7 @@
 -- The centres of an expression that is built are built themselves.
 use Rattle.std.proofs.Common.{List, [], ◌∷◌, ◌++◌, Bool, All}
 use Rattle.std.proofs.lemmas.List.Elements.{All-nil, All-cons, All-append}
-use Rattle.regex_ast.specs.Terms.{Term, Terms, Links, Contexts, Steps, Mappings, Groups, empty, any, edge, atom, letters, group, maybe, not_one, cross, suffixed, prefixed, ignore, concat, chain, only, rules, steps, no_term, then_term, no_link, or, and, less, no_context, between, no_step, cross_with, then, no_mapping, plain, markup, insert, no_group, then_group}
+use Rattle.regex_ast.specs.Terms.{Term, Terms, Links, Contexts, Steps, Mappings, Groups, empty, any, edge, atom, letters, group, maybe, not_one, cross, suffixed, prefixed, ignore, concat, chain, only, rules, directed, steps, no_term, then_term, no_link, or, and, less, no_context, between, no_step, cross_with, then, no_mapping, plain, markup, insert, no_group, then_group}
 use Rattle.expr_kinds.specs.Built.{IsBuiltBy, AreBuiltBy, LinksAreBuiltBy, ContextsAreBuiltBy, StepsAreBuiltBy, MappingsAreBuiltBy, GroupsAreBuiltBy}
 use Rattle.project_meaning.specs.Centres.{centres_in, centres_in_contexts, centres_in_each, centres_in_groups, centres_in_links, centres_in_mappings, centres_in_steps}
 
@@ -33,6 +33,7 @@ module _ {A : Type 0} (leaf letter : A → Bool) where
     built_within (chain e links) b = two (centres_in e) (centres_in_links links) (built_within e b.0) (links_within links b.1)
     built_within (only e contexts) b = two (centres_in e) (centres_in_contexts contexts) (built_within e b.0) (contexts_within contexts b.1)
     built_within (rules optional groups) b = groups_within groups b.1
+    built_within (directed way maps contexts) b = two (centres_in_mappings maps) (centres_in_contexts contexts) (mappings_within maps b.1) (contexts_within contexts b.2)
     built_within (steps e more) b = two (centres_in e) (centres_in_steps more) (built_within e b.0) (steps_within more b.1)
 
     each_within : (es : Terms A) → AreBuiltBy leaf letter es → All Built (centres_in_each es)

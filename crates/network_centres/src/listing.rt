@@ -22,6 +22,10 @@ fn add_centres<'a>(expr: &'a Expr<Atom>, found: &mut Vec<&'a Expr<Atom>>) -> Res
 {
     match expr {
         Expr::Rules(rules) => add_groups(&rules.groups, found),
+        Expr::Directed(rule) => {
+            add_mappings(&rule.maps, found)?;
+            add_contexts(&rule.contexts, found)
+        }
         Expr::Empty | Expr::Any | Expr::Edge | Expr::Atom(_) | Expr::Letters(_) => Ok(()),
         Expr::Group(inner)
         | Expr::Maybe(inner)

@@ -12,17 +12,22 @@ use Rattle.word_relations.proofs.Members.{Contains-nil_cases, Contains-cons_case
 use Rattle.fsa.specs.Automaton.{Automaton, UsesLetter}
 use Rattle.fsa.specs.Complete.{Complete, Accepts}
 use Rattle.regex_ast.specs.declared.expr.Side.{Side}
-use Rattle.regex_ast.specs.Terms.{Term, Contexts, Mappings, Groups, rules, no_context, between, no_mapping, plain, markup, insert, no_group, then_group}
+use Rattle.regex_ast.specs.declared.expr.Side.TheVariants.{UpUp}
+use Rattle.regex_ast.specs.declared.expr.Way.{Way}
+use Rattle.regex_ast.specs.Terms.{Term, Contexts, Mappings, Groups, rules, directed, no_context, between, no_mapping, plain, markup, insert, no_group, then_group}
 use Rattle.expr_kinds.specs.Built.{holds_insertion, has_no_insertion, is_insertion}
-use Rattle.expr_meaning.specs.Meaning.{In, InContext, IsCentre, IsMapped, Replaces, Applies, Relates}
+use Rattle.expr_meaning.specs.Directed.{IsDirectedBy}
+use Rattle.expr_meaning.specs.Meaning.{In, InContext, IsCentre, IsMapped, Replaces, Applies, Directs, Relates, IsMatch as IsMatch_in}
 use Rattle.expr_meaning.specs.Operators.{inner, HoldsLeft, HoldsRight}
-use Rattle.expr_meaning.specs.Replacement.{Piece, copied, replaced, read_before, read_behind, IsAround, IsAllowed, IsPiece, IsRewritten}
+use Rattle.expr_meaning.specs.Replacement.{Piece, copied, replaced, uppers, read_before, read_behind, IsAround, IsAllowed, IsPiece, IsRewritten}
+use Rattle.expr_meaning.proofs.Directed.{same_directed}
 use Rattle.network_algebra.specs.Networks.{UsesOnly, all_letters}
 use Rattle.replace_rules.specs.declared.rules.LangMap.{LangMap}
 use Rattle.replace_rules.specs.declared.rules.LangContext.{LangContext}
 use Rattle.replace_rules.specs.declared.rules.LangGroup.{LangGroup}
 use Rattle.lang_algebra.specs.Languages.{IsLang}
 use Rattle.replace_insertions.specs.Insertions.{AllowsAt, InsertsBy, AsksBy}
+use Rattle.replace_directed.specs.Directed.{HoldsIn, IsMatch, ReplacesIn}
 use Rattle.replace_rules.specs.Rules.{IsPut, HasCentre, HasMapping, HasContext, Allows, ReplacesBy, AppliesBy, IsMapOver, AreMapsOver}
 use Rattle.network_expr.specs.Rules.{IsPart, IsPlain, IsMarkup, AreMaps, AreContexts, AreGroups}
 
@@ -189,6 +194,21 @@ module _ {A : Type 0} (leaf : A → List Sym → List Sym → Type 0) (alphabet 
         (λ before c r behind. (replaces_same groups langs are before c r behind).1) (λ before c behind. (applies_same groups langs are before c behind).0) optional u w,
   )
 
+  -- what a directed rule of languages rewrites, the directed rule of the expression relates
+  holds_same : (contexts : Contexts A) (langs : List LangContext) → AreContexts leaf alphabet contexts langs → (x z : List Sym) → HoldsIn langs x z ↔ ((contexts ≡ no_context) ⊎ InContext leaf alphabet contexts (inner x) (inner z))
+  holds_same contexts langs are x z =
+      either (langs ≡ []) (contexts ≡ no_context) (HasContext langs (inner x) (inner z)) (InContext leaf alphabet contexts (inner x) (inner z)) (none_same contexts langs are) (context_same contexts langs are (inner x) (inner z))
+
+  pub directed_means : (way : Way) (maps : Mappings A) (contexts : Contexts A) (langs : List LangMap) (around : List LangContext) → AreMaps leaf alphabet maps langs → AreContexts leaf alphabet contexts around
+      → AreSame (IsDirectedBy (IsMatch langs around) alphabet (ReplacesIn langs around) way) (Relates leaf alphabet (directed way maps contexts))
+  directed_means way maps contexts langs around are beside =
+      same_directed alphabet (IsMatch langs around) (IsMatch_in leaf alphabet maps contexts) (ReplacesIn langs around) (Directs leaf alphabet maps contexts)
+      (λ before c r behind.
+      both (HasMapping langs c r) (IsMapped leaf alphabet maps c r) (HoldsIn around (uppers before) (uppers behind)) (IsAllowed contexts (InContext leaf alphabet contexts) UpUp before behind)
+      (mapping_same maps langs are c r) (holds_same contexts around beside (uppers before) (uppers behind)))
+      (λ x c z. both (HasCentre langs c) (IsCentre leaf alphabet maps c) (HoldsIn around x z) ((contexts ≡ no_context) ⊎ InContext leaf alphabet contexts (inner x) (inner z)) (centre_same maps langs are c) (holds_same contexts around beside x z))
+      way
+
   -- rules that are one insertion insert what their languages say
   again : (maps : List LangMap) (f : Term A) (m : LangMap) → AreMaps leaf alphabet (insert f no_mapping) maps → maps ≡ m ∷ [] → IsPart leaf alphabet f m.result × IsLang alphabet (λ c. c ≡ []) m.centre
   again maps f m are is = let here = subst (λ (z : List LangMap). AreMaps leaf alphabet (insert f no_mapping) z) is are in (here.0.1, here.0.0)
@@ -275,7 +295,7 @@ module _ {A : Type 0} (leaf : A → List Sym → List Sym → Type 0) (alphabet 
     no_empty = λ h. filled ((centre.words []).0 h);
   }
 
-  maps_over : (maps : Mappings A) (langs : List LangMap) → IsTrue (not (holds_insertion maps)) → AreMaps leaf alphabet maps langs → (m : LangMap) → Contains langs m → IsMapOver alphabet m
+  pub maps_over : (maps : Mappings A) (langs : List LangMap) → IsTrue (not (holds_insertion maps)) → AreMaps leaf alphabet maps langs → (m : LangMap) → Contains langs m → IsMapOver alphabet m
   maps_over no_mapping [] none are m among = absurd (Contains-nil_cases m among)
   maps_over (plain c r maps) (l ∷ langs) none are m among = elim (Contains-cons_cases l langs m among) as (λ _. IsMapOver alphabet m) [
     | inl same ↦ subst (IsMapOver alphabet) same (plain_over c r l are.0)

@@ -11,19 +11,23 @@ use Rattle.regex_ast.specs.declared.expr.Context.{Context}
 use Rattle.regex_ast.specs.declared.expr.Group.{Group}
 use Rattle.regex_ast.specs.declared.expr.Mapping.{Mapping, Plain, Markup, Insert}
 use Rattle.regex_ast.specs.declared.expr.Expr.TheViews.{out-Group, roll-Group, roll-out-Group}
-use Rattle.regex_ast.specs.Terms.{rules, side_of, mappings_of, contexts_of, groups_of}
+use Rattle.regex_ast.specs.declared.expr.Way.{Way}
+use Rattle.regex_ast.specs.Terms.{rules, directed, side_of, mappings_of, contexts_of, groups_of}
 use Rattle.expr_kinds.specs.Built.{is_insertion}
 use Rattle.expr_kinds.specs.Kinds.{MappingsFit, ContextsFit, GroupsFit}
+use Rattle.expr_meaning.specs.Directed.{IsDirectedBy}
 use Rattle.expr_meaning.specs.Meaning.{In, Relates}
 use Rattle.expr_meaning.specs.Replacement.{IsRewritten}
 use Rattle.network_algebra.specs.declared.network.Network.TheVariants.{Pairs}
 use Rattle.network_algebra.proofs.Meanings.{pairs_for}
 use Rattle.replace_rules.specs.declared.rules.LangGroup.{LangGroup}
 use Rattle.replace_rules.specs.declared.rules.LangMap.{LangMap}
+use Rattle.replace_rules.specs.declared.rules.LangContext.{LangContext}
 use Rattle.replace_rules.specs.Rules.{ReplacesBy, AppliesBy}
 use Rattle.replace_insertions.specs.Insertions.{InsertsBy, AsksBy}
-use Rattle.network_expr.specs.Rules.{AreGroups}
-use Rattle.network_expr.proofs.RuleMeaning.{rules_mean, insertion_means, insertion_rows}
+use Rattle.replace_directed.specs.Directed.{IsMatch, ReplacesIn}
+use Rattle.network_expr.specs.Rules.{AreMaps, AreContexts, AreGroups}
+use Rattle.network_expr.proofs.RuleMeaning.{rules_mean, directed_means, insertion_means, insertion_rows}
 use Rattle.network_expr.specs.Built.{IsMeant, MappingsAreBuiltOver, ContextsAreBuiltOver, GroupsAreBuiltOver}
 use Rattle.network_expr.specs.Parts.{kinds, stands}
 use Rattle.network_expr.specs.declared.parts.Part.{Part}
@@ -98,6 +102,15 @@ module _ (parts : List Part) (alphabet : List Sym) where
       let e = rules optional (groups_of groups) in
       pairs_for _ m (In (stands parts) alphabet e) (Relates (stands parts) alphabet e) refl
       (same_trans (IsRelated m) (IsRewritten alphabet (ReplacesBy langs) (AppliesBy langs) optional) (Relates (stands parts) alphabet e) related (rules_mean (stands parts) alphabet optional (groups_of groups) langs are))
+
+  -- the network of a directed rule
+  pub directed_meant : (way : Way) (maps : List (Mapping Atom)) (contexts : List (Context Atom)) (langs : List LangMap) (around : List LangContext) (m : Automaton Pair) → AreMaps (stands parts) alphabet (mappings_of maps) langs → AreContexts (stands parts) alphabet (contexts_of contexts) around
+      → AreSame (IsRelated m) (IsDirectedBy (IsMatch langs around) alphabet (ReplacesIn langs around) way) → IsMeant parts alphabet (directed way (mappings_of maps) (contexts_of contexts)) (Pairs m)
+  directed_meant way maps contexts langs around m are beside related =
+      let e = directed way (mappings_of maps) (contexts_of contexts) in
+      pairs_for _ m (In (stands parts) alphabet e) (Relates (stands parts) alphabet e) refl
+      (same_trans (IsRelated m) (IsDirectedBy (IsMatch langs around) alphabet (ReplacesIn langs around) way) (Relates (stands parts) alphabet e) related
+      (directed_means (stands parts) alphabet way (mappings_of maps) (contexts_of contexts) langs around are beside))
 
   -- the network of an insertion
   pub insertion_meant : (optional : Bool) (groups : List (Group Atom)) (langs : List LangGroup) (n : Automaton Pair) → IsTrue (is_insertion (groups_of groups)) → AreGroups (stands parts) alphabet (groups_of groups) langs

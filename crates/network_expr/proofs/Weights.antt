@@ -1,7 +1,7 @@
 -- How much a term weighs: more than its operands together. The recursion over expressions ends by it.
 use Rattle.std.proofs.Common.{◌≡◌, ℕ, ◌+◌, ◌<◌, List, [], ◌∷◌, ◌++◌, length, map, ap, sym, ◌∙◌, arith}
 use Rattle.std.proofs.lemmas.List.{map-append}
-use Rattle.regex_ast.specs.Terms.{Term, term, group, maybe, not_one, cross, suffixed, prefixed, ignore, concat, chain, only, rules, steps, Terms, no_term, then_term, Links, no_link, or, and, less, Contexts, no_context, between, Steps, no_step, cross_with, then, Mappings, no_mapping, plain, markup, insert, Groups, no_group, then_group, terms_of, links_of, contexts_of, steps_by}
+use Rattle.regex_ast.specs.Terms.{Term, term, group, maybe, not_one, cross, suffixed, prefixed, ignore, concat, chain, only, rules, directed, steps, Terms, no_term, then_term, Links, no_link, or, and, less, Contexts, no_context, between, Steps, no_step, cross_with, then, Mappings, no_mapping, plain, markup, insert, Groups, no_group, then_group, terms_of, links_of, contexts_of, steps_by}
 use Rattle.regex_ast.specs.declared.expr.Atom.{Atom}
 use Rattle.regex_ast.specs.declared.expr.Expr.{Expr}
 use Rattle.regex_ast.specs.declared.expr.Link.{Link, Or, And, Less}
@@ -21,6 +21,7 @@ abbrev mutual
   weight (chain e links) = weight e + weight_links links + 4
   weight (only e contexts) = weight e + weight_contexts contexts + 4
   weight (rules optional groups) = weight_groups groups + 4
+  weight (directed way maps contexts) = weight_mappings maps + weight_contexts contexts + 4
   weight (steps e more) = weight e + weight_steps more + 4
   weight _ = 0
 

@@ -6,7 +6,7 @@ ghost use Rattle.word_relations.specs.Words.{IsOver};
 ghost use Rattle.fsa.specs.Complete as complete;
 ghost use Rattle.fsa.specs.Language.{Accepts};
 ghost use Rattle.lang_algebra.specs.Languages.{IsLang};
-ghost use Rattle.regex_ast.specs.Terms.{concat, contexts_of, cross, groups_of, ignore, links_of, mappings_of, maybe, not_one, only, rules, steps_by, term, terms_of};
+ghost use Rattle.regex_ast.specs.Terms.{concat, contexts_of, cross, directed, groups_of, ignore, links_of, mappings_of, maybe, not_one, only, rules, steps_by, term, terms_of};
 ghost use Rattle.expr_kinds.specs.Built.{inserts_alone};
 ghost use Rattle.expr_kinds.specs.Kinds.{ChainFits, ContextsFit, EachFits, EachFitsAsLanguage, Fits, GroupsFit, IsLanguage, MappingsFit, StepsFit, kind_of_chain, kind_of_steps};
 ghost use Rattle.expr_kinds.specs.declared.form.Kind.{Kind};
@@ -33,7 +33,8 @@ use network_sets::{
     Split, apply_prefixes, apply_suffixes, both, ignore, in_context, language, not_one_times,
     restrict,
 };
-use regex_ast::{Atom, Context, Expr, Group, Link, Mapping, Step};
+use regex_ast::{Atom, Context, Expr, Group, Link, Mapping, Step, Way};
+use replace_directed::directed;
 use replace_rules::{LangContext, LangGroup, LangMap, replace};
 use std::alloc::{AllocError, Global};
 
@@ -94,6 +95,9 @@ pub fn network_of(
             )
         }
         Expr::Rules(rules) => replaced(alloc, alphabet, parts, rules.optional, &rules.groups),
+        Expr::Directed(rule) => {
+            directed_rule(alloc, alphabet, parts, rule.way, &rule.maps, &rule.contexts)
+        }
     }
 }
 
@@ -565,6 +569,27 @@ fn replaced(
         return Ok(Network::Pairs(insertion(alloc, alphabet, optional, &langs)?));
     }
     Ok(Network::Pairs(replace(alloc, alphabet, optional, &langs)?))
+}
+
+/// The network of a directed rule of replacement.
+#[cycle(build)]
+fn directed_rule(
+    alloc: Global,
+    alphabet: &[Sym],
+    parts: &[Part],
+    way: Way,
+    maps: &[Mapping<Atom>],
+    contexts: &[Context<Atom>],
+) -> Result<Network, AllocError>
+    requires ground { IsGround alphabet.now parts.now }
+    requires built { IsBuiltOver parts.now alphabet.now (directed way (mappings_of maps.now) (contexts_of contexts.now)) }
+    requires fits { Fits (kinds parts.now) (directed way (mappings_of maps.now) (contexts_of contexts.now)) }
+    ensures letters { IfOk result (IsNetwork alphabet.now) }
+    ensures meaning { IfOk result (IsMeant parts.now alphabet.now (directed way (mappings_of maps.now) (contexts_of contexts.now))) }
+{
+    let langs = lang_maps(alloc, alphabet, parts, maps)?;
+    let around = lang_contexts(alloc, alphabet, parts, contexts)?;
+    Ok(Network::Pairs(directed(alloc, alphabet, way, &langs, &around)?))
 }
 
 /// The languages of mappings.

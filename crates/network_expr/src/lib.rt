@@ -9,7 +9,7 @@
 //! Inside, `langs` has the parts of rules of replacement as languages, `insertions` the network of rules that are one insertion, and
 //! `cascade` rows of compositions, in which small operands are composed first.
 //! `specs/Rules.antt` says when rules of languages are those of an expression: where they are, `replace` (replace_rules) relates what
-//! the expression relates (`proofs/RuleMeaning.antt`).
+//! the expression relates, and `directed` (replace_directed), where its rule is directed (`proofs/RuleMeaning.antt`).
 #![tactic(auto)]
 
 mod build;

@@ -264,7 +264,7 @@ module _ (text : Sym → List ℕ) (g : GrammarOf Atom) (formed : IsFormed (gram
     formed_at : (r : TwoLevelRule Atom) → Contains g.rules.items r → IsFormedRule (rule_of r)
     formed_at r among = All-contains IsFormedRule (map rule_of g.rules.items) (rule_of r) formed.rules (Contains-map rule_of g.rules.items r among)
 
-    rule_for : (r : TwoLevelRule Atom) (rule : LangRule) → Contains g.rules.items r → IsRuleOf scope r rule → IsRuleFor text G P (mapped_rule (in_text text) (rule_of r)) rule
+    pub rule_for : (r : TwoLevelRule Atom) (rule : LangRule) → Contains g.rules.items r → IsRuleOf scope r rule → IsRuleFor text G P (mapped_rule (in_text text) (rule_of r)) rule
     rule_for r rule among is = record {
       kind = is.kind;
       centre = written_same text (pair_of r.pair) ∙ ap (map (letter_in text)) is.pair;

@@ -60,6 +60,7 @@ pub fn words_of(
         | Expr::Cross(_, _)
         | Expr::Only(_, _)
         | Expr::Rules(_)
+        | Expr::Directed(_)
         | Expr::Steps(_, _) => unreachable!(),
     }
 }

@@ -1,8 +1,8 @@
 -- Whether an expression is built, before and after its leaves are replaced by others.
-use Rattle.std.proofs.Common.{◌≡◌, Bool, true, false, not, ◌&&◌, ◌||◌, IsTrue, List, [], ◌∷◌, ◌++◌, map, All, refl, sym, ◌∙◌}
+use Rattle.std.proofs.Common.{◌≡◌, Bool, true, false, not, ◌&&◌, ◌||◌, IsTrue, List, [], ◌∷◌, ◌++◌, map, All, refl, sym, ap, ◌∙◌}
 use Rattle.std.proofs.lemmas.List.Elements.{All-nil, All-cons, All-head, All-tail}
 use Rattle.std.specs.List.{flat_map, list_all}
-use Rattle.regex_ast.specs.Terms.{Term, Terms, Links, Contexts, Steps, Mappings, Groups, empty, any, edge, atom, letters, group, maybe, not_one, cross, suffixed, prefixed, ignore, concat, chain, only, rules, steps, no_term, then_term, no_link, or, and, less, no_context, between, no_step, cross_with, then, no_mapping, plain, markup, insert, no_group, then_group}
+use Rattle.regex_ast.specs.Terms.{Term, Terms, Links, Contexts, Steps, Mappings, Groups, empty, any, edge, atom, letters, group, maybe, not_one, cross, suffixed, prefixed, ignore, concat, chain, only, rules, directed, steps, no_term, then_term, no_link, or, and, less, no_context, between, no_step, cross_with, then, no_mapping, plain, markup, insert, no_group, then_group}
 use Rattle.expr_kinds.specs.Built.{holds_insertion, has_no_insertion, is_insertion_alone, is_insertion, inserts_alone, IsBuiltBy, AreBuiltBy, LinksAreBuiltBy, ContextsAreBuiltBy, StepsAreBuiltBy, MappingsAreBuiltBy, GroupsAreBuiltBy}
 use Rattle.expr_leaves.specs.Leaves.{listed, listed_each, listed_links, listed_contexts, listed_steps, listed_mappings, listed_groups}
 use Rattle.expr_leaves.specs.Mapped.{mapped, mapped_each, mapped_links, mapped_contexts, mapped_steps, mapped_mappings, mapped_groups}
@@ -46,6 +46,9 @@ holds_mapped f (plain c r maps) = holds_mapped f maps
 holds_mapped f (markup c b a maps) = holds_mapped f maps
 holds_mapped f (insert r maps) = refl
 
+pub without_mapped : {A B : Type 0} (f : A → B) (maps : Mappings A) → not (holds_insertion (mapped_mappings f maps)) ≡ not (holds_insertion maps)
+without_mapped f maps = ap not (holds_mapped f maps)
+
 none_mapped : {A B : Type 0} (f : A → B) (groups : Groups A) → has_no_insertion (mapped_groups f groups) ≡ has_no_insertion groups
 none_mapped f no_group = refl
 none_mapped f (then_group maps side contexts groups) = let a = holds_mapped f maps in let b = none_mapped f groups in λ i. not (a i) && b i
@@ -85,6 +88,7 @@ module _ {A B : Type 0} (f : A → B) (here letter_here : A → Bool) (there let
     built_there (chain e links) h = (built_there e h.0, links_there links h.1)
     built_there (only e contexts) h = (built_there e h.0, contexts_there contexts h.1)
     built_there (rules optional groups) h = (inserts_mapped f groups ∙ h.0, groups_there groups h.1)
+    built_there (directed way maps contexts) h = (without_mapped f maps ∙ h.0, mappings_there maps h.1, contexts_there contexts h.2)
     built_there (steps e more) h = (built_there e h.0, steps_there more h.1)
 
     each_there : (es : Terms A) → AreBuiltBy here letter_here es → AreBuiltBy there letter_there (mapped_each f es)
@@ -147,6 +151,11 @@ module _ {A B C : Type 0} (f : A → B) (here letter_here : A → Bool) (there l
     built_here (only e contexts) held h =
         (built_here e (All-front P (listed of e) (listed_contexts of contexts) held) h.0, contexts_here contexts (All-back P (listed of e) (listed_contexts of contexts) held) h.1)
     built_here (rules optional groups) held h = (sym (inserts_mapped f groups) ∙ h.0, groups_here groups held h.1)
+    built_here (directed way maps contexts) held h = (
+      sym (without_mapped f maps) ∙ h.0,
+      mappings_here maps (All-front P (listed_mappings of maps) (listed_contexts of contexts) held) h.1,
+      contexts_here contexts (All-back P (listed_mappings of maps) (listed_contexts of contexts) held) h.2,
+    )
     built_here (steps e more) held h =
         (built_here e (All-front P (listed of e) (listed_steps of more) held) h.0, steps_here more (All-back P (listed of e) (listed_steps of more) held) h.1)
 

@@ -1,6 +1,6 @@
 -- A grammar whose leaves are replaced by others has the forms that it had.
 use Rattle.std.proofs.lemmas.List.Elements.{All-map, All-weaker}
-use Rattle.regex_ast.specs.Terms.{Term, Terms, Links, Contexts, empty, any, edge, atom, letters, group, maybe, not_one, cross, suffixed, prefixed, ignore, concat, chain, only, rules, steps, no_term, then_term, no_link, or, and, less, no_context, between}
+use Rattle.regex_ast.specs.Terms.{Term, Terms, Links, Contexts, empty, any, edge, atom, letters, group, maybe, not_one, cross, suffixed, prefixed, ignore, concat, chain, only, rules, directed, steps, no_term, then_term, no_link, or, and, less, no_context, between}
 use Rattle.expr_leaves.specs.Mapped.{mapped, mapped_each, mapped_links, mapped_contexts}
 use Rattle.grammar_pairs.specs.Mapped.{mapped_definition, mapped_grammar, mapped_part, mapped_rule, mapped_side}
 use Rattle.grammar_pairs.specs.Plain.{ArePairForms, ContextsArePairForms, IsFormed, IsFormedRule, IsNamedSide, IsPairForm, LinksArePairForms}
@@ -25,6 +25,7 @@ module _ {A B : Type 0} (f : A → B) where
     form_mapped (chain e links) h = (form_mapped e h.0, links_mapped links h.1)
     form_mapped (only e contexts) h = h
     form_mapped (rules optional groups) h = h
+    form_mapped (directed way maps contexts) h = h
     form_mapped (steps e more) h = h
 
     each_mapped : (es : Terms A) → ArePairForms es → ArePairForms (mapped_each f es)

@@ -2,7 +2,7 @@
 -- replaced by.
 use Rattle.std.proofs.Common.{◌≡◌, Bool, List, [], ◌∷◌, ◌++◌, map, All, IsTrue, cond, ◌&&◌, refl, ap, ◌∙◌}
 use Rattle.std.specs.List.{list_all}
-use Rattle.regex_ast.specs.Terms.{Term, Terms, Links, Contexts, Steps, Mappings, Groups, empty, any, edge, atom, letters, group, maybe, not_one, cross, suffixed, prefixed, ignore, concat, chain, only, rules, steps, no_term, then_term, no_link, or, and, less, no_context, between, no_step, cross_with, then, no_mapping, plain, markup, insert, no_group, then_group}
+use Rattle.regex_ast.specs.Terms.{Term, Terms, Links, Contexts, Steps, Mappings, Groups, empty, any, edge, atom, letters, group, maybe, not_one, cross, suffixed, prefixed, ignore, concat, chain, only, rules, directed, steps, no_term, then_term, no_link, or, and, less, no_context, between, no_step, cross_with, then, no_mapping, plain, markup, insert, no_group, then_group}
 use Rattle.expr_kinds.specs.Built.{IsBuiltBy, AreBuiltBy, LinksAreBuiltBy, ContextsAreBuiltBy, StepsAreBuiltBy, MappingsAreBuiltBy, GroupsAreBuiltBy}
 use Rattle.expr_kinds.specs.Kinds.{Leaves, both, half, are_alike, with_suffixes, kind_of, kind_of_each, kind_of_chain, kind_of_steps, kind_of_contexts, Fits, EachFits, EachFitsAsLanguage, ChainFits, StepsFit, ContextsFit, MappingsFit, GroupsFit}
 use Rattle.expr_kinds.specs.declared.half.Half.{Half}
@@ -11,7 +11,7 @@ use Rattle.expr_kinds.specs.declared.form.Kind.{Kind}
 use Rattle.expr_kinds.specs.declared.form.Kind.TheVariants.{Language, Relation}
 use Rattle.expr_leaves.specs.Leaves.{listed, listed_each, listed_links, listed_contexts, listed_steps, listed_mappings, listed_groups}
 use Rattle.expr_leaves.specs.Mapped.{mapped, mapped_each, mapped_links, mapped_contexts, mapped_steps, mapped_mappings, mapped_groups}
-use Rattle.project_definitions.proofs.Built.{All-front, All-back, inserts_mapped}
+use Rattle.project_definitions.proofs.Built.{All-front, All-back, without_mapped, inserts_mapped}
 
 -- whether it is built
 module _ {A B : Type 0} (leaf letter : B → Bool) (f : A → B) where
@@ -37,6 +37,7 @@ module _ {A B : Type 0} (leaf letter : B → Bool) (f : A → B) where
     mapped_built (chain e links) = let a = mapped_built e in let b = links_built links in λ i. a i × b i
     mapped_built (only e contexts) = let a = mapped_built e in let b = contexts_built contexts in λ i. a i × b i
     mapped_built (rules optional groups) = let a = inserts_mapped f groups in let b = groups_built groups in λ i. IsTrue (a i) × b i
+    mapped_built (directed way maps contexts) = let a = without_mapped f maps in let b = mappings_built maps in let c = contexts_built contexts in λ i. IsTrue (a i) × b i × c i
     mapped_built (steps e more) = let a = mapped_built e in let b = steps_built more in λ i. a i × b i
 
     each_built : (es : Terms A) → AreBuiltBy leaf letter (mapped_each f es) ≡ AreBuiltBy (λ a. leaf (f a)) (λ a. letter (f a)) es
@@ -102,6 +103,7 @@ module _ {A B C : Type 0} (f : A → B) (here : Leaves A) (there : Leaves B) (of
   half_known (chain e links) held = tt
   half_known (only e contexts) held = tt
   half_known (rules optional groups) held = tt
+  half_known (directed way maps contexts) held = tt
   half_known (steps e more) held = tt
 
   half_mapped : (e : Term A) → half (mapped f e) ≡ other_half (half e)
@@ -123,6 +125,7 @@ module _ {A B C : Type 0} (f : A → B) (here : Leaves A) (there : Leaves B) (of
   half_mapped (chain e links) = refl
   half_mapped (only e contexts) = refl
   half_mapped (rules optional groups) = refl
+  half_mapped (directed way maps contexts) = refl
   half_mapped (steps e more) = refl
 
   alike : (a b : Half A) → Known a → Known b → are_alike there.same (other_half a) (other_half b) ≡ are_alike here.same a b
@@ -167,6 +170,7 @@ module _ {A B C : Type 0} (f : A → B) (here : Leaves A) (there : Leaves B) (of
         let b = contexts_kind contexts (All-back P (l e) (listed_contexts of contexts) held) in
         λ i. both (a i) (b i)
     mapped_kind (rules optional groups) held = refl
+    mapped_kind (directed way maps contexts) held = refl
     mapped_kind (steps e more) held =
         steps_kind more (All-back P (l e) (listed_steps of more) held) (kind_of there (mapped f e)) (kind_of here e) (mapped_kind e (All-front P (l e) (listed_steps of more) held))
 
@@ -237,6 +241,10 @@ module _ {A B C : Type 0} (f : A → B) (here : Leaves A) (there : Leaves B) (of
         let k = mapped_kind e p in let a = mapped_fits e p in let b = contexts_fit contexts (All-back P (l e) (listed_contexts of contexts) held) in
         λ i. Is (k i) × a i × b i
     mapped_fits (rules optional groups) held = groups_fit groups held
+    mapped_fits (directed way maps contexts) held =
+        let a = mappings_fit maps (All-front P (listed_mappings of maps) (listed_contexts of contexts) held) in
+        let b = contexts_fit contexts (All-back P (listed_mappings of maps) (listed_contexts of contexts) held) in
+        λ i. a i × b i
     mapped_fits (steps e more) held =
         let p = All-front P (l e) (listed_steps of more) held in
         let a = mapped_fits e p in

@@ -7,10 +7,11 @@ use Rattle.word_relations.specs.Relations.{IsConcatenationOfPairs}
 use Rattle.word_relations.proofs.Members.{Contains-head, Contains-map}
 use Rattle.word_relations.specs.Operations.{IsIgnoring}
 use Rattle.word_relations.specs.Relations.{IsComposition}
-use Rattle.regex_ast.specs.Terms.{Term, Terms, Links, Contexts, Steps, Mappings, Groups, empty, any, edge, atom, letters, group, maybe, not_one, cross, suffixed, prefixed, ignore, concat, chain, only, rules, steps, no_term, then_term, no_link, or, and, less, no_context, between, no_step, cross_with, then, no_mapping, plain, markup, insert, no_group, then_group}
+use Rattle.regex_ast.specs.Terms.{Term, Terms, Links, Contexts, Steps, Mappings, Groups, empty, any, edge, atom, letters, group, maybe, not_one, cross, suffixed, prefixed, ignore, concat, chain, only, rules, directed, steps, no_term, then_term, no_link, or, and, less, no_context, between, no_step, cross_with, then, no_mapping, plain, markup, insert, no_group, then_group}
 use Rattle.expr_leaves.specs.Leaves.{listed, listed_each, listed_links, listed_contexts, listed_steps, listed_mappings, listed_groups}
 use Rattle.expr_meaning.specs.Operators.{inner, IsEmpty, IsItself, WithEdge, AreSuffixed, RelateSuffixed, ArePrefixed, IsNotOne, IsRestricted, HoldsLeft, HoldsRight}
 use Rattle.expr_meaning.specs.Replacement.{IsAround, IsAllowed, IsRewritten}
+use Rattle.expr_meaning.specs.Directed.{IsMatchBy, DirectsBy, IsDirectedBy}
 use Rattle.expr_meaning.specs.Meaning.{InLeaves, In, InEach, InIgnoring, InChain, InContext, InSteps, IsCentre, IsMapped, Replaces, Applies, Relates, RelatesEach, RelatesChain, RelatesSteps}
 use Rattle.project_meaning.specs.Trees.{Piece, letter, Form, sides, pairs, Entry, Lexicon, Body, xfst, lexc, twolc}
 use Rattle.project_meaning.specs.Lexicons.{text_in, letters_of, flags_pass, IsEntryOf, FormAdds, IsPath, LexiconsRelate}
@@ -66,6 +67,7 @@ module _ (means other : List ℕ → Word → Word → Type 0) (alphabet : List 
         let test = same_context contexts (back (listed name_in e) (listed_contexts name_in contexts) same) in
         λ i. IsRestricted alphabet (set i) (test i)
     same_set (rules optional groups) same = refl
+    same_set (directed way maps contexts) same = refl
     same_set (steps e more) same =
         same_steps more (back (listed name_in e) (listed_steps name_in more) same) (In (stands_for means) alphabet e) (In (stands_for other) alphabet e)
         (same_set e (front (listed name_in e) (listed_steps name_in more) same))
@@ -209,6 +211,12 @@ module _ (means other : List ℕ → Word → Word → Type 0) (alphabet : List 
         let replaces = same_replaces groups same in
         let applies = same_applies groups same in
         λ i. IsRewritten alphabet (replaces i) (applies i) optional
+    same_relation (directed way maps contexts) same =
+        let now = front (listed_mappings name_in maps) (listed_contexts name_in contexts) same in
+        let centre = same_centre maps now in
+        let mapping = same_mapping maps now in
+        let test = same_context contexts (back (listed_mappings name_in maps) (listed_contexts name_in contexts) same) in
+        λ i. IsDirectedBy (IsMatchBy contexts (centre i) (test i)) alphabet (DirectsBy contexts (mapping i) (test i)) way
     same_relation (steps e more) same =
         let now = front (listed name_in e) (listed_steps name_in more) same in
         same_walk more (back (listed name_in e) (listed_steps name_in more) same) (In (stands_for means) alphabet e) (In (stands_for other) alphabet e) (same_set e now)

@@ -7,7 +7,7 @@ use Rattle.std.proofs.lemmas.Slice.Eq.{bytes_eq-Decides}
 use Rattle.word_relations.proofs.Members.{Contains-nil_cases, Contains-head, Contains-tail, Contains-cons_cases, Contains-map, Contains-map_cases}
 use Rattle.regex_ast.specs.declared.expr.Raw.{Raw}
 use Rattle.regex_ast.specs.declared.expr.Raw.TheVariants.{Run, Quoted}
-use Rattle.regex_ast.specs.Terms.{Term, Terms, Links, Contexts, Steps, Mappings, Groups, empty, any, edge, atom, letters, group, maybe, not_one, cross, suffixed, prefixed, ignore, concat, chain, only, rules, steps, no_term, then_term, no_link, or, and, less, no_context, between, no_step, cross_with, then, no_mapping, plain, markup, insert, no_group, then_group}
+use Rattle.regex_ast.specs.Terms.{Term, Terms, Links, Contexts, Steps, Mappings, Groups, empty, any, edge, atom, letters, group, maybe, not_one, cross, suffixed, prefixed, ignore, concat, chain, only, rules, directed, steps, no_term, then_term, no_link, or, and, less, no_context, between, no_step, cross_with, then, no_mapping, plain, markup, insert, no_group, then_group}
 use Rattle.expr_leaves.specs.Leaves.{listed, listed_each, listed_links, listed_contexts, listed_steps, listed_mappings, listed_groups}
 use Rattle.expr_leaves.specs.Mapped.{mapped, mapped_each, mapped_links, mapped_contexts, mapped_steps, mapped_mappings, mapped_groups}
 use Rattle.project_meaning.specs.Trees.{Form, sides, pairs, Entry, Lexicon, Body, xfst, lexc, twolc}
@@ -77,6 +77,8 @@ module _ (names : List (List ℕ)) where
     among (chain e links) = both (of (go e)) (listed_links name_in (mapped_links (leaf_of names) links)) (among e) (in_links links)
     among (only e contexts) = both (of (go e)) (listed_contexts name_in (mapped_contexts (leaf_of names) contexts)) (among e) (in_contexts contexts)
     among (rules optional groups) = in_groups groups
+    among (directed way maps contexts) =
+        both (listed_mappings name_in (mapped_mappings (leaf_of names) maps)) (listed_contexts name_in (mapped_contexts (leaf_of names) contexts)) (in_mappings maps) (in_contexts contexts)
     among (steps e more) = both (of (go e)) (listed_steps name_in (mapped_steps (leaf_of names) more)) (among e) (in_steps more)
 
     each : (es : Terms Raw) → Among (listed_each name_in (mapped_each (leaf_of names) es))

@@ -4,7 +4,7 @@
 //!   [`Definition`]s with its glosses.
 //! - [`Manifest`], [`read_manifest`]: the files that a project names, further symbols, and names that must be defined.
 //!   [`manifest_of`]: the same by the content of a file.
-//! - [`PlanError`]: why there is no plan.
+//! - [`PlanError`]: why there is no plan. [`Kind`]: whether a definition is a language or a relation.
 #![tactic(auto)]
 
 mod content;
@@ -17,6 +17,7 @@ mod symbols;
 mod unknown;
 mod written;
 
+pub use expr_kinds::Kind;
 pub use plan::Plan;
 pub use project_definitions::{Body, Definition, Demand};
 pub use project_manifest::{Manifest, read_manifest};

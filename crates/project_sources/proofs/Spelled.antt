@@ -1,6 +1,6 @@
 -- An expression is compiled where each of its tokens, if it is a leaf, says what is compiled: the levels of the grammar put no
 -- insertion beside another mapping.
-use Rattle.std.proofs.Common.{◌≡◌, ℕ, zero, suc, Bool, true, false, not, ◌&&◌, IsTrue, List, [], ◌∷◌, map, Option, None, Some, refl, subst}
+use Rattle.std.proofs.Common.{◌≡◌, ℕ, zero, suc, Bool, true, false, not, ◌&&◌, IsTrue, List, [], ◌∷◌, map, Option, None, Some, refl, ap, subst}
 use Rattle.std.proofs.lemmas.Bool.{or_right}
 use Rattle.std.specs.Bool.{⊤}
 use Rattle.std.specs.Option.{option_map}
@@ -11,11 +11,11 @@ use Rattle.regex_ast.specs.declared.expr.Prefix.{Prefix}
 use Rattle.expr_kinds.specs.Built.{holds_insertion, has_no_insertion, is_insertion, inserts_alone, IsBuiltBy, AreBuiltBy, LinksAreBuiltBy, ContextsAreBuiltBy, StepsAreBuiltBy, MappingsAreBuiltBy, GroupsAreBuiltBy}
 use Rattle.expr_leaves.specs.Mapped.{mapped, mapped_each, mapped_links, mapped_contexts, mapped_steps, mapped_mappings, mapped_groups}
 use Rattle.regex_tokens.specs.declared.token.Operator.{Operator}
-use Rattle.regex_tokens.specs.declared.token.Operator.TheVariants.{CloseSquare, CloseRound, Colon, Slash, Comma, GroupComma, Underscore, Dots}
+use Rattle.regex_tokens.specs.declared.token.Operator.TheVariants.{CloseSquare, CloseRound, UpUp, Colon, Slash, Comma, GroupComma, Underscore, Dots}
 use Rattle.regex_tokens.specs.declared.token.Token.{Token}
 use Rattle.regex_tokens.specs.declared.token.Token.TheVariants.{Operator as operator, Quoted as quoted_token, Braced as braced_token, Run as run_token}
 use Rattle.regex_grammar.specs.Rows.{put_more, put_option, put_row, put_tailed, put_led, row_value, tailed_value, led_value}
-use Rattle.regex_grammar.specs.Grammar.{run, quoted, braced, leaf, question, boundary, blank, grouped, optional, star, plus, power, upper, lower, inverted, reversed, Linked, or_else, and_also, but_not, result, marks, restricted, replaced, ruled, inserted, StepForm, crossing, composing, put_primary, put_backslash, put_behind, put_negated, put_crossed, put_suffix, put_suffixed, put_prefix, put_prefixed, put_ignored, put_concat, put_linked, put_chain, put_context, put_contexts, put_sided, put_right, put_mapping, put_group_tail, put_group, put_ruling, put_nine, put_step, put_steps, put_expression, run_term, quoted_term, braced_term, primary_term, with_backslashes, negated_term, with_lower, crossed_term, suffix_of, with_suffixes, suffixed_term, with_prefixes, prefixed_term, ignoring, ignored_term, side_by_side, concat_term, linked_value, links_by, with_links, chain_term, part, ContextTerm, context_value, contexts_by, in_a_row, contexts_value, SidedTerm, sided_value, sided_by, RightTerm, result_term, marks_term, right_value, MappingTerm, plain_mapping, marking, inserting, mapping_by, mappings_by, mapping_value, GroupTailTerm, GroupTerm, right_and_more, group_tail_by, group_tail_value, group_by, group_value, groups_by, RulingTerm, restriction, replacement, replacement_by, ruling_value, with_ruling, insertion_by, nine_term, step_value, steps_by, with_steps, steps_term, expression_term}
+use Rattle.regex_grammar.specs.Grammar.{run, quoted, braced, leaf, question, boundary, blank, grouped, optional, star, plus, power, upper, lower, inverted, reversed, Linked, or_else, and_also, but_not, result, marks, restricted, replaced, directed, ruled, inserted, StepForm, crossing, composing, put_primary, put_backslash, put_behind, put_negated, put_crossed, put_suffix, put_suffixed, put_prefix, put_prefixed, put_ignored, put_concat, put_linked, put_chain, put_context, put_contexts, put_sided, put_right, arrow_operator, way_operator, put_mapping, put_mapping_row, put_group_tail, put_group, put_ruling, put_nine, put_step, put_steps, put_expression, run_term, quoted_term, braced_term, primary_term, with_backslashes, negated_term, with_lower, crossed_term, suffix_of, with_suffixes, suffixed_term, with_prefixes, prefixed_term, ignoring, ignored_term, side_by_side, concat_term, linked_value, links_by, with_links, chain_term, part, ContextTerm, context_value, contexts_by, in_a_row, contexts_value, SidedTerm, sided_value, sided_by, RightTerm, result_term, marks_term, right_value, MappingTerm, plain_mapping, marking, inserting, mapping_by, mappings_by, mapping_value, GroupTailTerm, GroupTerm, right_and_more, mapping_row_value, with_centre, group_tail_by, group_tail_value, group_by, group_value, groups_by, RulingTerm, restriction, replacement, direction, replacement_by, or_no_context, direction_by, ruling_value, with_ruling, insertion_by, nine_term, step_value, steps_by, with_steps, steps_term, expression_term}
 use Rattle.regex_grammar.specs.Whole.{most_open, IsReading}
 
 -- what each of them is, and what one is where it is there
@@ -137,6 +137,10 @@ module _ {L : Type 0} (f : Raw → L) (is_leaf is_letter : L → Bool) where
   MappingIsBuilt (marking c b a) = IsBuilt c × IsBuilt b × IsBuilt a
   MappingIsBuilt (inserting r) = ⊥
 
+  -- mappings without their first centre
+  abbrev MapsAreBuilt : RightTerm Raw × List (MappingTerm Raw) → Type 0
+  MapsAreBuilt maps = RightIsBuilt maps.0 × Each MappingIsBuilt maps.1
+
   abbrev TailIsBuilt : GroupTailTerm Raw → Type 0
   TailIsBuilt g = RightIsBuilt g.right × Each MappingIsBuilt g.more × SidedIsBuilt g.sided
 
@@ -155,6 +159,9 @@ module _ {L : Type 0} (f : Raw → L) (is_leaf is_letter : L → Bool) where
   mappings_built (plain_mapping c r ∷ maps) each = (tt, each.0.0, each.0.1, mappings_built maps each.1)
   mappings_built (marking c b a ∷ maps) each = (tt, each.0.0, each.0.1, each.0.2, mappings_built maps each.1)
   mappings_built (inserting r ∷ maps) each = absurd each.0
+
+  centre_built : (centre : Term Raw) (maps : RightTerm Raw × List (MappingTerm Raw)) → IsBuilt centre → MapsAreBuilt maps → Each MappingIsBuilt (with_centre centre maps)
+  centre_built centre maps here each = (mapping_built centre maps.0 here each.0, each.1)
 
   groups_built : (groups : List (GroupTerm Raw)) → Each GroupIsBuilt groups → GroupsAreBuiltBy is_leaf is_letter (mapped_groups f (groups_by groups))
   groups_built [] each = tt
@@ -176,14 +183,24 @@ module _ {L : Type 0} (f : Raw → L) (is_leaf is_letter : L → Bool) where
       let all = mapped_groups f (groups_by groups) in
       (or_right (is_insertion all) (has_no_insertion all) (no_insertion groups each), groups_built groups each)
 
+  directed_built : (maps : List (MappingTerm Raw)) (contexts : List (ContextTerm Raw)) → Each MappingIsBuilt maps → Each ContextIsBuilt contexts
+      → IsTrue (not (holds_insertion (mapped_mappings f (mappings_by maps)))) × MappingsAreBuiltBy is_leaf is_letter (mapped_mappings f (mappings_by maps)) × ContextsAreBuiltBy is_leaf is_letter (mapped_contexts f (contexts_by contexts))
+  directed_built maps contexts each every = (ap not (none_inserted maps each), mappings_built maps each, contexts_built contexts every)
+
   abbrev RulingIsBuilt : RulingTerm Raw → Type 0
   RulingIsBuilt (restriction contexts) = Each ContextIsBuilt contexts
   RulingIsBuilt (replacement arrow tail groups) = TailIsBuilt tail × Each GroupIsBuilt groups
+  RulingIsBuilt (direction way maps contexts) = MapsAreBuilt maps × Each ContextIsBuilt contexts
+
+  contexts_or_none : (o : Option (List (ContextTerm Raw))) → IfAny (Each ContextIsBuilt) o → Each ContextIsBuilt (or_no_context o)
+  contexts_or_none None any = tt
+  contexts_or_none (Some contexts) any = any
 
   ruling_built : (t : Term Raw) (o : Option (RulingTerm Raw)) → IsBuilt t → IfAny RulingIsBuilt o → IsBuilt (with_ruling t o)
   ruling_built t None here any = here
   ruling_built t (Some (restriction contexts)) here any = (here, contexts_built contexts any)
   ruling_built t (Some (replacement arrow tail groups)) here any = rules_built arrow (group_by t tail ∷ groups) (group_built t tail here any.0, any.1)
+  ruling_built t (Some (direction way maps contexts)) here any = directed_built (with_centre t maps) contexts (centre_built t maps here any.0) any.1
 
   insertion_built : (arrow : Bool) (t : Term Raw) (o : Option (SidedTerm Raw)) → IsBuilt t → IfAny SidedIsBuilt o → IsBuilt (insertion_by arrow t o)
   insertion_built arrow t o here any = (refl, ((here, tt), contexts_built (sided_by o).contexts (sided_built o any), tt))
@@ -304,20 +321,23 @@ module _ {L : Type 0} (f : Raw → L) (is_leaf is_letter : L → Bool) where
         let a = option_says put says IsBuilt inner behind rest b.1.1 in
         ((part_built (option_map says before) b.0, part_built (option_map says behind) a.0), a.1)
 
-    module _ (arrow : Bool) where
+    module _ (arrow : Operator) where
       mapping_says : Says (put_mapping arrow put) (mapping_value says) MappingIsBuilt
       mapping_says m rest built =
           let c = inner m.centre _ built in
           let r = right_says m.right rest c.1.1 in
           (mapping_built (says m.centre) (right_value says m.right) c.0 r.0, r.1)
 
+      mapping_row_says : Says (put_mapping_row arrow put) (mapping_row_value says) MapsAreBuilt
+      mapping_row_says =
+          row_says (put_right put) (put_behind Comma (put_mapping arrow put)) (right_value says) (mapping_value says) RightIsBuilt MappingIsBuilt MapsAreBuilt right_says
+          (behind_says (put_mapping arrow put) (mapping_value says) MappingIsBuilt mapping_says Comma) right_and_more (λ r more here each. (here, each))
+
+    module _ (arrow : Bool) where
       tail_says : Says (put_group_tail arrow put) (group_tail_value says) TailIsBuilt
       tail_says =
-          tailed_says (put_row (put_right put) (put_behind Comma (put_mapping arrow put))) (put_sided put) (row_value right_and_more (right_value says) (mapping_value says)) (sided_value says)
-          (λ x. RightIsBuilt x.0 × Each MappingIsBuilt x.1) SidedIsBuilt TailIsBuilt
-          (row_says (put_right put) (put_behind Comma (put_mapping arrow put)) (right_value says) (mapping_value says) RightIsBuilt MappingIsBuilt (λ x. RightIsBuilt x.0 × Each MappingIsBuilt x.1) right_says
-          (behind_says (put_mapping arrow put) (mapping_value says) MappingIsBuilt mapping_says Comma) right_and_more (λ r more here each. (here, each)))
-          sided_says group_tail_by (λ x o here any. (here.0, here.1, sided_built o any))
+          tailed_says (put_mapping_row (arrow_operator arrow) put) (put_sided put) (mapping_row_value says) (sided_value says) MapsAreBuilt SidedIsBuilt TailIsBuilt
+          (mapping_row_says (arrow_operator arrow)) sided_says group_tail_by (λ x o here any. (here.0, here.1, sided_built o any))
 
       group_says : Says (put_group arrow put) (group_value says) GroupIsBuilt
       group_says g rest built =
@@ -330,6 +350,10 @@ module _ {L : Type 0} (f : Raw → L) (is_leaf is_letter : L → Bool) where
     ruling_says (replaced arrow groups) rest built =
         row_says (put_group_tail arrow put) (put_behind GroupComma (put_group arrow put)) (group_tail_value says) (group_value says) TailIsBuilt GroupIsBuilt RulingIsBuilt (tail_says arrow)
         (behind_says (put_group arrow put) (group_value says) GroupIsBuilt (group_says arrow) GroupComma) (replacement_by arrow) (λ tail more here each. (here, each)) groups rest built.1
+    ruling_says (directed way x) rest built =
+        tailed_says (put_mapping_row (way_operator way) put) (put_behind UpUp (put_contexts put)) (mapping_row_value says) (contexts_value says) MapsAreBuilt (Each ContextIsBuilt) RulingIsBuilt
+        (mapping_row_says (way_operator way)) (behind_says (put_contexts put) (contexts_value says) (Each ContextIsBuilt) contexts_says UpUp) (direction_by way)
+        (λ maps o here any. (here, contexts_or_none o any)) x rest built.1
 
     nine_says : Says (put_nine put) (nine_term says) IsBuilt
     nine_says (ruled x) rest built = tailed_says put (put_ruling put) says (ruling_value says) IsBuilt RulingIsBuilt IsBuilt inner ruling_says with_ruling ruling_built x rest built

@@ -10,3 +10,4 @@ pub mod Shown
 pub mod Spelled
 pub mod Trying
 mod Glossed
+mod KindsOfNames

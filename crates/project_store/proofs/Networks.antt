@@ -41,11 +41,12 @@ use Rattle.project_model.specs.Plans.{IsPlan, IsSoundOver}
 use Rattle.project_definitions.specs.Referring.{body_places, references_of}
 use Rattle.project_definitions.specs.declared.definition.Definition.{Definition}
 use Rattle.project_store.specs.Building.{AreBuilt, AreNamesAmong, ArePartsOf, HasParts, HasPut, IsBuiltAt, IsThere, expression_leaves}
-use Rattle.project_store.specs.Centres.{CentresAreBuilt, HasFilled, HasNoCentre, HasNoOwn, IsWhyUnbuilt, OfPlace}
+use Rattle.project_store.specs.Centres.{CentresAreBuilt, HasFilled, HasNoCentre, HasNoOwn, IsFree, IsWhyUnbuilt, OfPlace}
 use Rattle.project_store.specs.Loaded.{LoadedView, plan_in}
+use Rattle.project_store.specs.Sharing.{IsLike, StayThere}
 use Rattle.project_store.proofs.Bodies.{body_passes, expressions_built, name_refers}
 use Rattle.project_store.proofs.Parts.{part_found, part_there}
-use Rattle.project_store.proofs.Shown.{name_spelled_here, own_centre}
+use Rattle.project_store.proofs.Shown.{name_spelled_here, own_centre, spelled_too}
 
 never : IsTrue false → ⊥
 never e = cc
@@ -343,24 +344,40 @@ network_put loaded built place n within are good = record {
   ];
 }
 
+-- a network that is like the one of a place is one of the place
+pub like_built : (loaded : LoadedView) (place : ℕ) (n m : Network) → IsBuiltAt loaded place n → IsLike n m → IsBuiltAt loaded place m
+like_built loaded place n m good like = record {
+  kind = like.kind ∙ good.kind;
+  over = like.over (symbols_of loaded.alphabet) good.over;
+  means = λ said from name at. spelled_too loaded.alphabet like.relation (good.means said from name at);
+}
+
+pub like_if_built : {E : Type 0} (loaded : LoadedView) (place : ℕ) (n : Network) → IsBuiltAt loaded place n → (r : Result Network E) → IfOk r (IsLike n) → IfOk r (IsBuiltAt loaded place)
+like_if_built loaded place n good (Ok m) like = like_built loaded place n m good like
+like_if_built loaded place n good (Err error) like = tt
+
 -- a place that has its network already, and one that gets it
 pub filled_before : (loaded : LoadedView) (built : List (Option Network)) (place : ℕ) → CentresAreBuilt loaded built → IsThere built place → HasFilled loaded place built built
-filled_before loaded built place are there = record { are = are; there = there; kept = λ other h. h }
+filled_before loaded built place are there = record { are = are; there = there; stay = λ other n at. at }
 
-pub filled_now : (loaded : LoadedView) (built : List (Option Network)) (place : ℕ) (n : Network) → place < length built → CentresAreBuilt loaded built → IsBuiltAt loaded place n
-    → HasFilled loaded place built (set built place (Some n))
-filled_now loaded built place n within ready good = record {
+pub filled_now : (loaded : LoadedView) (built : List (Option Network)) (place : ℕ) (n : Network) → place < length built → CentresAreBuilt loaded built → IsBuiltAt loaded place n → OfPlace loaded place IsFree
+    → slice_get built place ≡ Some None → HasFilled loaded place built (set built place (Some n))
+filled_now loaded built place n within ready good free lacking = record {
   are = record {
     are = network_put loaded built place n within ready.are good;
+    free = λ p m at. elim (cases_eq p place) as (λ _. OfPlace loaded p IsFree) [
+      | inl same ↦ subst (λ (k : ℕ). OfPlace loaded k IsFree) (sym same) free
+      | inr other ↦ ready.free p m (sym (slice_get-set_other built place p (Some n) other) ∙ at)
+    ];
     plain = λ p none. elim (cases_eq p place) as (λ _. HasNoCentre loaded p) [
       | inl same ↦ absurd (clash n (sym none ∙ subst (λ (k : ℕ). slice_get (set built place (Some n)) k ≡ Some (Some n)) (sym same) (slice_get-set_same built place (Some n) within)))
       | inr other ↦ ready.plain p (sym (slice_get-set_other built place p (Some n) other) ∙ none)
     ];
   };
   there = (n, slice_get-set_same built place (Some n) within);
-  kept = λ p (m, at). elim (cases_eq p place) as (λ _. IsThere (set built place (Some n)) p) [
-    | inl same ↦ (n, subst (λ (k : ℕ). slice_get (set built place (Some n)) k ≡ Some (Some n)) (sym same) (slice_get-set_same built place (Some n) within))
-    | inr other ↦ (m, slice_get-set_other built place p (Some n) other ∙ at)
+  stay = λ p m at. elim (cases_eq p place) as (λ _. slice_get (set built place (Some n)) p ≡ Some (Some m)) [
+    | inl same ↦ absurd (clash m (sym lacking ∙ subst (λ (k : ℕ). slice_get built k ≡ Some (Some m)) same at))
+    | inr other ↦ slice_get-set_other built place p (Some n) other ∙ at
   ];
 }
 
@@ -377,20 +394,23 @@ none_by built place (Some n) at none = let clash : true ≡ false = none in absu
 pub read_there : (built : List (Option Network)) (place : ℕ) (o : Option Network) → IsThere built place → o ≡ get_or built place o → slice_get built place ≡ Some o
 read_there built place o (n, at) is = slice_get-get_or built place o (slice_get_within built place (Some n) at) ∙ ap (λ (x : Option Network). Some x) (sym is)
 
--- the networks of a front of the order, of which the wanted one is none
-pub record BuiltSoFar (loaded : LoadedView) (order : List ℕ) (wanted i : ℕ) (built : List (Option Network)) : Type 0 where
+-- the networks of a front of the order, of which the wanted one is none, where some networks were there first
+pub record BuiltSoFar (loaded : LoadedView) (order : List ℕ) (wanted : ℕ) (first : List (Option Network)) (i : ℕ) (built : List (Option Network)) : Type 0 where
   pub are : CentresAreBuilt loaded built
+  pub stay : StayThere first built
   pub there : (place : ℕ) → Contains (take i order) place → IsThere built place
   pub unwanted : Contains (take i order) wanted → ⊥
 
-pub none_so_far : (loaded : LoadedView) (order : List ℕ) (wanted : ℕ) (built : List (Option Network)) → CentresAreBuilt loaded built → BuiltSoFar loaded order wanted 0 built
+pub none_so_far : (loaded : LoadedView) (order : List ℕ) (wanted : ℕ) (built : List (Option Network)) → CentresAreBuilt loaded built → BuiltSoFar loaded order wanted built 0 built
 none_so_far loaded order wanted built are = record {
   are = are;
+  stay = λ place n at. at;
   there = λ place h. absurd (Contains-nil_cases place h);
   unwanted = λ h. Contains-nil_cases wanted h;
 }
 
-module _ (loaded : LoadedView) (order : List ℕ) (ordered : IsOrder (references_of loaded.definitions) order) (wanted i : ℕ) (inside : i < length order) (built : List (Option Network)) (so_far : BuiltSoFar loaded order wanted i built) where
+module _ (loaded : LoadedView) (order : List ℕ) (ordered : IsOrder (references_of loaded.definitions) order) (wanted : ℕ) (first : List (Option Network)) (i : ℕ) (inside : i < length order) (built : List (Option Network))
+    (so_far : BuiltSoFar loaded order wanted first i built) where
   abbrev place : ℕ
   place = get_or order i 0
 
@@ -408,11 +428,12 @@ module _ (loaded : LoadedView) (order : List ℕ) (ordered : IsOrder (references
   parts_there other refers = so_far.there other (ordered.behind i place other here_at refers)
 
   -- with the network of the next one
-  pub built_more : (new : List (Option Network)) → HasFilled loaded place built new → (place ≡ wanted → ⊥) → BuiltSoFar loaded order wanted (i + 1) new
+  pub built_more : (new : List (Option Network)) → HasFilled loaded place built new → (place ≡ wanted → ⊥) → BuiltSoFar loaded order wanted first (i + 1) new
   built_more new filled apart = record {
     are = filled.are;
+    stay = λ p n at. filled.stay p n (so_far.stay p n at);
     there = λ p h. elim (cases p h) as (λ _. IsThere new p) [
-      | inl old ↦ filled.kept p (so_far.there p old)
+      | inl old ↦ (let (n, at) = so_far.there p old in (n, filled.stay p n at))
       | inr same ↦ subst (IsThere new) same filled.there
     ];
     unwanted = λ h. elim (cases wanted h) as (λ _. ⊥) [ inl old ↦ so_far.unwanted old | inr same ↦ apart same ];
@@ -426,9 +447,9 @@ module _ (loaded : LoadedView) (order : List ℕ) (ordered : IsOrder (references
   built_here new n filled same at = filled.are.are.each wanted n at
 
 -- the wanted place is met in the order
-pub never_past : (loaded : LoadedView) (order : List ℕ) → IsOrder (references_of loaded.definitions) order → (wanted i : ℕ) (built : List (Option Network)) → wanted < length loaded.definitions → length order ≤ i
-    → BuiltSoFar loaded order wanted i built → ⊥
-never_past loaded order ordered wanted i built within past so_far =
+pub never_past : (loaded : LoadedView) (order : List ℕ) → IsOrder (references_of loaded.definitions) order → (wanted : ℕ) (first : List (Option Network)) (i : ℕ) (built : List (Option Network)) → wanted < length loaded.definitions
+    → length order ≤ i → BuiltSoFar loaded order wanted first i built → ⊥
+never_past loaded order ordered wanted first i built within past so_far =
     let size = length-map loaded.definitions (λ (d : Definition). body_places (length loaded.definitions) (body_of d.body)) in
     let below : wanted < length (references_of loaded.definitions) = omega (arith, within, size) in
     so_far.unwanted (subst (λ (ps : List ℕ). Contains ps wanted) (sym (take_all i order past)) ((ordered.places wanted).1 below))

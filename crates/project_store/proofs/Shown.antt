@@ -103,7 +103,7 @@ never : IsTrue false → ⊥
 never e = cc
 
 -- the same relation of numbers is the same of texts
-spelled_too : (alphabet : List (Sym × List ℕ)) → {R S : List Sym → List Sym → Type 0} {T : Word → Word → Type 0} → AreSame R S → IsSpelled alphabet S T → IsSpelled alphabet R T
+pub spelled_too : (alphabet : List (Sym × List ℕ)) → {R S : List Sym → List Sym → Type 0} {T : Word → Word → Type 0} → AreSame R S → IsSpelled alphabet S T → IsSpelled alphabet R T
 spelled_too alphabet same spelled_as = record {
   over = λ upper lower h. spelled_as.over upper lower ((same upper lower).0 h);
   same = λ u v. (
@@ -163,6 +163,9 @@ module _ (said : Said) (loaded : LoadedView) (from : IsLoadedFrom said loaded) w
 
     pub same_name : w.name ≡ d.name
     same_name = ap (λ (x : Entry). x.name) found.2
+
+    pub name_there : (name : List ℕ) → d.name ≡ name → slice_get names place ≡ Some name
+    name_there name named = name_here ∙ ap (λ (n : List ℕ). Some n) (same_name ∙ named)
 
     pub defined_here : (name : List ℕ) → d.name ≡ name → Defines (project_in said) name
     defined_here name named = (m, m_among, same_name ∙ named)

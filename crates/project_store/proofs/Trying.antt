@@ -1,5 +1,5 @@
 -- Which definitions of a loaded project have an empty centre, as they are tried in order; and the first fault that this is.
-use Rattle.std.proofs.Common.{◌≡◌, ◌<◌, ◌≤◌, ◌+◌, ◌++◌, ◌⊎◌, ℕ, zero, suc, Bool, true, false, List, [], ◌∷◌, length, length-take-le, take, take-take, get_or, get_or-take, All, Contains, Option, Some, None, Result, Ok, Err, IfOk, IfErr, OnOk, slice_get, refl, sym, ap, subst, ◌∙◌, inl, inr, arith}
+use Rattle.std.proofs.Common.{◌≡◌, ◌<◌, ◌≤◌, ◌+◌, ◌++◌, ◌⊎◌, ℕ, zero, suc, Bool, true, false, List, [], ◌∷◌, length, length-take-le, take, take-take, get_or, get_or-take, All, Contains, Option, Some, None, Ok, Err, slice_get, refl, sym, ap, subst, ◌∙◌, inl, inr, arith}
 use Rattle.std.proofs.Math.ListN.{replicate, set}
 use Rattle.std.proofs.lemmas.Bool.{cases_eq, cases_lt}
 use Rattle.std.proofs.lemmas.List.{length-map, length-replicate, length-set, map-append, take_all, take_more}
@@ -41,9 +41,10 @@ use Rattle.project_definitions.proofs.Referring.{at_map, count, first_here, from
 use Rattle.project_store.specs.Building.{AreBuilt, HasParts, IsBuiltAt, IsThere, expression_leaves}
 use Rattle.project_store.specs.Centres.{AreClear, AreFree, AreTried, CentresAreBuilt, HasNoCentre, HasNoEmptyCentre, HasNoNetwork, HasNoOwn, HasNone, IsBarred, IsCentreError, IsFirstEmpty, IsFirstMark, IsFree, IsOutcome, OfPlace, body_centres, with_empty, with_network}
 use Rattle.project_store.specs.Loaded.{IsLoadedFrom, LoadedView}
-use Rattle.project_store.specs.Projects.{HasTable, IsOfSources, IsWhyNot, Reads}
+use Rattle.project_store.specs.Sharing.{StayThere}
+use Rattle.project_store.specs.Projects.{IsOfSources, IsRead, IsWhyNot, Reads}
 use Rattle.project_store.specs.declared.centres.Outcome.{Outcome}
-use Rattle.project_store.specs.declared.centres.Outcome.TheVariants.{Built, EmptyCentre, Behind}
+use Rattle.project_store.specs.declared.centres.Outcome.TheVariants.{Built, EmptyCentre, Behind, Stands}
 use Rattle.project_store.specs.declared.store_error.StoreError.{StoreError}
 use Rattle.project_store.specs.declared.store_error.StoreError.TheVariants.{Memory, Refused}
 use Rattle.project_store.proofs.Bodies.{referred_name}
@@ -193,9 +194,10 @@ module _ (loaded : LoadedView) (built : List (Option Network)) (are : AreFree lo
   pub is_empty : OfPlace loaded place HasOwnEmptyCentre → OfPlace loaded place HasEmptyCentre
   is_empty own said from name at = (own said from name at, λ other reaches h. none_reached said loaded from built are place parts name at other reaches h)
 
--- what came of the definitions at these places
-pub record TriedSoFar (loaded : LoadedView) (done : List ℕ) (built : List (Option Network)) (marks : List Bool) : Type 0 where
+-- what came of the definitions at these places, where some networks were there first
+pub record TriedSoFar (loaded : LoadedView) (first : List (Option Network)) (done : List ℕ) (built : List (Option Network)) (marks : List Bool) : Type 0 where
   pub are : AreFree loaded built
+  pub stay : StayThere first built
   pub count : length marks ≡ length loaded.definitions
   pub empty : (place : ℕ) → slice_get marks place ≡ Some true → OfPlace loaded place HasEmptyCentre
   pub none : (place : ℕ) → Contains done place → slice_get marks place ≡ Some false → OfPlace loaded place HasNone
@@ -209,18 +211,22 @@ clash_mark : ◌≡◌ {A = Option Bool} (Some true) (Some false) → ⊥
 clash_mark e = cc
 
 -- none so far
-pub tried_none : (loaded : LoadedView) (built : List (Option Network)) (marks : List Bool) → length built ≡ length loaded.definitions
-    → ((place : ℕ) → place < length loaded.definitions → slice_get built place ≡ Some None) → marks ≡ replicate (length loaded.definitions) false → TriedSoFar loaded [] built marks
-tried_none loaded built marks size none is = record {
-  are = record {
-    are = record { count = size; each = λ p n at. absurd (nothing p n at) };
-    free = λ p n at. absurd (nothing p n at);
-  };
-  count = ap length is ∙ length-replicate (length loaded.definitions) false;
-  empty = λ p at. absurd (clash_mark (ap (λ (b : Bool). Some b) (sym (replicate_same (length loaded.definitions) false p true (ap (λ (bs : List Bool). slice_get bs p) (sym is) ∙ at)))));
+pub tried_none : (loaded : LoadedView) (first built : List (Option Network)) (marks : List Bool) → AreFree loaded first → built ≡ first → marks ≡ replicate (length first) false → TriedSoFar loaded first [] built marks
+tried_none loaded first built marks free same is = record {
+  are = subst (AreFree loaded) (sym same) free;
+  stay = λ p n at. ap (λ (nets : List (Option Network)). slice_get nets p) same ∙ at;
+  count = ap length is ∙ length-replicate (length first) false ∙ free.are.count;
+  empty = λ p at. absurd (clash_mark (ap (λ (b : Bool). Some b) (sym (replicate_same (length first) false p true (ap (λ (bs : List Bool). slice_get bs p) (sym is) ∙ at)))));
   none = λ p h. absurd (Contains-nil_cases p h);
   barred = λ p h. absurd (Contains-nil_cases p h);
   why = λ p h. absurd (Contains-nil_cases p h);
+}
+
+-- no network is free of empty centres
+pub none_free : (loaded : LoadedView) (built : List (Option Network)) → length built ≡ length loaded.definitions → ((place : ℕ) → place < length loaded.definitions → slice_get built place ≡ Some None) → AreFree loaded built
+none_free loaded built size none = record {
+  are = record { count = size; each = λ p n at. absurd (nothing p n at) };
+  free = λ p n at. absurd (nothing p n at);
 }
   where
     nothing : (p : ℕ) (n : Network) → slice_get built p ≡ Some (Some n) → ⊥
@@ -229,7 +235,7 @@ tried_none loaded built marks size none is = record {
         clash_network n (sym (none p (omega (arith, inside, size))) ∙ at)
 
 -- the definition at a place more
-module _ (loaded : LoadedView) (done : List ℕ) (built : List (Option Network)) (marks : List Bool) (so_far : TriedSoFar loaded done built marks) (place : ℕ) (within : place < length loaded.definitions)
+module _ (loaded : LoadedView) (first : List (Option Network)) (done : List ℕ) (built : List (Option Network)) (marks : List Bool) (so_far : TriedSoFar loaded first done built marks) (place : ℕ) (within : place < length loaded.definitions)
     (behind : (other : ℕ) → Leads (references_of loaded.definitions) place other → Contains done other) where
   abbrev more : List ℕ
   more = done ++ place ∷ []
@@ -246,8 +252,12 @@ module _ (loaded : LoadedView) (done : List ℕ) (built : List (Option Network))
   here_or : (P : ℕ → Type 0) → P place → (p : ℕ) → ((p ≡ place → ⊥) → P p) → P p
   here_or P here p there = elim (cases_eq p place) as (λ _. P p) [ inl same ↦ subst P (sym same) here | inr apart ↦ there apart ]
 
-  put_built : (n : Network) → IsBuiltAt loaded place n → OfPlace loaded place IsFree → TriedSoFar loaded more (set built place (Some n)) marks
-  put_built n good free = record {
+  put_built : (n : Network) → IsBuiltAt loaded place n → OfPlace loaded place IsFree → slice_get built place ≡ Some None → TriedSoFar loaded first more (set built place (Some n)) marks
+  put_built n good free lacking = record {
+    stay = λ p m at. elim (cases_eq p place) as (λ _. slice_get (set built place (Some n)) p ≡ Some (Some m)) [
+      | inl same ↦ absurd (clash_network m (sym lacking ∙ subst (λ (k : ℕ). slice_get built k ≡ Some (Some m)) same (so_far.stay p m at)))
+      | inr apart ↦ slice_get-set_other built place p (Some n) apart ∙ so_far.stay p m at
+    ];
     are = record {
       are = network_put loaded built place n inside_built so_far.are.are good;
       free = λ p m at. elim (cases_eq p place) as (λ _. OfPlace loaded p IsFree) [
@@ -271,9 +281,10 @@ module _ (loaded : LoadedView) (done : List ℕ) (built : List (Option Network))
       old : (p : ℕ) → (p ≡ place → ⊥) → slice_get (set built place (Some n)) p ≡ Some None → slice_get built p ≡ Some None
       old p apart at = sym (slice_get-set_other built place p (Some n) apart) ∙ at
 
-  put_empty : OfPlace loaded place HasEmptyCentre → TriedSoFar loaded more built (set marks place true)
+  put_empty : OfPlace loaded place HasEmptyCentre → TriedSoFar loaded first more built (set marks place true)
   put_empty is = record {
     are = so_far.are;
+    stay = so_far.stay;
     count = length-set marks place true ∙ so_far.count;
     empty = λ p at. here_or (λ k. OfPlace loaded k HasEmptyCentre) is p (λ apart. so_far.empty p (sym (slice_get-set_other marks place p true apart) ∙ at));
     none = λ p h at. elim (cases_eq p place) as (λ _. OfPlace loaded p HasNone) [
@@ -284,9 +295,10 @@ module _ (loaded : LoadedView) (done : List ℕ) (built : List (Option Network))
     why = λ p h at. (place, slice_get-set_same marks place true inside_empty);
   }
 
-  put_behind : (other : ℕ) → Leads (references_of loaded.definitions) place other → slice_get built other ≡ Some None → TriedSoFar loaded more built marks
+  put_behind : (other : ℕ) → Leads (references_of loaded.definitions) place other → slice_get built other ≡ Some None → TriedSoFar loaded first more built marks
   put_behind other leads nothing = record {
     are = so_far.are;
+    stay = so_far.stay;
     count = so_far.count;
     empty = so_far.empty;
     none = λ p h at. here_or (λ k. OfPlace loaded k HasNone) (λ said from name name_at has. (let (far, reaches, own) = reached said from name name_at in has.1 far reaches own)) p (λ apart. so_far.none p (others p apart h) at);
@@ -301,8 +313,24 @@ module _ (loaded : LoadedView) (done : List ℕ) (built : List (Option Network))
           → (far : List ℕ) × Reaches (project_in said) name far × HasOwnEmptyCentre (project_in said) far
       reached said from name name_at = barred_reached said loaded from place other leads (so_far.barred other (behind other leads) nothing) name name_at
 
-  pub tried_more : (outcome : Outcome) → IsOutcome loaded built place outcome → TriedSoFar loaded more (with_network outcome place built) (with_empty outcome place marks)
-  tried_more (Built n) (good, free) = put_built n good free
+  -- one that has its network already
+  put_standing : IsThere built place → TriedSoFar loaded first more built marks
+  put_standing (n, there) = record {
+    are = so_far.are;
+    stay = so_far.stay;
+    count = so_far.count;
+    empty = so_far.empty;
+    none = λ p h at. here_or (λ k. OfPlace loaded k HasNone) (λ said from name name_at has. so_far.are.free place n there said from name name_at (inl has.0)) p (λ apart. so_far.none p (others p apart h) at);
+    barred = λ p h at. so_far.barred p (others p (lacks p at) h) at;
+    why = λ p h at. so_far.why p (others p (lacks p at) h) at;
+  }
+    where
+      lacks : (p : ℕ) → slice_get built p ≡ Some None → p ≡ place → ⊥
+      lacks p at same = clash_network n (sym (subst (λ (k : ℕ). slice_get built k ≡ Some None) same at) ∙ there)
+
+  pub tried_more : (outcome : Outcome) → IsOutcome loaded built place outcome → TriedSoFar loaded first more (with_network outcome place built) (with_empty outcome place marks)
+  tried_more Stands there = put_standing there
+  tried_more (Built n) (good, free, lacking) = put_built n good free lacking
   tried_more EmptyCentre is = put_empty is
   tried_more Behind (other, leads, nothing) = put_behind other leads nothing
 
@@ -347,11 +375,11 @@ module _ (loaded : LoadedView) (order : List ℕ) (ordered : IsOrder (references
           subst (λ (ps : List ℕ). Contains ps other) (sym same_front)
           (ordered.behind i (get_or order i 0) other (slice_get-get_or order i 0 in_order) (subst (λ (p : ℕ). Leads (references_of loaded.definitions) p other) same_place leads))
 
-      pub front_more : (built : List (Option Network)) (marks : List Bool) (outcome : Outcome) → IsOutcome loaded built here outcome → TriedSoFar loaded (take i front) built marks
-          → TriedSoFar loaded (take (i + 1) front) (with_network outcome here built) (with_empty outcome here marks)
-      front_more built marks outcome is so_far =
-          subst (λ (done : List ℕ). TriedSoFar loaded done (with_network outcome here built) (with_empty outcome here marks)) (sym (take_more front i 0 next))
-          (tried_more loaded (take i front) built marks so_far here here_within here_behind outcome is)
+      pub front_more : (first built : List (Option Network)) (marks : List Bool) (outcome : Outcome) → IsOutcome loaded built here outcome → TriedSoFar loaded first (take i front) built marks
+          → TriedSoFar loaded first (take (i + 1) front) (with_network outcome here built) (with_empty outcome here marks)
+      front_more first built marks outcome is so_far =
+          subst (λ (done : List ℕ). TriedSoFar loaded first done (with_network outcome here built) (with_empty outcome here marks)) (sym (take_more front i 0 next))
+          (tried_more loaded first (take i front) built marks so_far here here_within here_behind outcome is)
 
   -- the whole front
   module _ (plain : (i place : ℕ) (d : Definition) → end ≤ i → slice_get order i ≡ Some place → slice_get loaded.definitions place ≡ Some d → body_centres (body_of d.body) ≡ []) where
@@ -365,8 +393,8 @@ module _ (loaded : LoadedView) (order : List ℕ) (ordered : IsOrder (references
           | inr past ↦ inr (λ d d_at. plain k place d past at d_at)
         ]
 
-    tried_all : (built : List (Option Network)) (marks : List Bool) → TriedSoFar loaded (take end order) built marks → AreTried loaded built marks
-    tried_all built marks so_far = record {
+    tried_all : (first built : List (Option Network)) (marks : List Bool) → TriedSoFar loaded first (take end order) built marks → AreTried loaded built marks
+    tried_all first built marks so_far = record {
       count = so_far.count;
       empty = so_far.empty;
       none = λ place at. (let inside = slice_get_within marks place false at in let many = so_far.count in
@@ -376,6 +404,7 @@ module _ (loaded : LoadedView) (order : List ℕ) (ordered : IsOrder (references
           ]);
       ready = λ filled. record {
         are = so_far.are.are;
+        free = so_far.are.free;
         plain = λ place nothing. (let inside = slice_get_within built place None nothing in let many = so_far.are.are.count in
             elim (either place (omega (arith, inside, many))) as (λ _. HasNoCentre loaded place) [
               | inl done ↦ (let (p, marked) = so_far.why place done nothing in absurd (filled p marked))
@@ -384,8 +413,9 @@ module _ (loaded : LoadedView) (order : List ℕ) (ordered : IsOrder (references
       };
     }
 
-    pub tried_front : (front : List ℕ) (i : ℕ) (built : List (Option Network)) (marks : List Bool) → front ≡ take end order → length front ≤ i → TriedSoFar loaded (take i front) built marks → AreTried loaded built marks
-    tried_front front i built marks is past so_far = tried_all built marks (subst (λ (done : List ℕ). TriedSoFar loaded done built marks) (take_all i front past ∙ is) so_far)
+    pub tried_front : (first : List (Option Network)) (front : List ℕ) (i : ℕ) (built : List (Option Network)) (marks : List Bool) → front ≡ take end order → length front ≤ i → TriedSoFar loaded first (take i front) built marks
+        → AreTried loaded built marks
+    tried_front first front i built marks is past so_far = tried_all first built marks (subst (λ (done : List ℕ). TriedSoFar loaded first done built marks) (take_all i front past ∙ is) so_far)
 
 -- the leaves of an expression, one after another
 module _ (built : List (Option Network)) (leaves : List (Bor Atom)) where
@@ -472,15 +502,13 @@ module _ (sources : Files) (said : Said) (free : (found : Fault) → FirstFault 
       (λ j y lower at_y other here. first.first j lower said from y.name (named_by said loaded from j y at_y) here.0) in
       (centres_come_last all_readers read_rows sources found).1 (inr (free, (said, says, earlier)))
 
-  -- so it is with what telling its centres answers
-  pub loads_project : HasTable sources loaded.glosses → (r : Result LoadedView StoreError) → IfOk r (λ new. new ≡ loaded) → OnOk r (HasNoEmptyCentre loaded) → IfOk r (IsOfSources sources)
-  loads_project table (Ok new) same none = (said, subst (IsLoadedFrom said) (sym same) from, reads_project none, subst (λ (l : LoadedView). HasTable sources l.glosses) (sym same) table)
-  loads_project table (Err error) same none = same
+-- so it is with what telling its centres answers
+pub read_whole : (sources : Files) (loaded : LoadedView) → IsRead sources loaded → HasNoEmptyCentre loaded → IsOfSources sources loaded
+read_whole sources loaded read none = (read.said, read.from, reads_project sources read.said read.free read.says loaded read.from none, read.glosses)
 
-  pub why_not_loaded : (r : Result LoadedView StoreError) → IfErr r (IsCentreError loaded) → IfErr r (IsWhyNot sources)
-  why_not_loaded (Ok new) is = is
-  why_not_loaded (Err (Memory refused)) is = tt
-  why_not_loaded (Err (Refused found)) (place, d, at, first, is) = reads_fault found place d at first is
+pub why_not_loaded : (sources : Files) (loaded : LoadedView) → IsRead sources loaded → (error : StoreError) → IsCentreError loaded error → IsWhyNot sources error
+why_not_loaded sources loaded read (Memory refused) is = tt
+why_not_loaded sources loaded read (Refused found) (place, d, at, first, is) = reads_fault sources read.said read.free read.says loaded read.from found place d at first is
 
 -- a fault that is read is the first
 pub first_of_read : (sources : Files) (found : Fault) → FirstFault all_readers sources read_rows found → Reads sources (Err found)

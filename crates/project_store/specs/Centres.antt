@@ -20,8 +20,9 @@ use Rattle.project_sources.specs.Faults.{fault}
 use Rattle.project_sources.specs.Sources.{Said, project_in}
 use Rattle.project_store.specs.Building.{AreBuilt, IsBuiltAt, IsThere}
 use Rattle.project_store.specs.Loaded.{IsLoadedFrom, LoadedView}
+use Rattle.project_store.specs.Sharing.{StayThere}
 use Rattle.project_store.specs.declared.centres.Outcome.{Outcome}
-use Rattle.project_store.specs.declared.centres.Outcome.TheVariants.{Built, EmptyCentre, Behind}
+use Rattle.project_store.specs.declared.centres.Outcome.TheVariants.{Built, EmptyCentre, Behind, Stands}
 use Rattle.project_store.specs.declared.store_error.StoreError.{StoreError}
 use Rattle.project_store.specs.declared.store_error.StoreError.TheVariants.{Memory, Refused}
 
@@ -67,10 +68,11 @@ abbrev pub HasNoNetwork : List (Option Network) → Atom → Type 0
 HasNoNetwork built (Sym s) = ⊥
 HasNoNetwork built (Name place) = slice_get built place ≡ Some None
 
--- what comes of the definition at a place, of the networks that are built: its network; an empty centre; or it refers to a definition
--- that has no network
+-- what comes of the definition at a place, of the networks that are built: it has its network already, or gets it; it has an empty
+-- centre; or it refers to a definition that has no network
 abbrev pub IsOutcome : LoadedView → List (Option Network) → ℕ → Outcome → Type 0
-IsOutcome loaded built place (Built n) = IsBuiltAt loaded place n × OfPlace loaded place IsFree
+IsOutcome loaded built place Stands = IsThere built place
+IsOutcome loaded built place (Built n) = IsBuiltAt loaded place n × OfPlace loaded place IsFree × (slice_get built place ≡ Some None)
 IsOutcome loaded built place EmptyCentre = OfPlace loaded place HasEmptyCentre
 IsOutcome loaded built place Behind = (other : ℕ) × Refers (references_of loaded.definitions) place other × (slice_get built other ≡ Some None)
 
@@ -83,9 +85,11 @@ abbrev pub with_empty : Outcome → ℕ → List Bool → List Bool
 with_empty EmptyCentre place empty = slice_set empty place true
 with_empty _ place empty = empty
 
--- the networks are those of their places, and each definition with a centre has its network
+-- the networks are those of their places, whose definitions neither have nor reach an empty centre, and each definition with a centre
+-- has its network
 pub record CentresAreBuilt (loaded : LoadedView) (built : List (Option Network)) : Type 0 where
   pub are : AreBuilt loaded built
+  pub free : (place : ℕ) (n : Network) → slice_get built place ≡ Some (Some n) → OfPlace loaded place IsFree
   pub plain : (place : ℕ) → slice_get built place ≡ Some None → HasNoCentre loaded place
 
 -- of each definition it is told whether it has an empty centre; where none has, those with a centre have their networks
@@ -121,4 +125,4 @@ IsCentreError loaded (Refused found) =
 pub record HasFilled (loaded : LoadedView) (place : ℕ) (old new : List (Option Network)) : Type 0 where
   pub are : CentresAreBuilt loaded new
   pub there : IsThere new place
-  pub kept : (other : ℕ) → IsThere old other → IsThere new other
+  pub stay : StayThere old new

@@ -1,5 +1,6 @@
 pub mod Loaded
 pub mod Projects
 pub mod Building
+pub mod Sharing
 pub mod Centres
 pub mod Networks

@@ -7,6 +7,7 @@ ghost use Rattle.project_store.specs.Centres.{CentresAreBuilt, HasFilled, HasNoC
 ghost use Rattle.project_store.specs.Building.{AreBuilt, AreNamesAmong, ArePartsOf, HasParts, HasPut, IsBuiltAt, IsThere, expression_leaves};
 
 use crate::project::Project;
+use crate::shared::Shared;
 use expr_leaves::leaves;
 use network_build::{BuildError, Network, Part, body_expressions, build};
 use project_definitions::Body;
@@ -47,12 +48,13 @@ fn names_among(
 /// Puts the part of a name behind others, where there is a name and it has a network.
 fn add_part<'a>(
     name: Option<u32>,
-    network: &'a Option<Network>,
+    network: &'a Option<Shared>,
     parts: &mut Vec<Part<'a>>,
 ) -> Result<(), AllocError>
     ensures { OnOk result (HasPut name network.now parts.old.items parts.new.items) }
 {
-    if let (Some(name), Some(network)) = (name, network) {
+    if let (Some(name), Some(shared)) = (name, network) {
+        let network = shared.network();
         parts.push(Part { name, network })?;
     }
     Ok(())
@@ -62,7 +64,7 @@ fn add_part<'a>(
 fn parts_at<'a>(
     alloc: Global,
     names: &[Option<u32>],
-    built: &'a [Option<Network>],
+    built: &'a [Option<Shared>],
 ) -> Result<Vec<Part<'a>>, AllocError>
     requires count { length names.now ≡ length built.now }
     requires own { (place name : ℕ) → slice_get names.now place ≡ Some (Some name) → name ≡ place }
@@ -91,7 +93,7 @@ pub fn leaves_of(alloc: Global, body: &Body<Atom>) -> Result<Vec<&Atom>, AllocEr
 fn parts_of<'a>(
     alloc: Global,
     body: &Body<Atom>,
-    built: &'a [Option<Network>],
+    built: &'a [Option<Shared>],
 ) -> Result<Vec<Part<'a>>, AllocError>
     ensures { IfOk result (λ parts. (names : List (Option ℕ)) × (length names ≡ length built.now) × AreNamesAmong (expression_leaves (body_of body.now)) names × ArePartsOf names built.now parts.items) }
 {
@@ -105,7 +107,7 @@ pub fn built_of(
     alloc: Global,
     project: &Project,
     place: usize,
-    built: &[Option<Network>],
+    built: &[Option<Shared>],
 ) -> Result<Network, BuildError>
     requires place { place < length project.now.definitions }
     requires built { AreBuilt project.now built.now }
@@ -126,13 +128,14 @@ fn plainly_built(
     alloc: Global,
     project: &Project,
     place: usize,
-    built: &[Option<Network>],
+    built: &[Option<Shared>],
 ) -> Result<Network, AllocError>
     requires place { place < length project.now.definitions }
     requires built { AreBuilt project.now built.now }
     requires parts { HasParts project.now built.now place }
     requires plain { HasNoCentre project.now place }
-    ensures { IfOk result (IsBuiltAt project.now place) }
+    ensures network { IfOk result (IsBuiltAt project.now place) }
+    ensures filled { OnOk result (OfPlace project.now place HasNoOwn) }
 {
     match built_of(alloc, project, place, built) {
         Ok(network) => Ok(network),
@@ -142,7 +145,7 @@ fn plainly_built(
 }
 
 /// No networks, for so many definitions.
-pub fn none_built(alloc: Global, count: usize) -> Result<Vec<Option<Network>>, AllocError>
+pub fn none_built(alloc: Global, count: usize) -> Result<Vec<Option<Shared>>, AllocError>
     ensures count { IfOk result (λ built. length built.items ≡ count) }
     ensures none { IfOk result (λ built. (place : ℕ) → place < count → slice_get built.items place ≡ Some None) }
 {
@@ -154,7 +157,7 @@ pub fn none_built(alloc: Global, count: usize) -> Result<Vec<Option<Network>>, A
 }
 
 /// Whether the definition at a place has its network.
-fn has_network(built: &[Option<Network>], place: usize) -> bool
+pub fn has_network(built: &[Option<Shared>], place: usize) -> bool
     requires { place < length built.now }
     ensures yes { OnTrue result (IsThere built.now place) }
     ensures no { OnFalse result (slice_get built.now place ≡ Some None) }
@@ -170,7 +173,7 @@ pub fn fill(
     alloc: Global,
     project: &Project,
     place: usize,
-    built: &mut Vec<Option<Network>>,
+    built: &mut Vec<Option<Shared>>,
 ) -> Result<(), AllocError>
     requires place { place < length project.now.definitions }
     requires built { CentresAreBuilt project.now built.old.items }
@@ -181,12 +184,13 @@ pub fn fill(
         return Ok(());
     }
     let network = plainly_built(alloc, project, place, built)?;
-    built[place] = Some(network);
+    let shared = Shared::of(alloc, network)?;
+    built[place] = Some(shared);
     Ok(())
 }
 
 /// Takes the network at a place.
-fn taken(built: &mut [Option<Network>], place: usize) -> Network
+fn taken(built: &mut [Option<Shared>], place: usize) -> Shared
     requires { IsThere built.old place }
     ensures { slice_get built.old place ≡ Some (Some result) }
 {
@@ -201,7 +205,7 @@ fn taken(built: &mut [Option<Network>], place: usize) -> Network
 pub fn network_at(
     alloc: Global,
     project: &Project,
-    mut built: Vec<Option<Network>>,
+    mut built: Vec<Option<Shared>>,
     place: usize,
 ) -> Result<Network, AllocError>
     requires place { place < length project.now.definitions }
@@ -213,7 +217,7 @@ pub fn network_at(
     'order: for next in order {
         fill(alloc, project, *next, &mut built)?;
         if *next == place {
-            return Ok(taken(&mut built, place));
+            return taken(&mut built, place).into_network(alloc);
         }
     }
     unreachable!()

@@ -7,10 +7,12 @@ ghost use Rattle.regex_ast.specs.declared.expr.Atom.{Atom as Leaf};
 ghost use Rattle.regex_ast.specs.Terms.{term};
 ghost use Rattle.project_store.specs.Building.{expression_leaves};
 ghost use Rattle.project_store.specs.Centres.{AreClear, AreFree, AreTried, HasNoNetwork, IsFirstMark, IsOutcome, body_centres, with_empty, with_network};
+ghost use Rattle.project_store.specs.Sharing.{StayThere};
 
-use crate::building::{built_of, leaves_of, none_built};
+use crate::building::{built_of, has_network, leaves_of};
 use crate::project::Project;
-use network_build::{BuildError, Network, body_expressions};
+use crate::shared::Shared;
+use network_build::{BuildError, body_expressions};
 use network_centres::centres;
 use project_definitions::{Body, Definition};
 use regex_ast::{Atom, Expr};
@@ -19,8 +21,10 @@ use std::alloc::{AllocError, Global};
 /// What comes of a definition that is tried.
 #[derive(Drop)]
 pub enum Outcome {
+    /// It has its network already.
+    Stands,
     /// Its network.
-    Built(Network),
+    Built(Shared),
     /// One of its own centres has the empty word.
     EmptyCentre,
     /// It refers to a definition of which nothing was built.
@@ -31,22 +35,19 @@ pub enum Outcome {
 #[derive(Drop)]
 pub struct Tried {
     /// The networks that are built.
-    pub built: Vec<Option<Network>>,
+    pub built: Vec<Option<Shared>>,
     /// Which definitions have an empty centre.
     pub empty: Vec<bool>,
 }
 
 impl Tried {
-    /// No definition was tried, of so many.
-    fn none(alloc: Global, count: usize) -> Result<Tried, AllocError>
-        ensures built { IfOk result (λ tried. length tried.built.items ≡ count) }
-        ensures none { IfOk result (λ tried. (place : ℕ) → place < count → slice_get tried.built.items place ≡ Some None) }
-        ensures empty { IfOk result (λ tried. tried.empty.items ≡ replicate count false) }
+    /// No definition was tried; these networks were there before.
+    fn none(alloc: Global, built: Vec<Option<Shared>>) -> Result<Tried, AllocError>
+        ensures built { IfOk result (λ tried. tried.built.items ≡ built.items) }
+        ensures empty { IfOk result (λ tried. tried.empty.items ≡ replicate (length built.items) false) }
     {
-        Ok(Tried {
-            built: none_built(alloc, count)?,
-            empty: vec![in alloc; false; count]?,
-        })
+        let empty = vec![in alloc; false; built.len()]?;
+        Ok(Tried { built, empty })
     }
 
     /// The place of the first definition that has an empty centre.
@@ -71,7 +72,7 @@ impl Tried {
         match outcome {
             Outcome::Built(network) => self.built[place] = Some(network),
             Outcome::EmptyCentre => self.empty[place] = true,
-            Outcome::Behind => {}
+            Outcome::Stands | Outcome::Behind => {}
         }
     }
 }
@@ -116,7 +117,7 @@ fn end_of_centres(
 }
 
 /// Whether a leaf is the name of a definition that has no network.
-fn has_no_network(leaf: &Atom, built: &[Option<Network>]) -> bool
+fn has_no_network(leaf: &Atom, built: &[Option<Shared>]) -> bool
     ensures yes { OnTrue result (HasNoNetwork built.now leaf.now) }
     ensures no { OnFalse result (HasNoNetwork built.now leaf.now → ⊥) }
 {
@@ -130,7 +131,7 @@ fn has_no_network(leaf: &Atom, built: &[Option<Network>]) -> bool
 fn lacks_part(
     alloc: Global,
     body: &Body<Atom>,
-    built: &[Option<Network>],
+    built: &[Option<Shared>],
 ) -> Result<bool, AllocError>
     ensures yes { IfOk result (λ lacks. OnTrue lacks ((leaf : Leaf) × Contains (expression_leaves (body_of body.now)) leaf × HasNoNetwork built.now leaf)) }
     ensures no { IfOk result (λ lacks. OnFalse lacks (All (λ leaf. HasNoNetwork built.now leaf → ⊥) (expression_leaves (body_of body.now)))) }
@@ -144,39 +145,51 @@ fn lacks_part(
     Ok(false)
 }
 
-/// Tries the definition at a place. One that refers to a definition without network isn't built.
+/// Tries the definition at a place. One that has its network already, and one that refers to a definition without network, isn't built.
 fn outcome_of(
     alloc: Global,
     project: &Project,
     place: usize,
-    built: &[Option<Network>],
+    built: &[Option<Shared>],
 ) -> Result<Outcome, AllocError>
     requires place { place < length project.now.definitions }
     requires free { AreFree project.now built.now }
     ensures { IfOk result (IsOutcome project.now built.now place) }
 {
+    if has_network(built, place) {
+        return Ok(Outcome::Stands);
+    }
     let plan = project.plan();
     let all = plan.definitions();
     if lacks_part(alloc, &all[place].body, built)? {
         return Ok(Outcome::Behind);
     }
     match built_of(alloc, project, place, built) {
-        Ok(network) => Ok(Outcome::Built(network)),
+        Ok(network) => {
+            let shared = Shared::of(alloc, network)?;
+            Ok(Outcome::Built(shared))
+        }
         Err(BuildError::EmptyCentre { .. }) => Ok(Outcome::EmptyCentre),
         Err(BuildError::Memory(error)) => Err(error),
     }
 }
 
 /// Tries definitions in the order of the project, until all with centres are tried. One that refers to an empty centre, in any
-/// number of steps, has no network.
-pub fn try_centres(alloc: Global, project: &Project) -> Result<Tried, AllocError>
-    ensures { IfOk result (λ tried. AreTried project.now tried.built.items tried.empty.items) }
+/// number of steps, has no network. Those whose networks are built before have no empty centre, and aren't built again.
+pub fn try_centres(
+    alloc: Global,
+    project: &Project,
+    built: Vec<Option<Shared>>,
+) -> Result<Tried, AllocError>
+    requires { AreFree project.now built.items }
+    ensures tried { IfOk result (λ tried. AreTried project.now tried.built.items tried.empty.items) }
+    ensures stay { IfOk result (λ tried. StayThere built.items tried.built.items) }
 {
     let plan = project.plan();
     let definitions = plan.definitions();
     let order = plan.order();
     let end = end_of_centres(alloc, definitions, order)?;
-    let mut tried = Tried::none(alloc, definitions.len())?;
+    let mut tried = Tried::none(alloc, built)?;
     let front = &order[..end];
     'order: for place in front {
         let outcome = outcome_of(alloc, project, *place, &tried.built)?;

@@ -14,9 +14,10 @@ use crate::building::network_at;
 use crate::glosses::gloss_in;
 use crate::project::Project;
 use crate::ready::Ready;
+use crate::shared::Shared;
 use fsm_base::Text;
 use lookup_answers::Direction;
-use network_build::{Compiled, Network as NetworkOf};
+use network_build::Compiled;
 use reply_text::no_net;
 use std::alloc::{AllocError, Global};
 use std::marker::Model;
@@ -49,7 +50,7 @@ impl Model for Network {
 fn find_net(
     alloc: Global,
     project: &Project,
-    built: Vec<Option<NetworkOf>>,
+    built: Vec<Option<Shared>>,
     name: &str,
 ) -> Result<Option<Compiled>, AllocError>
     requires { CentresAreBuilt project.now built.items }

@@ -1,14 +1,17 @@
-ghost use Rattle.std.specs.Prelude.{◌≡◌, ◌<◌, [], All, Contains, IfOk, MatchOption, Some, length, slice_get};
+ghost use Rattle.std.specs.Prelude.{◌≡◌, ◌<◌, ℕ, List, [], All, Contains, IfOk, MatchOption, Some, length, slice_get};
+ghost use Rattle.expr_kinds.specs.Atoms.{kind_at};
 ghost use Rattle.project_model.specs.Plans.{IsPlan};
 ghost use Rattle.project_definitions.specs.declared.definition.Definition.{Definition};
 ghost use Rattle.project_model.specs.Stands.{Stands};
+ghost use Rattle.project_meaning.specs.Forms.{kind_in};
+ghost use Rattle.project_meaning.specs.Projects.{names_of};
 ghost use Rattle.project_sources.specs.Laws.{IsSoundProject};
 ghost use Rattle.project_sources.specs.Sources.{Said, project_in};
 ghost use Rattle.project_store.specs.Loaded.{AreNames, IsLoadedFrom, plan_in};
 
 use fsm_base::{Alphabet, SymbolTable, Text};
 use interlinear::GlossTable;
-use project_model::Plan;
+use project_model::{Kind, Plan};
 use std::alloc::{AllocError, Global};
 use std::marker::Model;
 
@@ -85,6 +88,17 @@ impl Project {
             }
         }
         None
+    }
+
+    /// Whether the definition at a place is a language or a relation, by its form.
+    pub fn kind_at(&self, place: usize) -> Kind
+        requires { place < length self.now.definitions }
+        ensures form { result ≡ kind_at self.now.forms place }
+        ensures kind { (said : Said) (name : List ℕ) → IsLoadedFrom said self.now → slice_get (names_of said.written) place ≡ Some name → result ≡ kind_in (project_in said) name }
+    {
+        // In this order each definition has its form by those before it.
+        let _ = self.plan.order();
+        self.plan.forms()[place].kind
     }
 
     /// The names of the project in the order of their bytes.

@@ -1,12 +1,15 @@
 ghost use Rattle.std.specs.Prelude.{◌≡◌, IfOk, IfErr, OnOk};
 ghost use Rattle.regex_ast.specs.declared.fault.Why.TheVariants as why;
 ghost use Rattle.project_sources.specs.Faults.{fault};
-ghost use Rattle.project_store.specs.Centres.{HasNoEmptyCentre, IsCentreError};
-ghost use Rattle.project_store.specs.Projects.{IsOfSources, IsWhyNot};
+ghost use Rattle.project_store.specs.Centres.{AreFree, CentresAreBuilt, HasNoEmptyCentre, IsCentreError};
+ghost use Rattle.project_store.specs.Projects.{IsOfSources, IsRead, IsWhyNot};
+ghost use Rattle.project_store.specs.Sharing.{StayThere};
 
+use crate::building::none_built;
 use crate::centres::try_centres;
 use crate::project::Project;
 use crate::ready::Ready;
+use crate::shared::Shared;
 use crate::store_error::StoreError;
 use fsm_base::SymbolTable;
 use project_definitions::Definition;
@@ -26,18 +29,39 @@ fn empty_centre(definition: &Definition) -> Result<Fault, AllocError>
     })
 }
 
-/// The project with the networks that tell of its centres, or its fault where a definition has an empty centre.
-fn with_centres(alloc: Global, project: Project) -> Result<Ready, StoreError>
-    ensures same { IfOk result (λ new. new ≡ project) }
-    ensures filled { OnOk result (HasNoEmptyCentre project) }
-    ensures error { IfErr result (IsCentreError project) }
+/// The networks that tell that no definition of a project has an empty centre, at the places of their definitions, or the fault of the
+/// first definition that has one. Networks that were built before stay, and aren't built again: they are those of definitions that
+/// neither have nor reach an empty centre.
+pub fn with_centres(
+    alloc: Global,
+    project: &Project,
+    built: Vec<Option<Shared>>,
+) -> Result<Vec<Option<Shared>>, StoreError>
+    requires { AreFree project.now built.items }
+    ensures built { IfOk result (λ all. CentresAreBuilt project.now all.items) }
+    ensures stay { IfOk result (λ all. StayThere built.items all.items) }
+    ensures filled { OnOk result (HasNoEmptyCentre project.now) }
+    ensures error { IfErr result (IsCentreError project.now) }
 {
-    let tried = try_centres(alloc, &project)?;
+    let tried = try_centres(alloc, project, built)?;
     let Some(place) = tried.first_empty() else {
-        return Ok(Ready::of(project, tried.built));
+        return Ok(tried.built);
     };
     let fault = empty_centre(&project.plan().definitions()[place])?;
     Err(StoreError::Refused(fault))
+}
+
+/// The project that sources say, before it is seen whether one of its definitions has an empty centre; or their first fault.
+pub fn read(alloc: Global, sources: &Sources) -> Result<Project, StoreError>
+    ensures project { IfOk result (IsRead sources.now) }
+    ensures error { IfErr result (IsWhyNot sources.now) }
+{
+    let mut table = SymbolTable::new(alloc);
+    match read_project(alloc, sources, &mut table) {
+        Ok(plan) => Ok(Project::of(alloc, plan, &table)?),
+        Err(PlanError::Refused(fault)) => Err(StoreError::Refused(fault)),
+        Err(PlanError::Memory(error)) => Err(StoreError::Memory(error)),
+    }
 }
 
 /// The project of sources, or their first fault.
@@ -45,10 +69,8 @@ pub fn project_of(alloc: Global, sources: &Sources) -> Result<Ready, StoreError>
     ensures project { IfOk result (IsOfSources sources.now) }
     ensures error { IfErr result (IsWhyNot sources.now) }
 {
-    let mut table = SymbolTable::new(alloc);
-    match read_project(alloc, sources, &mut table) {
-        Ok(plan) => with_centres(alloc, Project::of(alloc, plan, &table)?),
-        Err(PlanError::Refused(fault)) => Err(StoreError::Refused(fault)),
-        Err(PlanError::Memory(error)) => Err(StoreError::Memory(error)),
-    }
+    let project = read(alloc, sources)?;
+    let none = none_built(alloc, project.plan().definitions().len())?;
+    let built = with_centres(alloc, &project, none)?;
+    Ok(Ready::of(project, built))
 }

@@ -1,5 +1,5 @@
 use crate::project::Project;
-use network_build::Network;
+use crate::shared::Shared;
 use std::marker::Model;
 
 /// A project without an empty centre, with the networks that were built to see that. Contracts see the project.
@@ -8,7 +8,7 @@ pub struct Ready {
     /// The project.
     project: Project,
     /// The networks of the definitions with centres, and of those to which these refer, each at its place.
-    built: Vec<Option<Network>>,
+    built: Vec<Option<Shared>>,
 }
 
 impl Model for Ready {
@@ -33,7 +33,7 @@ impl Ready {
     ghost use Rattle.project_store.specs.Centres.{CentresAreBuilt};
 
     /// The project with its networks.
-    pub fn of(project: Project, built: Vec<Option<Network>>) -> Ready
+    pub fn of(project: Project, built: Vec<Option<Shared>>) -> Ready
         requires { CentresAreBuilt project built.items }
         ensures { result ≡ project }
     {
@@ -48,7 +48,7 @@ impl Ready {
     }
 
     /// The project and the networks.
-    pub fn into_parts(self) -> (Project, Vec<Option<Network>>)
+    pub fn into_parts(self) -> (Project, Vec<Option<Shared>>)
         ensures project { result.0 ≡ self }
         ensures built { CentresAreBuilt result.0 result.1.items }
     {

@@ -1,11 +1,10 @@
 -- The names of a project, and those of places that are touched, sorted.
-use Rattle.std.proofs.Common.{◌≡◌, ◌⊎◌, ◌<◌, ℕ, List, [], length, map, get_or, All, AllPairs, Contains, Some, Result, Ok, Err, IfOk, Vec, Global, slice_get, sym, ap, subst, ◌∙◌, inl, inr, arith}
+use Rattle.std.proofs.Common.{◌≡◌, ◌⊎◌, ◌<◌, ℕ, List, [], length, map, get_or, All, AllPairs, Contains, Some, slice_get, sym, ap, subst, ◌∙◌, inl, inr, arith}
 use Rattle.std.proofs.lemmas.Bool.{cases_order}
 use Rattle.std.proofs.lemmas.List.{length-map}
 use Rattle.std.proofs.lemmas.List.Elements.{All-contains_itself, All-weaker}
 use Rattle.std.proofs.lemmas.List.Sorted.{Contains-permutation, IsPermutation-sym}
 use Rattle.std.proofs.lemmas.Option.{get_or_from_slice_get, same_Some, slice_get-get_or, slice_get-map, slice_get_within}
-use Rattle.std.specs.declared.alloc.AllocError.{AllocError}
 use Rattle.std.specs.Cmp.Lexicographic.{slice_cmp}
 use Rattle.std.specs.List.Sorted.{IsPermutation, IsSorted}
 use Rattle.std.specs.Option.{option_map}
@@ -18,7 +17,7 @@ use Rattle.editor_meaning.specs.Editing.{AreNames}
 use Rattle.project_meaning.specs.Projects.{Defines, Project}
 use Rattle.project_meaning.specs.Touched.{Touched}
 use Rattle.project_definitions.specs.declared.definition.Definition.{Definition}
-use Rattle.project_sources.specs.Sources.{Said, project_in}
+use Rattle.project_sources.specs.Sources.{Said}
 use Rattle.project_store.specs.Loaded.{AreNames as AreProjectNames, IsLoadedFrom, LoadedView}
 use Rattle.project_store.proofs.Ordered.{in_order_from_sorted}
 use Rattle.touched_names.specs.Touched.{AreTouched, StandFor}
@@ -118,26 +117,3 @@ pub stand_as : (said : Said) (loaded : LoadedView) → IsLoadedFrom said loaded 
 stand_as said loaded from ds symbols same same_symbols =
     subst (λ (d : List Definition). StandFor said d symbols) (sym same)
     (subst (λ (a : List (Sym × List ℕ)). StandFor said loaded.definitions a) (sym same_symbols) (stand_for said loaded from))
-
--- the names at the places that are touched
-module _ (was is : Said) (new : LoadedView) (from : IsLoadedFrom is new) (places : List ℕ) (r : Result (Vec (List ℕ) Global) AllocError) where
-  abbrev AreMoved : List Definition → List ℕ → Type 0
-  AreMoved ds seen = All (λ p. p < length ds) seen → IfOk r (λ names. IsPermutation (map (name_at ds) seen) names.items)
-
-  abbrev AreTheNames : Vec (List ℕ) Global → Type 0
-  AreTheNames names = AreNames (Touched (project_in was) (project_in is)) names.items
-
-  sorted_names : AreTouched (project_in was) (project_in is) new.definitions places → AreMoved new.definitions places → IfOk r (λ names. IsSorted (slice_cmp nat_cmp) names.items) → IfOk r AreTheNames
-  sorted_names are moved up = both r (λ names. IsPermutation (map (name_at new.definitions) places) names.items) (λ names. IsSorted (slice_cmp nat_cmp) names.items) AreTheNames
-      (λ names permuted sorted. names_touched (project_in was) (project_in is) new.definitions from.plan.names places are names.items permuted sorted)
-      (moved (all_within (project_in was) (project_in is) new.definitions from.plan.names places are)) up
-    where
-      both : (q : Result (Vec (List ℕ) Global) AllocError) (P Q R : Vec (List ℕ) Global → Type 0) → ((names : Vec (List ℕ) Global) → P names → Q names → R names) → IfOk q P → IfOk q Q → IfOk q R
-      both (Ok names) P Q R so h k = so names h k
-      both (Err error) P Q R so h k = tt
-
-  pub touched_sorted : (ds all : List Definition) (seen : List ℕ) → ds ≡ new.definitions → all ≡ new.definitions → seen ≡ places → AreTouched (project_in was) (project_in is) ds places → AreMoved all seen
-      → IfOk r (λ names. IsSorted (slice_cmp nat_cmp) names.items) → IfOk r AreTheNames
-  touched_sorted ds all seen same all_same seen_same are moved up =
-      sorted_names (subst (λ (d : List Definition). AreTouched (project_in was) (project_in is) d places) same are)
-      (subst (λ (d : List Definition). AreMoved d places) all_same (subst (AreMoved all) seen_same moved)) up

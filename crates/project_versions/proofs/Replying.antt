@@ -2,14 +2,11 @@
 use Rattle.std.proofs.Common.{◌≡◌, ◌<◌, ℕ, List, Contains, Option, Some, None, arith, get_or, length, map, refl, Result, IfOk, Vec, Global, slice_get, sym, ap, subst, ◌∙◌}
 use Rattle.std.proofs.lemmas.List.{length-map}
 use Rattle.std.proofs.lemmas.Option.{slice_get-map, slice_get_read}
-use Rattle.std.specs.Arc.{arc_value}
 use Rattle.std.specs.Option.{option_map}
-use Rattle.std.specs.declared.sync.Arc.{Arc}
 use Rattle.std.specs.declared.alloc.AllocError.{AllocError}
 use Rattle.lookup.specs.Nets.{NetView}
 use Rattle.fsm_base.specs.declared.letters.Sym.{Sym}
 use Rattle.interlinear.specs.Glosses.{Entry}
-use Rattle.network_build.specs.Networks.{CompiledView}
 use Rattle.project_meaning.specs.Projects.{Project}
 use Rattle.project_definitions.specs.declared.definition.Definition.{Definition}
 use Rattle.project_sources.specs.Edits.{Version}
@@ -19,16 +16,17 @@ use Rattle.project_sources.proofs.Once.{all_exact}
 use Rattle.project_store.specs.Networks.{Shows, ShowsName, ShowsNet}
 use Rattle.project_store.specs.Projects.{HasTable, IsOfSources}
 use Rattle.project_store.proofs.Shown.{name_here, same_name, shows_none}
-use Rattle.project_versions.specs.Networks.{AreNetworks, net_of}
+use Rattle.project_versions.specs.Networks.{AreNetworks, net_in}
+use Rattle.project_versions.specs.declared.networks.Built.{Built}
 use Rattle.project_versions.specs.Versions.{Stands, VersionView}
 
--- the automaton at a place, as it is reached through the shared networks
-pub net_there : (items : List (Arc CompiledView Global)) (place count : ℕ) (shared : Arc CompiledView Global) (compiled : CompiledView) (net : NetView) → place < count → length (map net_of items) ≡ count
-    → shared ≡ get_or items place shared → compiled ≡ arc_value shared → net ≡ compiled.net → slice_get (map net_of items) place ≡ Some net
-net_there items place count shared compiled net within size is is_value is_net =
-    let same = length-map items net_of in
-    let here : slice_get items place ≡ Some shared = slice_get_read items (length items) place shared refl (omega (arith, within, size, same)) is in
-    slice_get-map net_of items place ∙ ap (option_map net_of) here ∙ ap (λ (n : NetView). Some n) (sym (is_net ∙ ap (λ (z : CompiledView). z.net) is_value))
+-- the automaton at a place, as it is reached through the networks
+pub net_there : (items : List Built) (place count : ℕ) (built : Built) (net : NetView) → place < count → length (map net_in items) ≡ count → built ≡ get_or items place built → net ≡ net_in built
+    → slice_get (map net_in items) place ≡ Some net
+net_there items place count built net within size is is_net =
+    let same = length-map items net_in in
+    let here : slice_get items place ≡ Some built = slice_get_read items (length items) place built refl (omega (arith, within, size, same)) is in
+    slice_get-map net_in items place ∙ ap (option_map net_in) here ∙ ap (λ (n : NetView). Some n) (sym is_net)
 
 module _ (view : VersionView) (meant : Version) (stands : Stands view meant) where
   -- a network shows the project where the name means there what it does

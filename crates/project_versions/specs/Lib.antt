@@ -1,4 +1,5 @@
 pub mod Networks
+pub mod Keeping
 pub mod Versions
 pub mod Errors
 pub mod Rebuilt

@@ -10,12 +10,13 @@ ghost use Rattle.project_versions.specs.Errors.{IsWhyNotEdited};
 ghost use Rattle.project_versions.specs.Versions.{Stands};
 
 use crate::edit_error::EditError;
-use crate::rebuilt::rebuilt_names;
+use crate::keeping::{kept_networks, parts_of};
+use crate::rebuilt::{names_at, touched_places};
 use crate::version::Version;
 use fsm_base::Text;
 use project_edits::{Edit, apply};
 use project_sources::Sources;
-use project_store::{StoreError, project_of};
+use project_store::{StoreError, project_of, read, with_centres};
 use std::alloc::Global;
 
 /// The number of the version that is loaded.
@@ -34,7 +35,8 @@ pub fn load(alloc: Global, sources: Sources) -> Result<Version, StoreError>
     ensures error { IfErr result (IsWhyNot sources) }
 {
     let ready = project_of(alloc, &sources)?;
-    let version = Version::of(alloc, FIRST_VERSION, sources, ready)?;
+    let (project, built) = ready.into_parts();
+    let version = Version::of(alloc, FIRST_VERSION, sources, project, built, &[])?;
     Ok(version)
 }
 
@@ -49,7 +51,8 @@ pub struct Edited {
 }
 
 /// The next version, which a change makes of one: its edits, one after another, accepted or refused as one. An edit by itself is a
-/// change of one edit. The old version stays as it is, whatever comes of the change.
+/// change of one edit. The old version stays as it is, whatever comes of the change. Networks of names that aren't touched are handed on
+/// where each old symbol has its number in the new alphabet, too, and only the others are built.
 ///
 /// # Errors
 ///
@@ -69,8 +72,13 @@ pub fn edit(alloc: Global, old: &Version, change: &[Edit]) -> Result<Edited, Edi
         return Err(EditError::Full);
     }
     let sources = apply(alloc, change, old.sources())?;
-    let next = project_of(alloc, &sources)?;
-    let rebuilt = rebuilt_names(alloc, old.project(), next.project())?;
-    let version = Version::of(alloc, number + 1, sources, next)?;
+    let next = read(alloc, &sources)?;
+    let before = old.project();
+    let places = touched_places(alloc, before, &next)?;
+    let kept = kept_networks(alloc, before, old.networks(), &next, &places)?;
+    let parts = parts_of(alloc, &kept)?;
+    let built = with_centres(alloc, &next, parts)?;
+    let rebuilt = names_at(alloc, next.plan().definitions(), &places)?;
+    let version = Version::of(alloc, number + 1, sources, next, built, &kept)?;
     Ok(Edited { version, rebuilt })
 }

@@ -1,21 +1,62 @@
-ghost use Rattle.std.specs.Prelude.{◌≡◌, ◌<◌, ℕ, Some, IfOk, length, map, slice_get};
+ghost use Rattle.std.specs.Prelude.{◌≡◌, ◌<◌, ℕ, Some, IfOk, MatchOption, length, slice_get};
 ghost use Rattle.project_store.specs.Building.{IsThere};
 ghost use Rattle.project_store.specs.Centres.{CentresAreBuilt};
-ghost use Rattle.project_versions.specs.Networks.{AreAllBuilt, AreNetworks, IsReadyAt, StayBut, net_of};
+ghost use Rattle.project_store.specs.Sharing.{StayThere};
+ghost use Rattle.project_versions.specs.Networks.{AreAllBuilt, AreKeptIn, AreReady, IsKeptBy, IsReady, IsReadyAt, IsSame, net_in};
 
-use network_build::{Compiled, Network};
-use project_store::{Project, fill};
+use lookup::Net;
+use network_build::Compiled;
+use project_store::{Project, Shared, copied, fill};
 use std::alloc::{AllocError, Global};
 use std::sync::Arc;
+
+/// The network of a definition: by itself, of which others are made, and ready for look-ups. Versions share both.
+#[derive(Drop)]
+pub struct Built {
+    /// The network.
+    pub network: Shared,
+    /// The same, ready for look-ups.
+    pub compiled: Arc<Compiled>,
+}
+
+impl Built {
+    /// A network, which is made ready for look-ups.
+    fn of(alloc: Global, network: Shared) -> Result<Built, AllocError>
+        ensures network { IfOk result (λ built. built.network ≡ network) }
+        ensures ready { IfOk result (λ built. IsReady network (net_in built)) }
+    {
+        let copy = copied(alloc, network.network())?;
+        let compiled = Compiled::of(alloc, copy)?;
+        let compiled = Arc::new(alloc, compiled)?;
+        Ok(Built { network, compiled })
+    }
+
+    /// One more owner of the same networks. Nothing is copied.
+    pub fn share(&self) -> Result<Built, AllocError>
+        ensures { IfOk result (IsSame self.now) }
+    {
+        let network = self.network.share()?;
+        let compiled = Arc::try_clone(&self.compiled)?;
+        Ok(Built { network, compiled })
+    }
+
+    /// The network, ready for look-ups.
+    pub fn net(&self) -> &Net
+        ensures { result.now ≡ net_in self.now }
+    {
+        self.compiled.net()
+    }
+}
 
 /// The network of each definition, at its place. Those that are built already are kept.
 fn all_built(
     alloc: Global,
     project: &Project,
-    mut built: Vec<Option<Network>>,
-) -> Result<Vec<Option<Network>>, AllocError>
+    mut built: Vec<Option<Shared>>,
+) -> Result<Vec<Option<Shared>>, AllocError>
     requires { CentresAreBuilt project.now built.items }
-    ensures { IfOk result (λ all. AreAllBuilt project.now all.items) }
+    ensures all { IfOk result (λ all. AreAllBuilt project.now all.items) }
+    ensures stay { IfOk result (λ all. StayThere built.items all.items) }
 {
     let plan = project.plan();
     let order = plan.order();
@@ -25,48 +66,63 @@ fn all_built(
     Ok(built)
 }
 
-/// Takes the network at a place.
-fn taken(built: &mut [Option<Network>], place: usize) -> Network
-    requires { IsThere built.old place }
-    ensures taken { slice_get built.old place ≡ Some (Some result) }
-    ensures kept { StayBut place built.old built.new }
+/// What is kept at a place.
+fn kept_one(kept: &[Option<Built>], place: usize) -> Option<&Built>
+    ensures { MatchOption result ((one : Built) → slice_get kept.now place ≡ Some (Some one) → ⊥) (λ one. slice_get kept.now place ≡ Some (Some one.now)) }
 {
-    let Some(network) = built[place].take() else {
-        unreachable!()
-    };
-    network
+    match kept.get(place) {
+        Some(Some(built)) => Some(built),
+        _ => None,
+    }
 }
 
-/// Takes the network at a place and makes it ready for look-ups.
-fn ready_at(
-    alloc: Global,
-    built: &mut [Option<Network>],
-    place: usize,
-) -> Result<Arc<Compiled>, AllocError>
-    requires { IsThere built.old place }
-    ensures ready { IfOk result (λ shared. IsReadyAt built.old place (net_of shared)) }
-    ensures kept { StayBut place built.old built.new }
+/// Makes the network at a place ready for look-ups.
+fn ready_at(alloc: Global, all: &[Option<Shared>], place: usize) -> Result<Built, AllocError>
+    requires { IsThere all.now place }
+    ensures { IfOk result (IsReadyAt all.now place) }
 {
-    let network = taken(built, place);
-    let compiled = Compiled::of(alloc, network)?;
-    let shared = Arc::new(alloc, compiled)?;
-    Ok(shared)
+    let Some(network) = &all[place] else {
+        unreachable!()
+    };
+    let network = network.share()?;
+    Built::of(alloc, network)
+}
+
+/// The network at a place, ready for look-ups: where it is kept, it is so already.
+fn built_at(
+    alloc: Global,
+    all: &[Option<Shared>],
+    kept: &[Option<Built>],
+    place: usize,
+) -> Result<Built, AllocError>
+    requires there { IsThere all.now place }
+    requires kept { AreKeptIn kept.now all.now }
+    ensures ready { IfOk result (IsReadyAt all.now place) }
+    ensures kept { IfOk result (IsKeptBy kept.now place) }
+{
+    match kept_one(kept, place) {
+        Some(built) => built.share(),
+        None => ready_at(alloc, all, place),
+    }
 }
 
 /// The network of each definition of a project, ready for look-ups, at the definition's place. `built` has networks that are built
-/// already.
+/// already, and `kept` those among them that are ready for look-ups, too.
 pub fn networks_of(
     alloc: Global,
     project: &Project,
-    built: Vec<Option<Network>>,
-) -> Result<Vec<Arc<Compiled>>, AllocError>
-    requires { CentresAreBuilt project.now built.items }
-    ensures { IfOk result (λ networks. AreNetworks project.now (map net_of networks.items)) }
+    built: Vec<Option<Shared>>,
+    kept: &[Option<Built>],
+) -> Result<Vec<Built>, AllocError>
+    requires built { CentresAreBuilt project.now built.items }
+    requires kept { AreKeptIn kept.now built.items }
+    ensures ready { IfOk result (λ networks. AreReady project.now networks.items) }
+    ensures kept { IfOk result (λ networks. (place : ℕ) (b : Built) → slice_get networks.items place ≡ Some b → IsKeptBy kept.now place b) }
 {
-    let mut all = all_built(alloc, project, built)?;
+    let all = all_built(alloc, project, built)?;
     let mut networks = Vec::new(alloc);
     'places: for place in 0..all.len() {
-        networks.push(ready_at(alloc, &mut all, place)?)?;
+        networks.push(built_at(alloc, &all, kept, place)?)?;
     }
     Ok(networks)
 }

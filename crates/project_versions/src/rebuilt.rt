@@ -2,11 +2,10 @@ ghost use Rattle.std.specs.Prelude.{◌<◌, All, IfOk, length, map};
 ghost use Rattle.std.specs.Cmp.Lexicographic.{slice_cmp};
 ghost use Rattle.std.specs.List.Sorted.{IsPermutation, IsSorted};
 ghost use Rattle.std.specs.Ordering.{nat_cmp};
-ghost use Rattle.editor_meaning.specs.Editing.{AreNames};
-ghost use Rattle.project_meaning.specs.Touched.{Touched};
 ghost use Rattle.project_sources.specs.Sources.{Said, project_in};
 ghost use Rattle.project_store.specs.Loaded.{IsLoadedFrom};
 ghost use Rattle.project_versions.specs.Rebuilt.{name_at};
+ghost use Rattle.touched_names.specs.Touched.{AreTouched};
 
 use fsm_base::Text;
 use project_definitions::Definition;
@@ -15,7 +14,7 @@ use std::alloc::{AllocError, Global};
 use touched_names::{Stand, touched};
 
 /// The names of the definitions at places, in the order of their bytes. A place without definition has none.
-fn names_at(
+pub fn names_at(
     alloc: Global,
     definitions: &[Definition],
     places: &[usize],
@@ -33,9 +32,9 @@ fn names_at(
     Ok(names)
 }
 
-/// The names of a new project that are touched since an old one, in the order of their bytes.
-pub fn rebuilt_names(alloc: Global, old: &Project, new: &Project) -> Result<Vec<Text>, AllocError>
-    ensures { (was is : Said) → IsLoadedFrom was old.now → IsLoadedFrom is new.now → IfOk result (λ names. AreNames (Touched (project_in was) (project_in is)) names.items) }
+/// The places of the definitions of a new project whose names are touched since an old one, counted from 0 and ascending.
+pub fn touched_places(alloc: Global, old: &Project, new: &Project) -> Result<Vec<usize>, AllocError>
+    ensures { (was is : Said) → IsLoadedFrom was old.now → IsLoadedFrom is new.now → IfOk result (λ places. AreTouched (project_in was) (project_in is) new.now.definitions places.items) }
 {
     let before = old.plan();
     let plan = new.plan();
@@ -47,6 +46,5 @@ pub fn rebuilt_names(alloc: Global, old: &Project, new: &Project) -> Result<Vec<
         definitions: plan.definitions(),
         alphabet: new.alphabet(),
     };
-    let places = touched(alloc, stood, stands, plan.order())?;
-    names_at(alloc, plan.definitions(), &places)
+    touched(alloc, stood, stands, plan.order())
 }

@@ -1,30 +1,34 @@
-ghost use Rattle.std.specs.Prelude.{◌≡◌, ◌≤◌, ◌<◌, ◌+◌, ◌-◌, ◌^◌, List, Ok, IfOk, IfSome, length, map};
+ghost use Rattle.std.specs.Prelude.{◌≡◌, ◌≤◌, ◌<◌, ◌+◌, ◌-◌, ◌^◌, List, Contains, MatchOption, Ok, IfOk, IfSome, length, map};
 ghost use Rattle.std.specs.Option.{option_map};
 ghost use Rattle.editor_meaning.specs.Editing.{AreNames, most_edits};
+ghost use Rattle.fsm_base.specs.Alphabet.{symbols_of};
 ghost use Rattle.interlinear.specs.Glosses.{Entry};
+ghost use Rattle.project_definitions.specs.declared.definition.Definition.{Definition as Defined};
 ghost use Rattle.interlinear.specs.Replies.{GlossesText};
 ghost use Rattle.lookup.specs.Answering.{IsOverAlphabet};
+ghost use Rattle.project_meaning.specs.Forms.{kind_in};
 ghost use Rattle.project_meaning.specs.Projects.{Defines};
 ghost use Rattle.project_sources.specs.Edits.{Version as Meant};
 ghost use Rattle.project_sources.specs.Sources.{Said, project_in};
 ghost use Rattle.project_store.specs.Loaded.{IsLoadedFrom};
 ghost use Rattle.project_store.specs.Networks.{Shows};
 ghost use Rattle.project_store.specs.Projects.{HasTable, IsOfSources, Reads};
-ghost use Rattle.project_versions.specs.Networks.{AreNetworks, net_of};
+ghost use Rattle.project_store.specs.Centres.{CentresAreBuilt};
+ghost use Rattle.project_versions.specs.Networks.{AreKeptIn, AreNetworks, AreReady, net_in};
 ghost use Rattle.project_versions.specs.Versions.{IsVersion, Stands};
 ghost use Rattle.reply_meaning.specs.Replies.{RepliesToWord};
 
-use crate::networks::networks_of;
-use fsm_base::Text;
+use crate::networks::{Built, networks_of};
+use fsm_base::{Sym, Text};
 use lookup::Net;
 use lookup_answers::Direction;
-use network_build::Compiled;
+use project_definitions::Definition;
+use project_model::Kind;
 use project_sources::Sources;
-use project_store::{Project, Ready, gloss_in, reply_in};
+use project_store::{Project, Shared, gloss_in, reply_in};
 use reply_text::no_net;
 use std::alloc::{AllocError, Global};
 use std::marker::Model;
-use std::sync::Arc;
 
 /// A version of a project: its number, its files, and a network for each of its names, with the meaning that the name has in these
 /// files. Nothing changes it.
@@ -36,8 +40,8 @@ pub struct Version {
     sources: Sources,
     /// The project that they are.
     project: Project,
-    /// The network of each definition, ready for look-ups, at the definition's place.
-    networks: Vec<Arc<Compiled>>,
+    /// The network of each definition at the definition's place, by itself and ready for look-ups.
+    networks: Vec<Built>,
 }
 
 impl Model for Version {
@@ -46,32 +50,36 @@ impl Model for Version {
     ghost use Rattle.regex_ast.specs.contracts.twolc.PairPart as part;
     ghost use Rattle.std.specs.Prelude.{map};
     ghost use Rattle.std.specs.Coded.{codes};
-    ghost use Rattle.project_versions.specs.Networks.{net_of};
+    ghost use Rattle.project_versions.specs.Networks.{AreReady, net_in};
     ghost use Rattle.project_versions.specs.Versions.{IsVersion, VersionView};
 
     ghost Value = { VersionView };
 
     ghost coded = { Prim.hlevel (codes, (expr.the_row atom.the_row).coded, (expr.the_row (part.the_row atom.the_row)).coded) };
 
-    ghost view = { λ v. record { number = v.number; files = v.sources; loaded = v.project; nets = map net_of v.networks.items } };
+    ghost view = { λ v. record { number = v.number; files = v.sources; loaded = v.project; nets = map net_in v.networks.items } };
 
-    ghost invariant = { λ v. IsVersion (record { number = v.number; files = v.sources; loaded = v.project; nets = map net_of v.networks.items }) };
+    ghost invariant = { λ v. IsVersion (record { number = v.number; files = v.sources; loaded = v.project; nets = map net_in v.networks.items }) × AreReady v.project v.networks.items };
 }
 
 impl Version {
-    /// The version of this number of a project that is read from these files.
+    /// The version of this number of a project that is read from these files. `built` has networks that are built already, and `kept`
+    /// those among them that are ready for look-ups, too.
     pub(crate) fn of(
         alloc: Global,
         number: u64,
         sources: Sources,
-        ready: Ready,
+        project: Project,
+        built: Vec<Option<Shared>>,
+        kept: &[Option<Built>],
     ) -> Result<Version, AllocError>
         requires number { number ≤ most_edits + 1 }
-        requires files { IsOfSources sources ready }
-        ensures { (said : Said) → IsLoadedFrom said ready → Reads sources (Ok (project_in said)) → IfOk result (λ version. Stands version (record { number = number; files = sources; project = project_in said })) }
+        requires files { IsOfSources sources project }
+        requires built { CentresAreBuilt project built.items }
+        requires kept { AreKeptIn kept.now built.items }
+        ensures { (said : Said) → IsLoadedFrom said project → Reads sources (Ok (project_in said)) → IfOk result (λ version. Stands version (record { number = number; files = sources; project = project_in said })) }
     {
-        let (project, built) = ready.into_parts();
-        let networks = networks_of(alloc, &project, built)?;
+        let networks = networks_of(alloc, &project, built, kept)?;
         Ok(Version {
             number,
             sources,
@@ -102,11 +110,45 @@ impl Version {
         &self.project
     }
 
+    /// The network of each of its definitions, at the definition's place.
+    pub(crate) fn networks(&self) -> &[Built]
+        ensures ready { AreReady self.now.loaded result.now }
+        ensures nets { self.now.nets ≡ map net_in result.now }
+        ensures said { (said : Said) × IsLoadedFrom said self.now.loaded }
+    {
+        &self.networks
+    }
+
     /// The names that it defines, in the order of their bytes.
     pub fn names(&self, alloc: Global) -> Result<Vec<Text>, AllocError>
         ensures { (meant : Meant) → Stands self.now meant → IfOk result (λ names. AreNames (Defines meant.project) names.items) }
     {
         self.project.names(alloc)
+    }
+
+    /// The symbols of its alphabet, each once.
+    pub fn symbols(&self) -> &[Sym]
+        ensures { result.now ≡ symbols_of self.now.loaded.alphabet }
+    {
+        self.project.alphabet().symbols()
+    }
+
+    /// The definition of a name, or `None` where the project doesn't define the name.
+    pub fn definition(&self, name: &str) -> Option<&Definition>
+        ensures { MatchOption result ((d : Defined) → Contains self.now.loaded.definitions d → d.name ≡ name.now → ⊥) (λ definition. Contains self.now.loaded.definitions definition.now × (definition.now.name ≡ name.now)) }
+    {
+        let place = self.project.find(name)?;
+        Some(&self.project.plan().definitions()[place])
+    }
+
+    /// Whether a name is a language or a relation, by its definition's form, or `None` where the project doesn't define the name. A
+    /// definition of xfst has its expression's kind, where each name in it has that of its own definition; a network of lexc or twolc is a
+    /// relation.
+    pub fn kind(&self, name: &str) -> Option<Kind>
+        ensures { (meant : Meant) → Stands self.now meant → MatchOption result (¬ (Defines meant.project name.now)) (λ kind. Defines meant.project name.now × (kind ≡ kind_in meant.project name.now)) }
+    {
+        let place = self.project.find(name)?;
+        Some(self.project.kind_at(place))
     }
 
     /// The network of a name, ready for look-ups, if the project defines the name.

@@ -1,4 +1,6 @@
-use regex_ast::{Context, Expr, Group, Link, Mapping, Prefix, Raw, RuleSet, Side, Step, Suffix};
+use regex_ast::{
+    Context, Directed, Expr, Group, Link, Mapping, Prefix, Raw, RuleSet, Side, Step, Suffix, Way,
+};
 use std::alloc::AllocError;
 
 /// Writes a symbol that is no name: in quotes, or with each character escaped where quotes can't hold it.
@@ -114,6 +116,7 @@ pub fn print_expression(out: &mut String, expr: &Expr<Raw>) -> Result<(), AllocE
             print_contexts(out, "=> ", contexts)
         }
         Expr::Rules(rules) => print_rules(out, rules),
+        Expr::Directed(rule) => print_directed(out, rule),
         Expr::Steps(first, steps) => {
             print_expression(out, first)?;
             print_steps(out, steps)
@@ -196,13 +199,20 @@ fn print_rules(out: &mut String, rules: &RuleSet<Raw>) -> Result<(), AllocError>
 }
 
 #[cycle(print)]
+fn print_directed(out: &mut String, rule: &Directed<Raw>) -> Result<(), AllocError> {
+    let arrow = match rule.way {
+        Way::LeftLongest => "@-> ",
+        Way::LeftShortest => "@> ",
+        Way::RightLongest => "->@ ",
+        Way::RightShortest => ">@ ",
+    };
+    print_mappings(out, arrow, &rule.maps)?;
+    print_contexts(out, "|| ", &rule.contexts)
+}
+
+#[cycle(print)]
 fn print_group(out: &mut String, arrow: &str, group: &Group<Raw>) -> Result<(), AllocError> {
-    'maps: for (place, mapping) in group.maps.iter().enumerate() {
-        if place > 0 {
-            out.push_str(", ")?;
-        }
-        print_mapping(out, arrow, mapping)?;
-    }
+    print_mappings(out, arrow, &group.maps)?;
     let sign = match group.side {
         Side::UpUp => "|| ",
         Side::LowUp => "// ",
@@ -210,6 +220,21 @@ fn print_group(out: &mut String, arrow: &str, group: &Group<Raw>) -> Result<(), 
         Side::LowLow => "\\/ ",
     };
     print_contexts(out, sign, &group.contexts)
+}
+
+#[cycle(print)]
+fn print_mappings(
+    out: &mut String,
+    arrow: &str,
+    mappings: &[Mapping<Raw>],
+) -> Result<(), AllocError> {
+    'mappings: for (place, mapping) in mappings.iter().enumerate() {
+        if place > 0 {
+            out.push_str(", ")?;
+        }
+        print_mapping(out, arrow, mapping)?;
+    }
+    Ok(())
 }
 
 #[cycle(print)]

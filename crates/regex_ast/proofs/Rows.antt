@@ -1,11 +1,14 @@
 -- The terms of nodes with lists, from the items of the `Vec`s that hold them.
 use Rattle.std.proofs.Common.{◌≡◌, Bool, List, [], map, Vec, Box, Global, refl, ap, ◌∙◌}
-use Rattle.regex_ast.specs.Terms.{Term, empty, term, terms, then_term, ignore, concat, chain, links, or, and, less, only, contexts, between, rules, groups, then_group, mappings, plain, markup, insert, steps, steps_of, cross_with, then as compose, terms_of, links_of, contexts_of, steps_by, mappings_of, groups_of}
-use Rattle.regex_ast.specs.declared.expr.Expr.{Expr, Ignore, Ignore', Concat, Concat', Chain, Chain', Only, Only', Rules, Steps, Steps', Row_of-Context, end_of-Context, more_of-Context, items-the_row-Context, items_hidden-the_row-Context-2, Row_of-Step, end_of-Step, more_of-Step, items-the_row-Step, items_hidden-the_row-Step-3, Row_of-Expr, items_hidden-the_row-Expr-0, end_of-Expr, more_of-Expr, items-the_row-Expr, Row_of-Link, end_of-Link, more_of-Link, items-the_row-Link, items_hidden-the_row-Link-1}
+use Rattle.regex_ast.specs.Terms.{Term, empty, term, terms, then_term, ignore, concat, chain, links, or, and, less, only, contexts, between, rules, directed, groups, then_group, mappings, plain, markup, insert, steps, steps_of, cross_with, then as compose, terms_of, links_of, contexts_of, steps_by, mappings_of, groups_of}
+use Rattle.regex_ast.specs.declared.expr.Expr.{Expr, Ignore, Ignore', Concat, Concat', Chain, Chain', Only, Only', Rules, Directed, Steps, Steps', Row_of-Context, end_of-Context, more_of-Context, items-the_row-Context, items_hidden-the_row-Context-2, Row_of-Step, end_of-Step, more_of-Step, items-the_row-Step, items_hidden-the_row-Step-3, Row_of-Expr, items_hidden-the_row-Expr-0, end_of-Expr, more_of-Expr, items-the_row-Expr, Row_of-Link, end_of-Link, more_of-Link, items-the_row-Link, items_hidden-the_row-Link-1}
 use Rattle.regex_ast.specs.declared.expr.Context.{Context}
+use Rattle.regex_ast.specs.declared.expr.Way.{Way}
+use Rattle.regex_ast.specs.declared.expr.Directed.{Directed' as Directed_of, items_hidden-the_row-Mapping-4, roll-Directed}
+use Rattle.regex_ast.specs.declared.expr.Directed as directed_set
 use Rattle.regex_ast.specs.declared.expr.Group.{Group, Group' as Group_of, Row_of-Mapping, end_of-Mapping, more_of-Mapping, items-the_row-Mapping}
 use Rattle.regex_ast.specs.declared.expr.Link.{Link, Or, And, Less}
-use Rattle.regex_ast.specs.declared.expr.Mapping.{Plain, Markup, Insert}
+use Rattle.regex_ast.specs.declared.expr.Mapping.{Mapping, Plain, Markup, Insert}
 use Rattle.regex_ast.specs.declared.expr.RuleSet.{RuleSet, RuleSet', Row_of-Group, end_of-Group, more_of-Group, items-the_row-Group, items_hidden-the_row-Group-5, roll-RuleSet}
 use Rattle.regex_ast.specs.declared.expr.Step.{Step, CrossWith, Then}
 
@@ -143,3 +146,24 @@ term_groups (RuleSet' optional shape row) = ap (rules optional) (groups_of_row r
 pub term-Rules : {A : Type 0} (optional : Bool) (all : Vec (Group A) Global) → term (Rules (roll-RuleSet A (record { optional = optional; groups = all }))) ≡ rules optional (groups_of all.items)
 unfolding roll-RuleSet denote.Hole.Carrier.roll
 term-Rules {A} optional all = term_groups (roll-RuleSet A (record { optional = optional; groups = all })) ∙ ap (λ v. rules optional (groups_of v)) (items_hidden-the_row-Group-5 A all)
+
+abbrev maps_below : {A : Type 0} → directed_set.Directed A → List (Mapping A)
+maps_below {A} (Directed_of way shape maps shape' all) = items-the_row-Mapping A _ maps
+
+abbrev contexts_beside : {A : Type 0} → directed_set.Directed A → List (Context A)
+contexts_beside {A} (Directed_of way shape maps shape' all) = items-the_row-Context A _ all
+
+abbrev way_in : {A : Type 0} → directed_set.Directed A → Way
+way_in (Directed_of way shape maps shape' all) = way
+
+term_parts : {A : Type 0} (set : directed_set.Directed A) → term (Directed set) ≡ directed (way_in set) (mappings_of (maps_below set)) (contexts_of (contexts_beside set))
+term_parts {A} (Directed_of way shape maps shape' all) =
+    ap (λ ms. directed way ms (contexts all)) (mappings_of_row maps) ∙ ap (directed way (mappings_of (items-the_row-Mapping A _ maps))) (contexts_of_row all)
+
+-- what stands for a directed rule with the mappings and the contexts of `Vec`s
+pub term-Directed : {A : Type 0} (way : Way) (maps : Vec (Mapping A) Global) (all : Vec (Context A) Global) → term (Directed (roll-Directed A (record { way = way; maps = maps; contexts = all }))) ≡ directed way (mappings_of maps.items) (contexts_of all.items)
+unfolding roll-Directed denote.Hole.Carrier.roll
+term-Directed {A} way maps all =
+    term_parts (roll-Directed A (record { way = way; maps = maps; contexts = all }))
+    ∙ ap (λ v. directed way (mappings_of v) (contexts_of (contexts_beside (roll-Directed A (record { way = way; maps = maps; contexts = all }))))) (items_hidden-the_row-Mapping-4 A maps)
+    ∙ ap (λ v. directed way (mappings_of maps.items) (contexts_of v)) (items_hidden-the_row-Context-2 A all)

@@ -4,13 +4,15 @@ use Rattle.std.specs.Prelude.{ℕ, Bool, List, [], ◌∷◌}
 use Rattle.regex_ast.specs.declared.expr.Suffix.{Suffix}
 use Rattle.regex_ast.specs.declared.expr.Prefix.{Prefix}
 use Rattle.regex_ast.specs.declared.expr.Side.{Side}
-use Rattle.regex_ast.specs.declared.expr.Expr.{Expr, Empty, Any, Edge, Atom, Letters, Group', Maybe', NotOne', Cross', Suffixed', Prefixed', Ignore', Concat', Chain', Only', Rules, Steps', Row_of-Expr, end_of-Expr, more_of-Expr, Row_of-Link, end_of-Link, more_of-Link, Row_of-Context, end_of-Context, more_of-Context, Row_of-Step, end_of-Step, more_of-Step}
+use Rattle.regex_ast.specs.declared.expr.Way.{Way}
+use Rattle.regex_ast.specs.declared.expr.Expr.{Expr, Empty, Any, Edge, Atom, Letters, Group', Maybe', NotOne', Cross', Suffixed', Prefixed', Ignore', Concat', Chain', Only', Rules, Directed, Steps', Row_of-Expr, end_of-Expr, more_of-Expr, Row_of-Link, end_of-Link, more_of-Link, Row_of-Context, end_of-Context, more_of-Context, Row_of-Step, end_of-Step, more_of-Step}
 use Rattle.regex_ast.specs.declared.expr.Expr.{items-the_row-Context}
 use Rattle.regex_ast.specs.declared.expr.Context.{Context}
 use Rattle.regex_ast.specs.declared.expr.Link.{Link, Or, And, Less}
 use Rattle.regex_ast.specs.declared.expr.Step.{Step, CrossWith, Then}
 use Rattle.regex_ast.specs.declared.expr.Mapping.{Mapping, Plain, Markup, Insert}
 use Rattle.regex_ast.specs.declared.expr.RuleSet.{RuleSet', Row_of-Group, end_of-Group, more_of-Group}
+use Rattle.regex_ast.specs.declared.expr.Directed.{Directed' as Directed_of}
 use Rattle.regex_ast.specs.declared.expr.Group.{Group, Group' as Group_of, Row_of-Mapping, end_of-Mapping, more_of-Mapping, items-the_row-Mapping}
 
 mutual
@@ -31,6 +33,7 @@ mutual
     chain : Term A → Links A → Term A
     only : Term A → Contexts A → Term A
     rules : Bool → Groups A → Term A
+    directed : Way → Mappings A → Contexts A → Term A
     steps : Term A → Steps A → Term A
 
   pub data Terms (A : Type 0) : Type 0 where
@@ -86,6 +89,7 @@ abbrev mutual
   term (Chain' p e shape row) = chain (term e) (links row)
   term (Only' p e shape row) = only (term e) (contexts row)
   term (Rules (RuleSet' optional shape row)) = rules optional (groups row)
+  term (Directed (Directed_of way shape maps shape' all)) = directed way (mappings maps) (contexts all)
   term (Steps' p e shape row) = steps (term e) (steps_of row)
 
   pub terms : {A : Type 0} {n : _} → Row_of-Expr A n → Terms A

@@ -55,6 +55,8 @@ pub enum Expr<A> {
     Only(Box<Expr<A>>, Vec<Context<A>>),
     /// Replacement.
     Rules(RuleSet<A>),
+    /// Directed replacement.
+    Directed(Directed<A>),
     /// A row of `.x.` and `.o.`, from left to right.
     Steps(Box<Expr<A>>, Vec<Step<A>>),
 }
@@ -120,6 +122,18 @@ pub struct RuleSet<A> {
     pub groups: Vec<Group<A>>,
 }
 
+/// Mappings of which the longest or the shortest match goes first, from one end of the word (Karttunen, Directed Replacement, 1996).
+#[cycle(expr)]
+#[derive(Debug, Drop)]
+pub struct Directed<A> {
+    /// From which end, and which match.
+    pub way: Way,
+    /// The mappings.
+    pub maps: Vec<Mapping<A>>,
+    /// The contexts, one of which must hold on the upper side; where there are none, no context is asked for.
+    pub contexts: Vec<Context<A>>,
+}
+
 /// Mappings that share their contexts.
 #[cycle(expr)]
 #[derive(Debug, Drop)]
@@ -180,6 +194,19 @@ pub enum Side {
     UpLow,
     /// `\/`, both on the lower side.
     LowLow,
+}
+
+/// In which order matches are taken, and which of those at one place goes first (Karttunen, Directed Replacement, 1996).
+#[derive(Clone, Copy, Debug, PartialEq, Eq)]
+pub enum Way {
+    /// `@->`, from the left, the longest.
+    LeftLongest,
+    /// `@>`, from the left, the shortest.
+    LeftShortest,
+    /// `->@`, from the right, the longest.
+    RightLongest,
+    /// `>@`, from the right, the shortest.
+    RightShortest,
 }
 
 /// A definition of an xfst file.

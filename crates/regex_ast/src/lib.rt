@@ -1,6 +1,6 @@
 //! Plain types of the sources' syntax trees, their faults and flags.
 //!
-//! - [`Expr`]: an xfst expression, with [`RuleSet`], [`Group`], [`Mapping`] and [`Context`] for `->` and `=>`;
+//! - [`Expr`]: an xfst expression, with [`RuleSet`], [`Group`], [`Directed`], [`Mapping`] and [`Context`] for `->`, `@->` and `=>`;
 //!   [`Define`]: a definition of it.
 //! - [`Lexicon`], [`Entry`], [`Form`], [`Piece`]: a lexc file. [`FlagOp`]: a flag diacritic.
 //! - [`Grammar`], [`TwoLevelRule`], [`PairAtom`]: a twolc file.
@@ -14,7 +14,8 @@ mod lexc;
 mod twolc;
 
 pub use expr::{
-    Atom, Context, Define, Expr, Group, Link, Mapping, Prefix, Raw, RuleSet, Side, Step, Suffix,
+    Atom, Context, Define, Directed, Expr, Group, Link, Mapping, Prefix, Raw, RuleSet, Side, Step,
+    Suffix, Way,
 };
 pub use fault::{Fault, ReadError, Why};
 pub use lexc::{Entry, FlagKind, FlagOp, Form, Lexicon, Piece};

@@ -1,12 +1,13 @@
 -- The definitions at work: what they read of some lists of tokens.
 use Rattle.std.proofs.Common.{◌≡◌, ℕ, Some, None, List, [], ◌∷◌, true, false, refl}
 use Rattle.std.specs.Prelude.{codes}
-use Rattle.regex_ast.specs.Terms.{Term, empty, atom, group, not_one, cross, suffixed, concat, chain, only, rules, steps, no_term, then_term, no_link, or, no_context, between, no_step, cross_with, no_mapping, plain, markup, insert, no_group, then_group}
+use Rattle.regex_ast.specs.Terms.{Term, empty, atom, group, not_one, cross, suffixed, concat, chain, only, rules, directed, steps, no_term, then_term, no_link, or, no_context, between, no_step, cross_with, no_mapping, plain, markup, insert, no_group, then_group}
 use Rattle.regex_ast.specs.declared.expr.Raw.{Raw}
 use Rattle.regex_ast.specs.declared.expr.Raw.TheVariants.{Run as run_symbol}
 use Rattle.regex_ast.specs.declared.expr.Suffix.TheVariants.{Star as any_number, Power as times}
 use Rattle.regex_ast.specs.declared.expr.Side.TheVariants.{UpUp as up_up, LowUp as low_up}
-use Rattle.regex_tokens.specs.declared.token.Operator.TheVariants.{OpenSquare, CloseSquare, Optional, Arrow, Only, UpUp, Bar, LowUp, Backslash, Star, Caret, Colon, GroupComma, Comma, Underscore, Dots, CrossWith, Insertion}
+use Rattle.regex_ast.specs.declared.expr.Way.TheVariants.{LeftLongest as left_longest}
+use Rattle.regex_tokens.specs.declared.token.Operator.TheVariants.{OpenSquare, CloseSquare, Optional, Arrow, LeftLongest, Only, UpUp, Bar, LowUp, Backslash, Star, Caret, Colon, GroupComma, Comma, Underscore, Dots, CrossWith, Insertion}
 use Rattle.regex_tokens.specs.declared.token.Token.{Token}
 use Rattle.regex_tokens.specs.declared.token.Token.TheVariants.{Operator as operator, Run as run_token}
 use Rattle.regex_grammar.specs.Whole.{most_open}
@@ -66,6 +67,32 @@ other_arrow_left = refl
 other_arrow_refused : expression_at 1 (r a ∷ operator Arrow ∷ r b ∷ operator Comma ∷ r c ∷ operator Optional ∷ r d ∷ []) ≡ None
 unfolding expression_at
 other_arrow_refused = refl
+
+-- a @-> b , c @-> d ... || a _ , _ b
+a_directed_rule : expression_at 1 (r a ∷ operator LeftLongest ∷ r b ∷ operator Comma ∷ r c ∷ operator LeftLongest ∷ r d ∷ operator Dots ∷ operator UpUp ∷ r a ∷ operator Underscore ∷ operator Comma ∷ operator Underscore ∷ r b ∷ [])
+    ≡ Some (directed left_longest (plain (t a) (t b) (markup (t c) (t d) empty no_mapping)) (between (t a) empty (between empty (t b) no_context)), [])
+unfolding expression_at
+a_directed_rule = refl
+
+-- a @-> b // _: the reader stops before `//`
+other_side_left : expression_at 1 (r a ∷ operator LeftLongest ∷ r b ∷ operator LowUp ∷ operator Underscore ∷ []) ≡ Some (directed left_longest (plain (t a) (t b) no_mapping) no_context, operator LowUp ∷ operator Underscore ∷ [])
+unfolding expression_at
+other_side_left = refl
+
+-- a @-> b ,, c @-> d: and before `,,`
+group_left : expression_at 1 (r a ∷ operator LeftLongest ∷ r b ∷ operator GroupComma ∷ r c ∷ operator LeftLongest ∷ r d ∷ []) ≡ Some (directed left_longest (plain (t a) (t b) no_mapping) no_context, operator GroupComma ∷ r c ∷ operator LeftLongest ∷ r d ∷ [])
+unfolding expression_at
+group_left = refl
+
+-- a @-> b , c -> d
+plain_arrow_refused : expression_at 1 (r a ∷ operator LeftLongest ∷ r b ∷ operator Comma ∷ r c ∷ operator Arrow ∷ r d ∷ []) ≡ None
+unfolding expression_at
+plain_arrow_refused = refl
+
+-- [..] @-> a
+directed_insertion_refused : expression_at 1 (operator Insertion ∷ operator LeftLongest ∷ r a ∷ []) ≡ None
+unfolding expression_at
+directed_insertion_refused = refl
 
 -- [a], where no bracket may be opened
 too_deep : expression_at 1 (operator OpenSquare ∷ r a ∷ operator CloseSquare ∷ []) ≡ None

@@ -5,17 +5,19 @@ use Rattle.regex_ast.specs.Terms.{Term, empty}
 use Rattle.regex_ast.specs.declared.expr.Raw.{Raw}
 use Rattle.regex_ast.specs.declared.expr.Side.{Side}
 use Rattle.regex_ast.specs.declared.expr.Side.TheVariants.{UpUp as up_up, LowUp as low_up, UpLow as up_low, LowLow as low_low}
+use Rattle.regex_ast.specs.declared.expr.Way.{Way}
+use Rattle.regex_ast.specs.declared.expr.Way.TheVariants.{LeftLongest as left_longest, LeftShortest as left_shortest, RightLongest as right_longest, RightShortest as right_shortest}
 use Rattle.regex_tokens.specs.Fronts.{after}
 use Rattle.regex_tokens.specs.declared.token.Operator.{Operator}
-use Rattle.regex_tokens.specs.declared.token.Operator.TheVariants.{Optional, Arrow, Only, UpUp, LowUp, UpLow, LowLow, GroupComma, Comma, Underscore, Dots, Insertion}
+use Rattle.regex_tokens.specs.declared.token.Operator.TheVariants.{Optional, Arrow, LeftLongest, LeftShortest, RightLongest, RightShortest, Only, UpUp, LowUp, UpLow, LowLow, GroupComma, Comma, Underscore, Dots, Insertion}
 use Rattle.regex_tokens.specs.declared.token.Token.{Token}
 use Rattle.regex_tokens.specs.declared.token.Token.TheVariants.{Operator as operator}
 use Rattle.regex_tokens.proofs.Fronts.{after_takes, after_again}
 use Rattle.regex_grammar.specs.Rows.{Reader, Tailed, put_option, put_row, put_tailed, row_value, tailed_value, begins, option_at, tailed_at}
-use Rattle.regex_grammar.specs.Grammar.{ContextForm, ContextRow, Sided, RightSide, result, marks, Ruling, restricted, replaced, Nine, ruled, inserted, put_context, put_contexts, side_operator, put_sided, put_right, arrow_operator, put_mapping, put_group_tail, put_group, put_ruling, put_nine, part, ContextTerm, context_value, in_a_row, contexts_value, SidedTerm, sided_value, RightTerm, result_term, marks_term, right_value, mapping_by, mapping_value, right_and_more, group_tail_by, group_tail_value, group_by, group_value, RulingTerm, restriction, replacement_by, ruling_value, with_ruling, insertion_by, nine_term, put_behind}
-use Rattle.regex_grammar.specs.Reading.{is_level, is_insertion, context_behind, context_at, contexts_at, side_of, sided_at, dots_at, right_by, right_from, right_at, mapping_at, group_tail_at, group_at, replacement_at, ruling_at, arrow_of, insertion_at, nine_by, nine_at}
+use Rattle.regex_grammar.specs.Grammar.{ContextForm, ContextRow, Sided, RightSide, result, marks, MappingRow, Ruling, restricted, replaced, directed, Nine, ruled, inserted, put_context, put_contexts, side_operator, put_sided, put_right, arrow_operator, way_operator, put_mapping, put_mapping_row, put_group_tail, put_group, put_ruling, put_nine, part, ContextTerm, context_value, in_a_row, contexts_value, SidedTerm, sided_value, RightTerm, result_term, marks_term, right_value, mapping_by, mapping_value, right_and_more, mapping_row_value, group_tail_by, group_tail_value, group_by, group_value, RulingTerm, restriction, replacement_by, direction_by, ruling_value, with_ruling, insertion_by, nine_term, put_behind}
+use Rattle.regex_grammar.specs.Reading.{is_level, is_up_up, is_insertion, context_behind, context_at, contexts_at, side_of, sided_at, dots_at, right_by, right_from, right_at, mapping_at, mapping_row_at, group_tail_at, group_at, replacement_at, directed_at, ruling_at, arrow_of, insertion_at, nine_by, nine_at}
 use Rattle.regex_grammar.proofs.Cases.{map_some, then_some, same_some, either_way}
-use Rattle.regex_grammar.proofs.Exact.{Exact, Held, front_fails, front_passes, option_takes, option_again, option_grows, option_begun, row_exact, tailed_exact, mapped_exact}
+use Rattle.regex_grammar.proofs.Exact.{Exact, Follow, Held, front_fails, front_passes, option_takes, option_again, option_grows, option_begun, row_exact, tailed_exact, mapped_exact}
 use Rattle.regex_grammar.proofs.Operators.{goes_on, ends_smaller, starts_none, follow, no_after, stopped_after, Found, Forms, forms_exact, behind_exact, Joins, joins_exact}
 
 -- what begins a context, a right side and a level 9
@@ -172,19 +174,28 @@ arrow_ends : (arrow : Bool) → goes_on 8 (operator (arrow_operator arrow)) ≡ 
 arrow_ends true = refl
 arrow_ends false = refl
 
-mapping_joins : {C : Type 0} (arrow : Bool) (put : C → List Token → List Token) (says : C → Term Raw) → Joins (arrow_operator arrow) put (put_right put) says (right_value says) (λ c r. mapping_by c r) (put_mapping arrow put) (mapping_value says)
-mapping_joins arrow put says = record {
+way_ends : (way : Way) → goes_on 8 (operator (way_operator way)) ≡ false
+way_ends left_longest = refl
+way_ends left_shortest = refl
+way_ends right_longest = refl
+way_ends right_shortest = refl
+
+mapping_joins : {C : Type 0} (o : Operator) (put : C → List Token → List Token) (says : C → Term Raw) → Joins o put (put_right put) says (right_value says) (λ c r. mapping_by c r) (put_mapping o put) (mapping_value says)
+mapping_joins o put says = record {
   joined = λ c r. (record { centre = c; right = r }, (λ rest. refl), refl);
   parts = λ m. (m.centre, m.right, (λ rest. refl), refl);
 }
 
-pub mapping_exact : {C : Type 0} {read : Reader Token (Term Raw)} {put : C → List Token → List Token} {says : C → Term Raw} (arrow : Bool) → IsEight read put says → Exact (mapping_at arrow read) (put_mapping arrow put) (mapping_value says) (is_level 7) (goes_on 9)
-mapping_exact {put = put} {says = says} arrow h = joins_exact (arrow_ends arrow) h (right_exact h) (mapping_joins arrow put says)
+mapping_exact : {C : Type 0} {read : Reader Token (Term Raw)} {put : C → List Token → List Token} {says : C → Term Raw} (o : Operator) → goes_on 8 (operator o) ≡ false → IsEight read put says → Exact (mapping_at o read) (put_mapping o put) (mapping_value says) (is_level 7) (goes_on 9)
+mapping_exact {put = put} {says = says} o ends h = joins_exact ends h (right_exact h) (mapping_joins o put says)
+
+mapping_row_exact : {C : Type 0} {read : Reader Token (Term Raw)} {put : C → List Token → List Token} {says : C → Term Raw} (o : Operator) → goes_on 8 (operator o) ≡ false → IsEight read put says → Exact (mapping_row_at o read) (put_mapping_row o put) (mapping_row_value says) begins_right (goes_on 11)
+mapping_row_exact o ends h =
+    let mapping = behind_exact Comma (is_level 11) (λ m. m) refl (mapping_exact o ends h) in
+    row_exact right_and_more (right_exact h) mapping (follow 9 9 11 (omega arith) (omega arith))
 
 pub group_tail_exact : {C : Type 0} {read : Reader Token (Term Raw)} {put : C → List Token → List Token} {says : C → Term Raw} (arrow : Bool) → IsEight read put says → Exact (group_tail_at arrow read) (put_group_tail arrow put) (group_tail_value says) begins_right (goes_on 12)
-group_tail_exact arrow h =
-    let mapping = behind_exact Comma (is_level 11) (λ m. m) refl (mapping_exact arrow h) in
-    tailed_exact group_tail_by (row_exact right_and_more (right_exact h) mapping (follow 9 9 11 (omega arith) (omega arith))) (sided_exact h) (follow 11 11 12 (omega arith) (omega arith))
+group_tail_exact arrow h = tailed_exact group_tail_by (mapping_row_exact (arrow_operator arrow) (arrow_ends arrow) h) (sided_exact h) (follow 11 11 12 (omega arith) (omega arith))
 
 group_joins : {C : Type 0} (arrow : Bool) (put : C → List Token → List Token) (says : C → Term Raw) → Joins (arrow_operator arrow) put (put_group_tail arrow put) says (group_tail_value says) (λ c g. group_by c g) (put_group arrow put) (group_value says)
 group_joins arrow put says = record {
@@ -199,6 +210,36 @@ pub replacement_exact : {C : Type 0} {read : Reader Token (Term Raw)} {put : C �
     → Exact (replacement_at arrow read) (put_row (put_group_tail arrow put) (put_behind GroupComma (put_group arrow put))) (row_value (replacement_by arrow) (group_tail_value says) (group_value says)) begins_right (goes_on 13)
 replacement_exact arrow h = row_exact (replacement_by arrow) (group_tail_exact arrow h) (behind_exact GroupComma (is_level 13) (λ g. g) refl (group_exact arrow h)) (follow 12 12 13 (omega arith) (omega arith))
 
+-- Directed rules.
+
+at_upper : (t : Token) → is_up_up t ≡ true → t ≡ operator UpUp
+at_upper (operator UpUp) e = refl
+at_upper (operator _) e = absurd cc
+at_upper _ e = absurd cc
+
+not_upper : (t : Token) → goes_on 12 t ≡ false → is_up_up t ≡ false
+not_upper (operator UpUp) e = absurd cc
+not_upper (operator _) e = refl
+not_upper _ e = refl
+
+follow_upper : Follow is_up_up (goes_on 11) (goes_on 11) (goes_on 12)
+follow_upper = record {
+  end_row = not_upper;
+  end_first = ends_smaller 11 12 (omega arith);
+  end_next = ends_smaller 11 12 (omega arith);
+  next_first = λ t e. ap (goes_on 11) (at_upper t e);
+  next_next = λ t e. ap (goes_on 11) (at_upper t e);
+}
+
+abbrev put_directed : {C : Type 0} → Way → (C → List Token → List Token) → Tailed (MappingRow C) (ContextRow C) → List Token → List Token
+put_directed way put x rest = put_tailed (put_mapping_row (way_operator way) put) (put_behind UpUp (put_contexts put)) x rest
+
+abbrev directed_value : {C : Type 0} → Way → (C → Term Raw) → Tailed (MappingRow C) (ContextRow C) → RulingTerm Raw
+directed_value way says x = tailed_value (direction_by way) (mapping_row_value says) (contexts_value says) x
+
+directed_exact : {C : Type 0} {read : Reader Token (Term Raw)} {put : C → List Token → List Token} {says : C → Term Raw} (way : Way) → IsEight read put says → Exact (directed_at way read) (put_directed way put) (directed_value way says) begins_right (goes_on 12)
+directed_exact way h = tailed_exact (direction_by way) (mapping_row_exact (way_operator way) (way_ends way) h) (behind_exact UpUp is_up_up (λ c. c) refl (contexts_exact h)) follow_upper
+
 -- What stands behind a level 8.
 
 restricted_found : {C : Type 0} (put : C → List Token → List Token) (says : C → Term Raw) (rest : List Token) (z : RulingTerm Raw × List Token) → (x : ContextRow C) × (rest ≡ put_contexts put x z.1) × (restriction (contexts_value says x) ≡ z.0) → Found (put_ruling put) (ruling_value says) (operator Only ∷ rest) z
@@ -208,26 +249,43 @@ replaced_found : {C : Type 0} (put : C → List Token → List Token) (says : C 
     → Found (put_row (put_group_tail arrow put) (put_behind GroupComma (put_group arrow put))) (row_value (replacement_by arrow) (group_tail_value says) (group_value says)) rest z → Found (put_ruling put) (ruling_value says) (operator (arrow_operator arrow) ∷ rest) z
 replaced_found put says arrow rest z (x, spelled, value) = (replaced arrow x, ap (λ us. operator (arrow_operator arrow) ∷ us) spelled, value)
 
+directed_found : {C : Type 0} (put : C → List Token → List Token) (says : C → Term Raw) (way : Way) (rest : List Token) (z : RulingTerm Raw × List Token)
+    → Found (put_directed way put) (directed_value way says) rest z → Found (put_ruling put) (ruling_value says) (operator (way_operator way) ∷ rest) z
+directed_found put says way rest z (x, spelled, value) = (directed way x, ap (λ us. operator (way_operator way) ∷ us) spelled, value)
+
 ruling_takes : {C : Type 0} {read : Reader Token (Term Raw)} {put : C → List Token → List Token} {says : C → Term Raw} → IsEight read put says → (tokens : List Token) (z : RulingTerm Raw × List Token) → ruling_at read tokens ≡ Some z → Found (put_ruling put) (ruling_value says) tokens z
 ruling_takes h [] z e = absurd cc
 ruling_takes {put = put} {says = says} h (operator Only ∷ rest) z e = restricted_found put says rest z ((mapped_exact restriction (contexts_exact h)).takes rest z e)
 ruling_takes {put = put} {says = says} h (operator Optional ∷ rest) z e = replaced_found put says true rest z ((replacement_exact true h).takes rest z e)
 ruling_takes {put = put} {says = says} h (operator Arrow ∷ rest) z e = replaced_found put says false rest z ((replacement_exact false h).takes rest z e)
+ruling_takes {put = put} {says = says} h (operator LeftLongest ∷ rest) z e = directed_found put says left_longest rest z ((directed_exact left_longest h).takes rest z e)
+ruling_takes {put = put} {says = says} h (operator LeftShortest ∷ rest) z e = directed_found put says left_shortest rest z ((directed_exact left_shortest h).takes rest z e)
+ruling_takes {put = put} {says = says} h (operator RightLongest ∷ rest) z e = directed_found put says right_longest rest z ((directed_exact right_longest h).takes rest z e)
+ruling_takes {put = put} {says = says} h (operator RightShortest ∷ rest) z e = directed_found put says right_shortest rest z ((directed_exact right_shortest h).takes rest z e)
 ruling_takes h (_ ∷ rest) z e = absurd cc
 
 ruling_again : {C : Type 0} {read : Reader Token (Term Raw)} {put : C → List Token → List Token} {says : C → Term Raw} → IsEight read put says → (r : Ruling C) (rest : List Token) → begins (goes_on 13) rest ≡ false → ruling_at read (put_ruling put r rest) ≡ Some (ruling_value says r, rest)
 ruling_again h (restricted x) rest stop = (mapped_exact restriction (contexts_exact h)).again x rest (front_fails (goes_on 13) (goes_on 11) (ends_smaller 11 13 (omega arith)) rest stop)
 ruling_again h (replaced true x) rest stop = (replacement_exact true h).again x rest stop
 ruling_again h (replaced false x) rest stop = (replacement_exact false h).again x rest stop
+ruling_again h (directed left_longest x) rest stop = (directed_exact left_longest h).again x rest (front_fails (goes_on 13) (goes_on 12) (ends_smaller 12 13 (omega arith)) rest stop)
+ruling_again h (directed left_shortest x) rest stop = (directed_exact left_shortest h).again x rest (front_fails (goes_on 13) (goes_on 12) (ends_smaller 12 13 (omega arith)) rest stop)
+ruling_again h (directed right_longest x) rest stop = (directed_exact right_longest h).again x rest (front_fails (goes_on 13) (goes_on 12) (ends_smaller 12 13 (omega arith)) rest stop)
+ruling_again h (directed right_shortest x) rest stop = (directed_exact right_shortest h).again x rest (front_fails (goes_on 13) (goes_on 12) (ends_smaller 12 13 (omega arith)) rest stop)
 
 ruling_begun : {C : Type 0} (put : C → List Token → List Token) (r : Ruling C) (rest : List Token) → begins (is_level 14) (put_ruling put r rest) ≡ true
 ruling_begun put (restricted x) rest = refl
 ruling_begun put (replaced true x) rest = refl
 ruling_begun put (replaced false x) rest = refl
+ruling_begun put (directed left_longest x) rest = refl
+ruling_begun put (directed left_shortest x) rest = refl
+ruling_begun put (directed right_longest x) rest = refl
+ruling_begun put (directed right_shortest x) rest = refl
 
 ruling_grows : {C : Type 0} {read : Reader Token (Term Raw)} {put : C → List Token → List Token} {says : C → Term Raw} → IsEight read put says → (r : Ruling C) (rest : List Token) → length rest < length (put_ruling put r rest)
 ruling_grows h (restricted x) rest = let item = (contexts_exact h).grows x rest in omega (arith, item)
 ruling_grows h (replaced arrow x) rest = let item = (replacement_exact arrow h).grows x rest in omega (arith, item)
+ruling_grows h (directed way x) rest = let item = (directed_exact way h).grows x rest in omega (arith, item)
 
 pub ruling_exact : {C : Type 0} {read : Reader Token (Term Raw)} {put : C → List Token → List Token} {says : C → Term Raw} → IsEight read put says → Exact (ruling_at read) (put_ruling put) (ruling_value says) (is_level 14) (goes_on 13)
 ruling_exact {put = put} h = record { takes = ruling_takes h; again = ruling_again h; begun = ruling_begun put; grows = ruling_grows h }

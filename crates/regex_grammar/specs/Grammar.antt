@@ -1,5 +1,6 @@
 -- The expressions of xfst (Beesley and Karttunen, Finite State Morphology, 2003, chapters 2 and 3; replacement by
--- Karttunen, The Replace Operator, 1995, and Kempe and Karttunen, Parallel Replacement in Finite State Calculus, 1996).
+-- Karttunen, The Replace Operator, 1995, Kempe and Karttunen, Parallel Replacement in Finite State Calculus, 1996, and
+-- Karttunen, Directed Replacement, 1996).
 -- An expression is a tree by the levels of the operators, tightest first:
 --
 --   1   a run, a quoted text, a text in braces, `?`, `.#.`, `[ ]`, `[E]`, `(E)`
@@ -10,7 +11,7 @@
 --   6   `/`
 --   7   concatenation, by standing side by side
 --   8   `|` `&` `-`
---   9   `A => CONTEXTS`, or groups of mappings joined by `,,`
+--   9   `A => CONTEXTS`, groups of mappings joined by `,,`, or one group with a directed arrow
 --   10  `.x.` `.o.`
 --
 -- Operators of one level in a row are one node, and a row of one operand is its operand.
@@ -18,7 +19,7 @@ use Rattle.std.specs.Prelude.{◌≡◌, ℕ, zero, suc, Bool, true, false, IsTr
 use Rattle.std.specs.List.{list_all}
 use Rattle.std.specs.Option.{option_map}
 use Rattle.std.specs.Str.{bytes_eq}
-use Rattle.regex_ast.specs.Terms.{Term, Links, Contexts, Steps, Mappings, Groups, empty, any, edge, atom, letters, group, maybe, not_one, cross, suffixed, prefixed, ignore, concat, chain, only, rules, steps, terms_of, no_link, or, and, less, no_context, between, no_step, cross_with, then as compose, no_mapping, plain, markup, insert, no_group, then_group}
+use Rattle.regex_ast.specs.Terms.{Term, Links, Contexts, Steps, Mappings, Groups, empty, any, edge, atom, letters, group, maybe, not_one, cross, suffixed, prefixed, ignore, concat, chain, only, rules, directed as directed_rule, steps, terms_of, no_link, or, and, less, no_context, between, no_step, cross_with, then as compose, no_mapping, plain, markup, insert, no_group, then_group}
 use Rattle.regex_ast.specs.declared.expr.Raw.{Raw}
 use Rattle.regex_ast.specs.declared.expr.Raw.TheVariants.{Run as run_symbol, Quoted as quoted_symbol}
 use Rattle.regex_ast.specs.declared.expr.Suffix.{Suffix}
@@ -27,10 +28,12 @@ use Rattle.regex_ast.specs.declared.expr.Prefix.{Prefix}
 use Rattle.regex_ast.specs.declared.expr.Prefix.TheVariants.{Not, Contains}
 use Rattle.regex_ast.specs.declared.expr.Side.{Side}
 use Rattle.regex_ast.specs.declared.expr.Side.TheVariants.{UpUp as up_up, LowUp as low_up, UpLow as up_low, LowLow as low_low}
+use Rattle.regex_ast.specs.declared.expr.Way.{Way}
+use Rattle.regex_ast.specs.declared.expr.Way.TheVariants.{LeftLongest as left_longest, LeftShortest as left_shortest, RightLongest as right_longest, RightShortest as right_shortest}
 use Rattle.regex_grammar.specs.Rows.{Row, Tailed, Led, put_option, put_row, put_tailed, put_led, row_value, tailed_value, led_value}
 use Rattle.regex_tokens.specs.declared.token.Run.{Run}
 use Rattle.regex_tokens.specs.declared.token.Operator.{Operator}
-use Rattle.regex_tokens.specs.declared.token.Operator.TheVariants.{OpenSquare, CloseSquare, OpenRound, CloseRound, Optional, Arrow, Only, UpUp, Bar, LowUp, Slash, UpLow, LowLow, Backslash, Ampersand, Minus, Tilde, Dollar, Star, Plus, Caret, Colon, GroupComma, Comma, Question, Underscore, Dots, CrossWith, Then, Upper, Lower, Inverse, Reverse, Edge, Insertion}
+use Rattle.regex_tokens.specs.declared.token.Operator.TheVariants.{OpenSquare, CloseSquare, OpenRound, CloseRound, Optional, Arrow, LeftLongest, LeftShortest, RightLongest, RightShortest, Only, UpUp, Bar, LowUp, Slash, UpLow, LowLow, Backslash, Ampersand, Minus, Tilde, Dollar, Star, Plus, Caret, Colon, GroupComma, Comma, Question, Underscore, Dots, CrossWith, Then, Upper, Lower, Inverse, Reverse, Edge, Insertion}
 use Rattle.regex_tokens.specs.declared.token.Token.{Token}
 use Rattle.regex_tokens.specs.declared.token.Token.TheVariants.{Operator as operator, Quoted as quoted_token, Braced as braced_token, Run as run_token}
 
@@ -137,19 +140,24 @@ pub record MappingForm (C : Type 0) : Type 0 where
   pub centre : C
   pub right : RightSide C
 
--- a group behind its first centre and arrow: the right side, further mappings, and contexts
+-- mappings behind their first centre and arrow: the right side, and further mappings
+abbrev pub MappingRow : Type 0 → Type 0
+MappingRow C = Row (RightSide C) (MappingForm C)
+
+-- the same with contexts: a group behind its first centre and arrow
 abbrev pub GroupTail : Type 0 → Type 0
-GroupTail C = Tailed (Row (RightSide C) (MappingForm C)) (Sided C)
+GroupTail C = Tailed (MappingRow C) (Sided C)
 
 pub record GroupForm (C : Type 0) : Type 0 where
   pub centre : C
   pub tail : GroupTail C
 
 -- what stands behind a level 8: `=>` and contexts, or an arrow and what follows it. All arrows are the same:
--- `(->)` where it is true
+-- `(->)` where it is true, or that of a way, with which stands one group, whose contexts are behind `||`
 pub data Ruling (C : Type 0) : Type 0 where
   restricted : ContextRow C → Ruling C
   replaced : Bool → Row (GroupTail C) (GroupForm C) → Ruling C
+  directed : Way → Tailed (MappingRow C) (ContextRow C) → Ruling C
 
 -- `[..]` stands alone in its set of rules
 pub data Nine (C : Type 0) : Type 0 where
@@ -254,11 +262,22 @@ abbrev pub arrow_operator : Bool → Operator
 arrow_operator true = Optional
 arrow_operator false = Arrow
 
-abbrev pub put_mapping : {C : Type 0} → Bool → (C → List Token → List Token) → MappingForm C → List Token → List Token
-put_mapping arrow put m rest = put m.centre (operator (arrow_operator arrow) ∷ put_right put m.right rest)
+-- the arrow of a way
+abbrev pub way_operator : Way → Operator
+way_operator left_longest = LeftLongest
+way_operator left_shortest = LeftShortest
+way_operator right_longest = RightLongest
+way_operator right_shortest = RightShortest
+
+-- a mapping, and mappings behind their first centre and arrow, all by this arrow
+abbrev pub put_mapping : {C : Type 0} → Operator → (C → List Token → List Token) → MappingForm C → List Token → List Token
+put_mapping o put m rest = put m.centre (operator o ∷ put_right put m.right rest)
+
+abbrev pub put_mapping_row : {C : Type 0} → Operator → (C → List Token → List Token) → MappingRow C → List Token → List Token
+put_mapping_row o put x rest = put_row (put_right put) (put_behind Comma (put_mapping o put)) x rest
 
 abbrev pub put_group_tail : {C : Type 0} → Bool → (C → List Token → List Token) → GroupTail C → List Token → List Token
-put_group_tail arrow put x rest = put_tailed (put_row (put_right put) (put_behind Comma (put_mapping arrow put))) (put_sided put) x rest
+put_group_tail arrow put x rest = put_tailed (put_mapping_row (arrow_operator arrow) put) (put_sided put) x rest
 
 abbrev pub put_group : {C : Type 0} → Bool → (C → List Token → List Token) → GroupForm C → List Token → List Token
 put_group arrow put g rest = put g.centre (operator (arrow_operator arrow) ∷ put_group_tail arrow put g.tail rest)
@@ -266,6 +285,7 @@ put_group arrow put g rest = put g.centre (operator (arrow_operator arrow) ∷ p
 abbrev pub put_ruling : {C : Type 0} → (C → List Token → List Token) → Ruling C → List Token → List Token
 put_ruling put (restricted contexts) rest = operator Only ∷ put_contexts put contexts rest
 put_ruling put (replaced arrow groups) rest = operator (arrow_operator arrow) ∷ put_row (put_group_tail arrow put) (put_behind GroupComma (put_group arrow put)) groups rest
+put_ruling put (directed way x) rest = operator (way_operator way) ∷ put_tailed (put_mapping_row (way_operator way) put) (put_behind UpUp (put_contexts put)) x rest
 
 abbrev pub put_nine : {C : Type 0} → (C → List Token → List Token) → Nine C → List Token → List Token
 put_nine put (ruled x) rest = put_tailed put (put_ruling put) x rest
@@ -462,11 +482,18 @@ pub record GroupTerm (A : Type 0) : Type 0 where
 abbrev pub right_and_more : {A : Type 0} → RightTerm A → List (MappingTerm A) → RightTerm A × List (MappingTerm A)
 right_and_more right more = (right, more)
 
+abbrev pub mapping_row_value : {C A : Type 0} → (C → Term A) → MappingRow C → RightTerm A × List (MappingTerm A)
+mapping_row_value says x = row_value right_and_more (right_value says) (mapping_value says) x
+
+-- the mappings, by their first centre
+abbrev pub with_centre : {A : Type 0} → Term A → RightTerm A × List (MappingTerm A) → List (MappingTerm A)
+with_centre centre maps = mapping_by centre maps.0 ∷ maps.1
+
 abbrev pub group_tail_by : {A : Type 0} → RightTerm A × List (MappingTerm A) → Option (SidedTerm A) → GroupTailTerm A
 group_tail_by maps sided = record { right = maps.0; more = maps.1; sided = sided_by sided }
 
 abbrev pub group_tail_value : {C A : Type 0} → (C → Term A) → GroupTail C → GroupTailTerm A
-group_tail_value says x = tailed_value group_tail_by (row_value right_and_more (right_value says) (mapping_value says)) (sided_value says) x
+group_tail_value says x = tailed_value group_tail_by (mapping_row_value says) (sided_value says) x
 
 abbrev pub group_by : {A : Type 0} → Term A → GroupTailTerm A → GroupTerm A
 group_by centre tail = record { maps = mapping_by centre tail.right ∷ tail.more; sided = tail.sided }
@@ -482,18 +509,29 @@ groups_by (g ∷ more) = then_group (mappings_by g.maps) g.sided.side (contexts_
 pub data RulingTerm (A : Type 0) : Type 0 where
   restriction : List (ContextTerm A) → RulingTerm A
   replacement : Bool → GroupTailTerm A → List (GroupTerm A) → RulingTerm A
+  direction : Way → RightTerm A × List (MappingTerm A) → List (ContextTerm A) → RulingTerm A
 
 abbrev pub replacement_by : {A : Type 0} → Bool → GroupTailTerm A → List (GroupTerm A) → RulingTerm A
 replacement_by arrow tail groups = replacement arrow tail groups
 
+-- contexts that are left out are none
+abbrev pub or_no_context : {A : Type 0} → Option (List (ContextTerm A)) → List (ContextTerm A)
+or_no_context None = []
+or_no_context (Some contexts) = contexts
+
+abbrev pub direction_by : {A : Type 0} → Way → RightTerm A × List (MappingTerm A) → Option (List (ContextTerm A)) → RulingTerm A
+direction_by way maps contexts = direction way maps (or_no_context contexts)
+
 abbrev pub ruling_value : {C A : Type 0} → (C → Term A) → Ruling C → RulingTerm A
 ruling_value says (restricted contexts) = restriction (contexts_value says contexts)
 ruling_value says (replaced arrow groups) = row_value (replacement_by arrow) (group_tail_value says) (group_value says) groups
+ruling_value says (directed way x) = tailed_value (direction_by way) (mapping_row_value says) (contexts_value says) x
 
 abbrev pub with_ruling : {A : Type 0} → Term A → Option (RulingTerm A) → Term A
 with_ruling t None = t
 with_ruling t (Some (restriction contexts)) = only t (contexts_by contexts)
 with_ruling t (Some (replacement arrow tail more)) = rules arrow (groups_by (group_by t tail ∷ more))
+with_ruling t (Some (direction way maps contexts)) = directed_rule way (mappings_by (with_centre t maps)) (contexts_by contexts)
 
 abbrev pub insertion_by : {A : Type 0} → Bool → Term A → Option (SidedTerm A) → Term A
 insertion_by arrow t sided = rules arrow (groups_by (record { maps = inserting t ∷ []; sided = sided_by sided } ∷ []))

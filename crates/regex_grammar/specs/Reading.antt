@@ -10,14 +10,16 @@ use Rattle.regex_ast.specs.declared.expr.Prefix.{Prefix}
 use Rattle.regex_ast.specs.declared.expr.Prefix.TheVariants.{Not, Contains}
 use Rattle.regex_ast.specs.declared.expr.Side.{Side}
 use Rattle.regex_ast.specs.declared.expr.Side.TheVariants.{UpUp as up_up, LowUp as low_up, UpLow as up_low, LowLow as low_low}
+use Rattle.regex_ast.specs.declared.expr.Way.{Way}
+use Rattle.regex_ast.specs.declared.expr.Way.TheVariants.{LeftLongest as left_longest, LeftShortest as left_shortest, RightLongest as right_longest, RightShortest as right_shortest}
 use Rattle.regex_tokens.specs.Fronts.{after}
 use Rattle.regex_tokens.specs.declared.token.Operator.{Operator}
-use Rattle.regex_tokens.specs.declared.token.Operator.TheVariants.{OpenSquare, CloseSquare, OpenRound, CloseRound, Optional, Arrow, Only, UpUp, Bar, LowUp, Slash, UpLow, LowLow, Backslash, Ampersand, Minus, Tilde, Dollar, Star, Plus, Caret, Colon, Semicolon, GroupComma, Comma, Question, Underscore, Dots, CrossWith, Then, Upper, Lower, Inverse, Reverse, Edge, Insertion}
+use Rattle.regex_tokens.specs.declared.token.Operator.TheVariants.{OpenSquare, CloseSquare, OpenRound, CloseRound, Optional, Arrow, LeftLongest, LeftShortest, RightLongest, RightShortest, Only, UpUp, Bar, LowUp, Slash, UpLow, LowLow, Backslash, Ampersand, Minus, Tilde, Dollar, Star, Plus, Caret, Colon, Semicolon, GroupComma, Comma, Question, Underscore, Dots, CrossWith, Then, Upper, Lower, Inverse, Reverse, Edge, Insertion}
 use Rattle.regex_tokens.specs.declared.token.Token.{Token}
 use Rattle.regex_tokens.specs.declared.token.Token.TheVariants.{Operator as operator, Quoted as quoted_token, Braced as braced_token, Run as run_token}
 use Rattle.regex_grammar.specs.Rows.{Reader, option_at, row_at, tailed_at, led_at}
 use Rattle.regex_grammar.specs.Whole.{most_open}
-use Rattle.regex_grammar.specs.Grammar.{run_term, quoted_term, braced_term, is_number, power_value, with_backslashes, with_lower, with_suffixes, with_prefixes, ignoring, side_by_side, Linked, or_else, and_also, but_not, with_links, part, ContextTerm, in_a_row, SidedTerm, RightTerm, result_term, marks_term, MappingTerm, mapping_by, GroupTailTerm, right_and_more, group_tail_by, GroupTerm, group_by, RulingTerm, restriction, replacement_by, with_ruling, insertion_by, arrow_operator, StepForm, crossing, composing, with_steps}
+use Rattle.regex_grammar.specs.Grammar.{run_term, quoted_term, braced_term, is_number, power_value, with_backslashes, with_lower, with_suffixes, with_prefixes, ignoring, side_by_side, Linked, or_else, and_also, but_not, with_links, part, ContextTerm, in_a_row, SidedTerm, RightTerm, result_term, marks_term, MappingTerm, mapping_by, GroupTailTerm, right_and_more, group_tail_by, GroupTerm, group_by, RulingTerm, restriction, replacement_by, direction_by, with_ruling, insertion_by, arrow_operator, way_operator, StepForm, crossing, composing, with_steps}
 
 -- The row that a token goes on, by the level whose operands it stands behind; within level 9 by what it goes on there: 9 a
 -- right side, 11 contexts or mappings, 12 a group, 13 groups, 14 a level 8. 7 is what begins an operand, which
@@ -52,6 +54,10 @@ operator_level LowLow = 12
 operator_level GroupComma = 13
 operator_level Arrow = 14
 operator_level Optional = 14
+operator_level LeftLongest = 14
+operator_level LeftShortest = 14
+operator_level RightLongest = 14
+operator_level RightShortest = 14
 operator_level Only = 14
 operator_level CrossWith = 15
 operator_level Then = 15
@@ -79,6 +85,11 @@ abbrev pub is_prefix : Token → Bool
 is_prefix (operator Tilde) = true
 is_prefix (operator Dollar) = true
 is_prefix _ = false
+
+-- `||`
+abbrev pub is_up_up : Token → Bool
+is_up_up (operator UpUp) = true
+is_up_up _ = false
 
 abbrev pub is_insertion : Token → Bool
 is_insertion (operator Insertion) = true
@@ -218,12 +229,14 @@ right_from read None tokens = option_and_then (λ x. right_by read x.0 x.1 (afte
 abbrev pub right_at : Reader Token (Term Raw) → Reader Token (RightTerm Raw)
 right_at read tokens = right_from read (after Dots tokens) tokens
 
-abbrev pub mapping_at : Bool → Reader Token (Term Raw) → Reader Token (MappingTerm Raw)
-mapping_at arrow read tokens = option_and_then (λ c. behind_at (arrow_operator arrow) (λ r. mapping_by c.0 r) (right_at read) c.1) (read tokens)
+abbrev pub mapping_at : Operator → Reader Token (Term Raw) → Reader Token (MappingTerm Raw)
+mapping_at o read tokens = option_and_then (λ c. behind_at o (λ r. mapping_by c.0 r) (right_at read) c.1) (read tokens)
+
+abbrev pub mapping_row_at : Operator → Reader Token (Term Raw) → Reader Token (RightTerm Raw × List (MappingTerm Raw))
+mapping_row_at o read tokens = row_at (is_level 11) right_and_more (right_at read) (behind_at Comma (λ m. m) (mapping_at o read)) tokens
 
 abbrev pub group_tail_at : Bool → Reader Token (Term Raw) → Reader Token (GroupTailTerm Raw)
-group_tail_at arrow read tokens =
-    tailed_at (is_level 12) group_tail_by (row_at (is_level 11) right_and_more (right_at read) (behind_at Comma (λ m. m) (mapping_at arrow read))) (sided_at read) tokens
+group_tail_at arrow read tokens = tailed_at (is_level 12) group_tail_by (mapping_row_at (arrow_operator arrow) read) (sided_at read) tokens
 
 abbrev pub group_at : Bool → Reader Token (Term Raw) → Reader Token (GroupTerm Raw)
 group_at arrow read tokens = option_and_then (λ c. behind_at (arrow_operator arrow) (λ g. group_by c.0 g) (group_tail_at arrow read) c.1) (read tokens)
@@ -231,10 +244,21 @@ group_at arrow read tokens = option_and_then (λ c. behind_at (arrow_operator ar
 abbrev pub replacement_at : Bool → Reader Token (Term Raw) → Reader Token (RulingTerm Raw)
 replacement_at arrow read tokens = row_at (is_level 13) (replacement_by arrow) (group_tail_at arrow read) (behind_at GroupComma (λ g. g) (group_at arrow read)) tokens
 
+-- contexts behind `||`
+abbrev pub upper_at : Reader Token (Term Raw) → Reader Token (List (ContextTerm Raw))
+upper_at read tokens = behind_at UpUp (λ c. c) (contexts_at read) tokens
+
+abbrev pub directed_at : Way → Reader Token (Term Raw) → Reader Token (RulingTerm Raw)
+directed_at way read tokens = tailed_at is_up_up (direction_by way) (mapping_row_at (way_operator way) read) (upper_at read) tokens
+
 abbrev pub ruling_at : Reader Token (Term Raw) → Reader Token (RulingTerm Raw)
 ruling_at read (operator Only ∷ rest) = option_map (λ x. (restriction x.0, x.1)) (contexts_at read rest)
 ruling_at read (operator Optional ∷ rest) = replacement_at true read rest
 ruling_at read (operator Arrow ∷ rest) = replacement_at false read rest
+ruling_at read (operator LeftLongest ∷ rest) = directed_at left_longest read rest
+ruling_at read (operator LeftShortest ∷ rest) = directed_at left_shortest read rest
+ruling_at read (operator RightLongest ∷ rest) = directed_at right_longest read rest
+ruling_at read (operator RightShortest ∷ rest) = directed_at right_shortest read rest
 ruling_at read _ = None
 
 -- which arrow: true for `(->)`
@@ -242,6 +266,14 @@ abbrev pub arrow_of : Operator → Option Bool
 arrow_of Optional = Some true
 arrow_of Arrow = Some false
 arrow_of _ = None
+
+-- which directed arrow
+abbrev pub way_of : Operator → Option Way
+way_of LeftLongest = Some left_longest
+way_of LeftShortest = Some left_shortest
+way_of RightLongest = Some right_longest
+way_of RightShortest = Some right_shortest
+way_of _ = None
 
 -- what is behind `[..]`
 abbrev pub insertion_at : Reader Token (Term Raw) → Reader Token (Term Raw)

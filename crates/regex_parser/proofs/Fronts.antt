@@ -8,13 +8,15 @@ use Rattle.regex_ast.specs.declared.expr.Prefix.{Prefix}
 use Rattle.regex_ast.specs.declared.expr.Raw.{Raw}
 use Rattle.regex_ast.specs.declared.expr.Side.{Side}
 use Rattle.regex_ast.specs.declared.expr.Suffix.{Suffix}
+use Rattle.regex_ast.specs.declared.expr.Way.{Way}
+use Rattle.regex_ast.specs.declared.expr.Way.TheVariants.{LeftLongest as left_longest, LeftShortest as left_shortest, RightLongest as right_longest, RightShortest as right_shortest}
 use Rattle.regex_grammar.specs.Rows.{begins, Reader}
-use Rattle.regex_grammar.specs.Reading.{is_level, is_backslash, is_prefix, behind_at, one_of, backslash_of, prefix_of, suffix_at, power_at, power_of, linked_of, step_of, side_of, arrow_of}
-use Rattle.regex_grammar.specs.Grammar.{Linked, StepForm, arrow_operator}
+use Rattle.regex_grammar.specs.Reading.{is_level, is_up_up, is_backslash, is_prefix, behind_at, one_of, backslash_of, prefix_of, suffix_at, power_at, power_of, linked_of, step_of, side_of, arrow_of, way_of}
+use Rattle.regex_grammar.specs.Grammar.{Linked, StepForm, arrow_operator, way_operator}
 use Rattle.regex_tokens.proofs.Fronts.{after_takes, after_again}
 use Rattle.regex_tokens.specs.Fronts.{after}
 use Rattle.regex_tokens.specs.declared.token.Operator.{Operator}
-use Rattle.regex_tokens.specs.declared.token.Operator.TheVariants.{Backslash, Tilde, Dollar, Star, Plus, Caret, Upper, Lower, Inverse, Reverse, Bar, Ampersand, Minus, CrossWith, Then, UpUp, LowUp, UpLow, LowLow, Optional, Arrow, Only, Slash, Colon, Comma, GroupComma}
+use Rattle.regex_tokens.specs.declared.token.Operator.TheVariants.{Backslash, Tilde, Dollar, Star, Plus, Caret, Upper, Lower, Inverse, Reverse, Bar, Ampersand, Minus, CrossWith, Then, UpUp, LowUp, UpLow, LowLow, Optional, Arrow, LeftLongest, LeftShortest, RightLongest, RightShortest, Only, Slash, Colon, Comma, GroupComma}
 use Rattle.regex_tokens.specs.declared.token.Token.{Token}
 use Rattle.regex_tokens.specs.declared.token.Token.TheVariants.{Operator as operator, Quoted as quoted_token, Braced as braced_token, Run as run_token}
 
@@ -142,6 +144,14 @@ no_group_comma (quoted_token cs ∷ rest) e = refl
 no_group_comma (braced_token cs ∷ rest) e = refl
 no_group_comma (run_token r ∷ rest) e = refl
 
+pub no_up_up : (tokens : List Token) → None ≡ after UpUp tokens → begins is_up_up tokens ≡ false
+no_up_up [] e = refl
+no_up_up (operator UpUp ∷ rest) e = let clash : None ≡ Some rest = e ∙ after_again UpUp rest in absurd cc
+no_up_up (operator _ ∷ rest) e = refl
+no_up_up (quoted_token cs ∷ rest) e = refl
+no_up_up (braced_token cs ∷ rest) e = refl
+no_up_up (run_token r ∷ rest) e = refl
+
 pub side_begins : (tokens : List Token) (x : Side × List Token) → one_of side_of tokens ≡ Some x → begins (is_level 12) tokens ≡ true
 side_begins [] x e = absurd cc
 side_begins (operator UpUp ∷ rest) x e = refl
@@ -173,15 +183,31 @@ arrow_takes (operator Arrow ∷ rest) optional behind e = arrow_same (optional, 
 arrow_takes (operator _ ∷ rest) optional behind e = absurd cc
 arrow_takes (_ ∷ rest) optional behind e = absurd cc
 
-pub no_ruling : (tokens : List Token) → None ≡ after Only tokens → None ≡ one_of arrow_of tokens → begins (is_level 14) tokens ≡ false
-no_ruling [] d e = refl
-no_ruling (operator Only ∷ rest) d e = let clash : None ≡ Some rest = d ∙ after_again Only rest in absurd cc
-no_ruling (operator Optional ∷ rest) d e = absurd cc
-no_ruling (operator Arrow ∷ rest) d e = absurd cc
-no_ruling (operator _ ∷ rest) d e = refl
-no_ruling (quoted_token cs ∷ rest) d e = refl
-no_ruling (braced_token cs ∷ rest) d e = refl
-no_ruling (run_token r ∷ rest) d e = refl
+way_same : (a b : Way × List Token) → Some a ≡ Some b → operator (way_operator b.0) ∷ b.1 ≡ operator (way_operator a.0) ∷ a.1
+way_same a b e = let same : a ≡ b = cc in ap (λ (x : Way × List Token). operator (way_operator x.0) ∷ x.1) (sym same)
+
+pub way_takes : (tokens : List Token) (way : Way) (behind : List Token) → Some (way, behind) ≡ one_of way_of tokens → tokens ≡ operator (way_operator way) ∷ behind
+way_takes [] way behind e = absurd cc
+way_takes (operator LeftLongest ∷ rest) way behind e = way_same (way, behind) (left_longest, rest) e
+way_takes (operator LeftShortest ∷ rest) way behind e = way_same (way, behind) (left_shortest, rest) e
+way_takes (operator RightLongest ∷ rest) way behind e = way_same (way, behind) (right_longest, rest) e
+way_takes (operator RightShortest ∷ rest) way behind e = way_same (way, behind) (right_shortest, rest) e
+way_takes (operator _ ∷ rest) way behind e = absurd cc
+way_takes (_ ∷ rest) way behind e = absurd cc
+
+pub no_ruling : (tokens : List Token) → None ≡ after Only tokens → None ≡ one_of arrow_of tokens → None ≡ one_of way_of tokens → begins (is_level 14) tokens ≡ false
+no_ruling [] d e g = refl
+no_ruling (operator Only ∷ rest) d e g = let clash : None ≡ Some rest = d ∙ after_again Only rest in absurd cc
+no_ruling (operator Optional ∷ rest) d e g = absurd cc
+no_ruling (operator Arrow ∷ rest) d e g = absurd cc
+no_ruling (operator LeftLongest ∷ rest) d e g = absurd cc
+no_ruling (operator LeftShortest ∷ rest) d e g = absurd cc
+no_ruling (operator RightLongest ∷ rest) d e g = absurd cc
+no_ruling (operator RightShortest ∷ rest) d e g = absurd cc
+no_ruling (operator _ ∷ rest) d e g = refl
+no_ruling (quoted_token cs ∷ rest) d e g = refl
+no_ruling (braced_token cs ∷ rest) d e g = refl
+no_ruling (run_token r ∷ rest) d e g = refl
 
 -- what is behind an operator begins with it
 pub after_begins : (o : Operator) (p : Token → Bool) → p (operator o) ≡ true → (tokens rest : List Token) → after o tokens ≡ Some rest → begins p tokens ≡ true

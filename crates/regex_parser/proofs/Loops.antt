@@ -125,3 +125,32 @@ made_map {K} {T} {S} seen make (Some x) s behind e =
 pub made_map_none : {K T S W : Type 0} (seen : T → S) (make : T → W) (o : Option (T × List K)) → None ≡ made seen o → None ≡ made make o
 made_map_none seen make None e = refl
 made_map_none seen make (Some x) e = absurd cc
+
+-- A part and what is read behind it, of what is made of both.
+
+pub tail_found : {K T W R M S V : Type 0} (seen : T → M) (known : W → S) (join : T → W → R) (make : R → V) (whole : M → S → V) → ((x : T) (w : W) → make (join x w) ≡ whole (seen x) (known w))
+    → (o : Option (T × List K)) (tail : Reader K W) (m : M) (behind : List K) (s : S) (last : List K) (v : V)
+    → Some (m, behind) ≡ made seen o → Some (s, last) ≡ made known (tail behind) → v ≡ whole m s → Some (v, last) ≡ made make (option_and_then (λ x. made (join x.0) (tail x.1)) o)
+tail_found {K} {T} {W} {R} {M} {S} {V} seen known join make whole agree o tail m behind s last v row sides same = map_some _ o (m, behind) (sym row) (λ x found pair. map_some _ (tail behind) (s, last) (sym sides) (λ y there ends.
+    let value : v ≡ make (join x.0 y.0) = same ∙ sym (ap (λ (p : M × List K). whole p.0 s) pair) ∙ sym (ap (λ (p : S × List K). whole (seen x.0) p.0) ends) ∙ sym (agree x.0 y.0) in
+    ap (λ w. Some (w, last)) value
+    ∙ sym (ap (λ (p : S × List K). Some (make (join x.0 y.0), p.1)) ends)
+    ∙ sym (ap (λ q. made make (made (join x.0) q)) there)
+    ∙ sym (ap (λ (p : M × List K). made make (made (join x.0) (tail p.1))) pair)
+    ∙ sym (ap (λ p. made make (option_and_then (λ (x : T × List K). made (join x.0) (tail x.1)) p)) found)))
+
+pub tail_fails : {K T W R M S V : Type 0} (seen : T → M) (known : W → S) (join : T → W → R) (make : R → V) (o : Option (T × List K)) (tail : Reader K W) (m : M) (behind : List K)
+    → Some (m, behind) ≡ made seen o → None ≡ made known (tail behind) → None ≡ made make (option_and_then (λ x. made (join x.0) (tail x.1)) o)
+tail_fails {K} {T} {W} {R} {M} {S} {V} seen known join make o tail m behind row sides = map_some _ o (m, behind) (sym row) (λ x found pair.
+    made_map_none known (λ w. make (join x.0 w)) (tail behind) sides
+    ∙ sym (made_made make (join x.0) (tail behind))
+    ∙ sym (ap (λ (p : M × List K). made make (made (join x.0) (tail p.1))) pair)
+    ∙ sym (ap (λ p. made make (option_and_then (λ (x : T × List K). made (join x.0) (tail x.1)) p)) found))
+  where
+    made_made : {A B C : Type 0} (f : B → C) (g : A → B) (p : Option (A × List K)) → made f (made g p) ≡ made (λ x. f (g x)) p
+    made_made f g None = refl
+    made_made f g (Some x) = refl
+
+pub tail_unbegun : {K T W R M V : Type 0} (seen : T → M) (join : T → W → R) (make : R → V) (o : Option (T × List K)) (tail : Reader K W) → None ≡ made seen o → None ≡ made make (option_and_then (λ x. made (join x.0) (tail x.1)) o)
+tail_unbegun seen join make None tail e = refl
+tail_unbegun seen join make (Some x) tail e = absurd cc

@@ -1,31 +1,34 @@
 -- The parts of contexts, mappings and groups, as they are read one behind the other.
-use Rattle.std.proofs.Common.{◌≡◌, ℕ, Bool, true, false, cond, Option, Some, None, List, [], ◌∷◌, ◌++◌, map, refl, sym, ap, ◌∙◌}
+use Rattle.std.proofs.Common.{◌≡◌, ◌<◌, ℕ, Bool, true, false, cond, Option, Some, None, List, [], ◌∷◌, ◌++◌, length, map, refl, sym, ap, ◌∙◌, arith}
 use Rattle.std.specs.Option.{option_map, option_and_then}
-use Rattle.regex_ast.specs.Terms.{Term, empty, only, rules}
+use Rattle.regex_ast.specs.Terms.{Term, empty, only, rules, directed}
 use Rattle.regex_ast.specs.declared.expr.Context.{Context}
 use Rattle.regex_ast.specs.declared.expr.Group.{Group}
 use Rattle.regex_ast.specs.declared.expr.Mapping.{Mapping}
 use Rattle.regex_ast.specs.declared.expr.Raw.{Raw}
 use Rattle.regex_ast.specs.declared.expr.Side.{Side}
 use Rattle.regex_ast.specs.declared.expr.Side.TheVariants.{UpUp as up_up}
+use Rattle.regex_ast.specs.declared.expr.Way.{Way}
+use Rattle.regex_ast.specs.declared.expr.Way.TheVariants.{LeftLongest as left_longest, LeftShortest as left_shortest, RightLongest as right_longest, RightShortest as right_shortest}
 use Rattle.regex_grammar.specs.Rows.{Reader, begins, option_at, row_at}
-use Rattle.regex_grammar.specs.Grammar.{part, ContextTerm, contexts_by, in_a_row, SidedTerm, sided_by, RightTerm, right_and_more, MappingTerm, plain_mapping, marking, inserting, mapping_by, marks_term, GroupTerm, group_by, group_tail_by, groups_by, RulingTerm, restriction, replacement_by, with_ruling, insertion_by, arrow_operator}
-use Rattle.regex_grammar.specs.Reading.{is_level, behind_at, one_of, side_of, arrow_of, context_at, context_behind, contexts_at, sided_at, dots_at, right_by, right_from, right_at, mapping_at, group_tail_at, group_at, replacement_at, ruling_at, nine_by}
+use Rattle.regex_grammar.specs.Grammar.{part, ContextTerm, contexts_by, in_a_row, SidedTerm, sided_by, right_and_more, MappingTerm, plain_mapping, marking, inserting, mapping_by, mappings_by, with_centre, marks_term, GroupTerm, group_by, group_tail_by, groups_by, RulingTerm, restriction, replacement_by, or_no_context, direction_by, with_ruling, insertion_by, arrow_operator, way_operator}
+use Rattle.regex_grammar.specs.Reading.{is_level, is_up_up, behind_at, one_of, side_of, arrow_of, way_of, context_at, context_behind, contexts_at, sided_at, dots_at, right_by, right_from, right_at, mapping_at, mapping_row_at, group_tail_at, group_at, replacement_at, upper_at, directed_at, ruling_at, nine_by}
+use Rattle.regex_grammar.proofs.Cases.{map_some, then_some}
 use Rattle.regex_grammar.proofs.Exact.{exact_shorter}
 use Rattle.regex_grammar.proofs.Operators.{behind_exact}
 use Rattle.regex_grammar.proofs.Levels5to8.{chain_exact}
-use Rattle.regex_grammar.proofs.Level9.{context_exact, mapping_exact, group_exact}
+use Rattle.regex_grammar.proofs.Level9.{context_exact, right_exact, group_exact}
 use Rattle.regex_grammar.proofs.Level10.{expression_inside}
 use Rattle.regex_tokens.proofs.Fronts.{after_takes}
 use Rattle.regex_tokens.specs.Fronts.{after}
 use Rattle.regex_tokens.specs.declared.token.Operator.{Operator}
-use Rattle.regex_tokens.specs.declared.token.Operator.TheVariants.{Comma, GroupComma, Underscore, Dots, Only, Insertion}
+use Rattle.regex_tokens.specs.declared.token.Operator.TheVariants.{Comma, GroupComma, Underscore, Dots, UpUp, Only, Insertion}
 use Rattle.regex_tokens.specs.declared.token.Token.{Token}
 use Rattle.regex_tokens.specs.declared.token.Token.TheVariants.{Operator as operator}
-use Rattle.regex_parser.specs.Levels.{is_operand, chain_within, part_within, context_within, contexts_within, sided_within, marks_within, right_within, mapping_within, group_tail_within, group_within, replacement_within, restriction_within, ruling_within, insertion_within, nine_within}
+use Rattle.regex_parser.specs.Levels.{is_operand, chain_within, part_within, context_within, contexts_within, sided_within, marks_within, right_within, mapping_within, mappings_within, upper_within, group_tail_within, group_within, replacement_within, directed_within, restriction_within, ruling_within, insertion_within, nine_within}
 use Rattle.regex_parser.specs.Values.{made, context_value as context_of_program, sided_value, mapping_value, group_value}
-use Rattle.regex_parser.proofs.Fronts.{no_comma, no_group_comma, side_begins, no_side, arrow_takes, no_ruling, after_begins, behind_found, behind_fails}
-use Rattle.regex_parser.proofs.Loops.{Shortens, MoreSoFar, row_read, row_fails, row_none, made_row_read, made_row_fails, made_row_none, all_pushed, made_then, made_then_none, made_map, made_map_none}
+use Rattle.regex_parser.proofs.Fronts.{no_comma, no_group_comma, no_up_up, side_begins, no_side, arrow_takes, way_takes, no_ruling, after_begins, behind_found, behind_fails}
+use Rattle.regex_parser.proofs.Loops.{Shortens, MoreSoFar, row_read, row_fails, row_none, made_row_read, made_row_fails, made_row_none, all_pushed, made_then, made_then_none, made_map, made_map_none, tail_found, tail_fails, tail_unbegun}
 
 made_twice : {K T U V : Type 0} (f : U → V) (g : T → U) (o : Option (T × List K)) → made f (made g o) ≡ made (λ x. f (g x)) o
 made_twice f g None = refl
@@ -68,45 +71,6 @@ pub dots_none : (read : Reader Token (Term Raw)) (centre before : Term Raw) (tok
 dots_none read centre before tokens e =
     made_map_none part (λ x. marking centre before (part x)) (option_at (is_level 7) read tokens) e ∙ sym (made_twice (mapping_by centre) (λ x. marks_term before (part x)) (option_at (is_level 7) read tokens))
 
--- Groups.
-
--- the mappings of a group whose first centre was read before
-abbrev pub mappings_from : Term Raw → RightTerm Raw × List (MappingTerm Raw) → List (MappingTerm Raw)
-mappings_from t p = mapping_by t p.0 ∷ p.1
-
-abbrev pub maps_at : Bool → Reader Token (Term Raw) → Reader Token (RightTerm Raw × List (MappingTerm Raw))
-maps_at arrow read tokens = row_at (is_level 11) right_and_more (right_at read) (behind_at Comma (λ m. m) (mapping_at arrow read)) tokens
-
-abbrev group_of : List (MappingTerm Raw) → SidedTerm Raw → GroupTerm Raw
-group_of maps sided = record { maps = maps; sided = sided }
-
-abbrev with_sides : Reader Token (Term Raw) → List (MappingTerm Raw) → List Token → Option (GroupTerm Raw × List Token)
-with_sides read maps behind = made (λ y. group_of maps (sided_by y)) (option_at (is_level 12) (sided_at read) behind)
-
-tail_is : (read : Reader Token (Term Raw)) (t : Term Raw) (o : Option ((RightTerm Raw × List (MappingTerm Raw)) × List Token))
-    → option_and_then (λ x. with_sides read (mappings_from t x.0) x.1) o ≡ made (group_by t) (option_and_then (λ x. made (group_tail_by x.0) (option_at (is_level 12) (sided_at read) x.1)) o)
-tail_is read t None = refl
-tail_is read t (Some x) = sym (made_twice (group_by t) (group_tail_by x.0) (option_at (is_level 12) (sided_at read) x.1))
-
-pub group_tail_read : (arrow : Bool) (read : Reader Token (Term Raw)) (t : Term Raw) (tokens : List Token) (maps : List (MappingTerm Raw)) (behind : List Token) (sided : SidedTerm Raw) (last : List Token) (g : GroupTerm Raw)
-    → Some (maps, behind) ≡ made (mappings_from t) (maps_at arrow read tokens) → Some (sided, last) ≡ made sided_by (option_at (is_level 12) (sided_at read) behind) → g ≡ record { maps = maps; sided = sided } → Some (g, last) ≡ made (group_by t) (group_tail_at arrow read tokens)
-group_tail_read arrow read t tokens maps behind sided last g row sides same =
-    ap (λ v. Some (v, last)) same
-    ∙ made_map sided_by (group_of maps) (option_at (is_level 12) (sided_at read) behind) sided last sides
-    ∙ made_then (mappings_from t) (with_sides read) (maps_at arrow read tokens) maps behind row
-    ∙ tail_is read t (maps_at arrow read tokens)
-
-pub group_tail_unsided : (arrow : Bool) (read : Reader Token (Term Raw)) (t : Term Raw) (tokens : List Token) (maps : List (MappingTerm Raw)) (behind : List Token)
-    → Some (maps, behind) ≡ made (mappings_from t) (maps_at arrow read tokens) → None ≡ made sided_by (option_at (is_level 12) (sided_at read) behind) → None ≡ made (group_by t) (group_tail_at arrow read tokens)
-group_tail_unsided arrow read t tokens maps behind row sides =
-    made_map_none sided_by (λ y. group_of maps (sided_by y)) (option_at (is_level 12) (sided_at read) behind) sides
-    ∙ made_then (mappings_from t) (with_sides read) (maps_at arrow read tokens) maps behind row
-    ∙ tail_is read t (maps_at arrow read tokens)
-
-pub group_tail_none : (arrow : Bool) (read : Reader Token (Term Raw)) (t : Term Raw) (tokens : List Token) → None ≡ made (mappings_from t) (maps_at arrow read tokens) → None ≡ made (group_by t) (group_tail_at arrow read tokens)
-group_tail_none arrow read t tokens row =
-    made_then_none (mappings_from t) (λ x us. with_sides read (mappings_from t x) us) (maps_at arrow read tokens) row ∙ tail_is read t (maps_at arrow read tokens)
-
 -- Rows of level 9.
 
 unfoldable pub is_comma : Token → Bool
@@ -118,8 +82,8 @@ is_group_comma t = is_level 13 t
 unfoldable pub next_context_within : ℕ → Reader Token (ContextTerm Raw)
 next_context_within depth tokens = behind_at Comma (λ c. c) (context_within depth) tokens
 
-unfoldable pub next_mapping_within : ℕ → Bool → Reader Token (MappingTerm Raw)
-next_mapping_within depth optional tokens = behind_at Comma (λ m. m) (mapping_within depth optional) tokens
+unfoldable pub next_mapping_within : ℕ → Operator → Reader Token (MappingTerm Raw)
+next_mapping_within depth arrow tokens = behind_at Comma (λ m. m) (mapping_within depth arrow) tokens
 
 unfoldable pub next_group_within : ℕ → Bool → Reader Token (GroupTerm Raw)
 next_group_within depth optional tokens = behind_at GroupComma (λ g. g) (group_within depth optional) tokens
@@ -127,8 +91,8 @@ next_group_within depth optional tokens = behind_at GroupComma (λ g. g) (group_
 abbrev pub ContextsSoFar : ℕ → List Token → List (Context Raw) → List (Context Raw) → List Token → Type 0
 ContextsSoFar depth behind before now rest = MoreSoFar is_comma (next_context_within depth) behind (map context_of_program before) (map context_of_program now) rest
 
-abbrev pub MappingsSoFar : ℕ → Bool → List Token → List (Mapping Raw) → List (Mapping Raw) → List Token → Type 0
-MappingsSoFar depth optional behind before now rest = MoreSoFar is_comma (next_mapping_within depth optional) behind (map mapping_value before) (map mapping_value now) rest
+abbrev pub MappingsSoFar : ℕ → Operator → List Token → List (Mapping Raw) → List (Mapping Raw) → List Token → Type 0
+MappingsSoFar depth arrow behind before now rest = MoreSoFar is_comma (next_mapping_within depth arrow) behind (map mapping_value before) (map mapping_value now) rest
 
 abbrev pub GroupsSoFar : ℕ → Bool → List Token → List (Group Raw) → List (Group Raw) → List Token → Type 0
 GroupsSoFar depth optional behind before now rest = MoreSoFar is_group_comma (next_group_within depth optional) behind (map group_value before) (map group_value now) rest
@@ -179,9 +143,17 @@ pub next_context_shorter : (depth : ℕ) → Shortens (next_context_within depth
 unfolding next_context_within context_within chain_within
 next_context_shorter depth = exact_shorter (behind_exact Comma (is_level 11) (λ (c : ContextTerm Raw). c) refl (context_exact (chain_exact (expression_inside depth))))
 
-pub next_mapping_shorter : (depth : ℕ) (optional : Bool) → Shortens (next_mapping_within depth optional)
-unfolding next_mapping_within mapping_within chain_within
-next_mapping_shorter depth optional = exact_shorter (behind_exact Comma (is_level 11) (λ (m : MappingTerm Raw). m) refl (mapping_exact optional (chain_exact (expression_inside depth))))
+mapping_shorter : (depth : ℕ) (arrow : Operator) → Shortens (mapping_within depth arrow)
+unfolding mapping_within chain_within
+mapping_shorter depth arrow tokens x e = then_some _ (chain_within depth tokens) x e (λ c first more. then_some _ (after arrow c.1) x more (λ rest front last. map_some _ (right_at (chain_within depth) rest) x last (λ y item same.
+    let centre : length c.1 < length tokens = exact_shorter (chain_exact (expression_inside depth)) tokens c first in
+    let right : length y.1 < length rest = exact_shorter (right_exact (chain_exact (expression_inside depth))) rest y item in
+    omega (arith, centre, right, ap length (after_takes arrow c.1 rest front), ap (λ (v : MappingTerm Raw × List Token). length v.1) same))))
+
+pub next_mapping_shorter : (depth : ℕ) (arrow : Operator) → Shortens (next_mapping_within depth arrow)
+unfolding next_mapping_within
+next_mapping_shorter depth arrow tokens x e = then_some _ (after Comma tokens) x e (λ rest front last. map_some _ (mapping_within depth arrow rest) x last (λ y item same.
+    omega (arith, mapping_shorter depth arrow rest y item, ap length (after_takes Comma tokens rest front), ap (λ (v : MappingTerm Raw × List Token). length v.1) same)))
 
 pub next_group_shorter : (depth : ℕ) (optional : Bool) → Shortens (next_group_within depth optional)
 unfolding next_group_within group_within chain_within
@@ -207,9 +179,9 @@ pub next_context_read : (depth : ℕ) (tokens operand : List Token) (t : Context
 unfolding next_context_within
 next_context_read depth tokens operand t behind front item = behind_found Comma (λ (u : ContextTerm Raw). u) (context_within depth) tokens operand t behind t (sym front) (sym item) refl
 
-pub next_mapping_read : (depth : ℕ) (optional : Bool) (tokens operand : List Token) (t : MappingTerm Raw) (behind : List Token) → Some operand ≡ after Comma tokens → Some (t, behind) ≡ mapping_within depth optional operand → next_mapping_within depth optional tokens ≡ Some (t, behind)
+pub next_mapping_read : (depth : ℕ) (arrow : Operator) (tokens operand : List Token) (t : MappingTerm Raw) (behind : List Token) → Some operand ≡ after Comma tokens → Some (t, behind) ≡ mapping_within depth arrow operand → next_mapping_within depth arrow tokens ≡ Some (t, behind)
 unfolding next_mapping_within
-next_mapping_read depth optional tokens operand t behind front item = behind_found Comma (λ (u : MappingTerm Raw). u) (mapping_within depth optional) tokens operand t behind t (sym front) (sym item) refl
+next_mapping_read depth arrow tokens operand t behind front item = behind_found Comma (λ (u : MappingTerm Raw). u) (mapping_within depth arrow) tokens operand t behind t (sym front) (sym item) refl
 
 pub next_group_read : (depth : ℕ) (optional : Bool) (tokens operand : List Token) (t : GroupTerm Raw) (behind : List Token) → Some operand ≡ after GroupComma tokens → Some (t, behind) ≡ group_within depth optional operand → next_group_within depth optional tokens ≡ Some (t, behind)
 unfolding next_group_within
@@ -311,19 +283,35 @@ unarrowed {T} {U} o make right read tokens t rest item front =
 uncentred : {T U : Type 0} (o : Operator) (make : Term Raw → T → U) (right : Reader Token T) (read : Reader Token (Term Raw)) (tokens : List Token) → None ≡ read tokens → None ≡ option_and_then (λ c. behind_at o (λ r. make c.0 r) right c.1) (read tokens)
 uncentred {T} {U} o make right read tokens item = ap (option_and_then (λ (c : Term Raw × List Token). behind_at o (λ r. make c.0 r) right c.1)) item
 
-pub mapping_is : (depth : ℕ) (optional : Bool) (tokens : List Token) (t : Term Raw) (rest : List Token) (o : Operator) (behind : List Token) → Some (t, rest) ≡ chain_within depth tokens → o ≡ arrow_operator optional → Some behind ≡ after o rest → right_within depth t behind ≡ mapping_within depth optional tokens
+pub mapping_is : (depth : ℕ) (arrow : Operator) (tokens : List Token) (t : Term Raw) (rest behind : List Token) → Some (t, rest) ≡ chain_within depth tokens → Some behind ≡ after arrow rest → right_within depth t behind ≡ mapping_within depth arrow tokens
 unfolding right_within mapping_within
-mapping_is depth optional tokens t rest o behind item same front =
-    arrowed (arrow_operator optional) mapping_by (right_at (chain_within depth)) (chain_within depth) tokens t rest behind item (front ∙ ap (λ p. after p rest) same)
+mapping_is depth arrow tokens t rest behind item front = arrowed arrow mapping_by (right_at (chain_within depth)) (chain_within depth) tokens t rest behind item front
 
-pub mapping_unarrowed : (depth : ℕ) (optional : Bool) (tokens : List Token) (t : Term Raw) (rest : List Token) (o : Operator) → Some (t, rest) ≡ chain_within depth tokens → o ≡ arrow_operator optional → None ≡ after o rest → None ≡ mapping_within depth optional tokens
+pub mapping_unarrowed : (depth : ℕ) (arrow : Operator) (tokens : List Token) (t : Term Raw) (rest : List Token) → Some (t, rest) ≡ chain_within depth tokens → None ≡ after arrow rest → None ≡ mapping_within depth arrow tokens
 unfolding mapping_within
-mapping_unarrowed depth optional tokens t rest o item same front =
-    unarrowed (arrow_operator optional) mapping_by (right_at (chain_within depth)) (chain_within depth) tokens t rest item (front ∙ ap (λ p. after p rest) same)
+mapping_unarrowed depth arrow tokens t rest item front = unarrowed arrow mapping_by (right_at (chain_within depth)) (chain_within depth) tokens t rest item front
 
-pub mapping_none : (depth : ℕ) (optional : Bool) (tokens : List Token) → None ≡ chain_within depth tokens → None ≡ mapping_within depth optional tokens
+pub mapping_none : (depth : ℕ) (arrow : Operator) (tokens : List Token) → None ≡ chain_within depth tokens → None ≡ mapping_within depth arrow tokens
 unfolding mapping_within
-mapping_none depth optional tokens item = uncentred (arrow_operator optional) mapping_by (right_at (chain_within depth)) (chain_within depth) tokens item
+mapping_none depth arrow tokens item = uncentred arrow mapping_by (right_at (chain_within depth)) (chain_within depth) tokens item
+
+pub mappings_read : (depth : ℕ) (arrow : Operator) (centre : Term Raw) (tokens : List Token) (e : Mapping Raw) (behind : List Token) (none one all : List (Mapping Raw)) (rest : List Token)
+    → Some (mapping_value e, behind) ≡ right_within depth centre tokens → none ≡ [] → one ≡ none ++ e ∷ [] → MappingsSoFar depth arrow behind one all rest → None ≡ after Comma rest → Some (map mapping_value all, rest) ≡ mappings_within depth arrow centre tokens
+unfolding is_comma next_mapping_within mapping_within right_within mappings_within
+mappings_read depth arrow centre tokens e behind none one all rest begun blank pushed row stop =
+    made_row_read (is_level 11) right_and_more (right_at (chain_within depth)) (behind_at Comma (λ m. m) (mapping_at arrow (chain_within depth))) (with_centre centre) (mapping_by centre) (λ (m : MappingTerm Raw) ms. m ∷ ms) (λ x ms. refl)
+    tokens (mapping_value e) behind row.more rest (map mapping_value all) begun row.so_far (no_comma rest stop) (all_pushed mapping_value e none one all row.more blank pushed row.pushed)
+
+pub mappings_fail : (depth : ℕ) (arrow : Operator) (centre : Term Raw) (tokens : List Token) (e : Mapping Raw) (behind : List Token) (one all : List (Mapping Raw)) (rest operand : List Token)
+    → Some (mapping_value e, behind) ≡ right_within depth centre tokens → MappingsSoFar depth arrow behind one all rest → Some operand ≡ after Comma rest → None ≡ mapping_within depth arrow operand → None ≡ mappings_within depth arrow centre tokens
+unfolding is_comma next_mapping_within mapping_within right_within mappings_within
+mappings_fail depth arrow centre tokens e behind one all rest operand begun row front none =
+    made_row_fails (is_level 11) right_and_more (right_at (chain_within depth)) (behind_at Comma (λ m. m) (mapping_at arrow (chain_within depth))) (with_centre centre) (mapping_by centre) tokens (mapping_value e) behind row.more rest begun row.so_far
+    (after_begins Comma (is_level 11) refl rest operand (sym front)) (behind_fails Comma (λ (m : MappingTerm Raw). m) (mapping_at arrow (chain_within depth)) rest operand (sym front) none)
+
+pub mappings_none : (depth : ℕ) (arrow : Operator) (centre : Term Raw) (tokens : List Token) → None ≡ right_within depth centre tokens → None ≡ mappings_within depth arrow centre tokens
+unfolding right_within mappings_within
+mappings_none depth arrow centre tokens none = made_row_none (is_level 11) right_and_more (right_at (chain_within depth)) (behind_at Comma (λ m. m) (mapping_at arrow (chain_within depth))) (with_centre centre) (mapping_by centre) tokens none
 
 -- Groups.
 
@@ -341,39 +329,28 @@ pub group_none : (depth : ℕ) (optional : Bool) (tokens : List Token) → None 
 unfolding group_within
 group_none depth optional tokens item = uncentred (arrow_operator optional) group_by (group_tail_at optional (chain_within depth)) (chain_within depth) tokens item
 
-mappings_read : (depth : ℕ) (optional : Bool) (centre : Term Raw) (tokens : List Token) (e : Mapping Raw) (behind : List Token) (none one all : List (Mapping Raw)) (rest : List Token)
-    → Some (mapping_value e, behind) ≡ right_within depth centre tokens → none ≡ [] → one ≡ none ++ e ∷ [] → MappingsSoFar depth optional behind one all rest → None ≡ after Comma rest → Some (map mapping_value all, rest) ≡ made (mappings_from centre) (maps_at optional (chain_within depth) tokens)
-unfolding is_comma next_mapping_within mapping_within right_within
-mappings_read depth optional centre tokens e behind none one all rest begun blank pushed row stop =
-    made_row_read (is_level 11) right_and_more (right_at (chain_within depth)) (behind_at Comma (λ m. m) (mapping_at optional (chain_within depth))) (mappings_from centre) (mapping_by centre) (λ (m : MappingTerm Raw) ms. m ∷ ms) (λ x ms. refl)
-    tokens (mapping_value e) behind row.more rest (map mapping_value all) begun row.so_far (no_comma rest stop) (all_pushed mapping_value e none one all row.more blank pushed row.pushed)
+abbrev group_of : List (MappingTerm Raw) → SidedTerm Raw → GroupTerm Raw
+group_of maps sided = record { maps = maps; sided = sided }
 
-pub group_tail_found : (depth : ℕ) (optional : Bool) (centre : Term Raw) (tokens : List Token) (e : Mapping Raw) (behind : List Token) (none one all : List (Mapping Raw)) (rest : List Token) (sided : SidedTerm Raw) (last : List Token) (g : GroupTerm Raw)
-    → Some (mapping_value e, behind) ≡ right_within depth centre tokens → none ≡ [] → one ≡ none ++ e ∷ [] → MappingsSoFar depth optional behind one all rest → None ≡ after Comma rest
-    → Some (sided, last) ≡ sided_within depth rest → g ≡ record { maps = map mapping_value all; sided = sided } → Some (g, last) ≡ group_tail_within depth optional centre tokens
-unfolding sided_within group_tail_within
-group_tail_found depth optional centre tokens e behind none one all rest sided last g begun blank pushed row stop sides same =
-    group_tail_read optional (chain_within depth) centre tokens (map mapping_value all) rest sided last g (mappings_read depth optional centre tokens e behind none one all rest begun blank pushed row stop) sides same
+pub group_tail_found : (depth : ℕ) (optional : Bool) (centre : Term Raw) (tokens : List Token) (o : Operator) (maps : List (MappingTerm Raw)) (behind : List Token) (sided : SidedTerm Raw) (last : List Token) (g : GroupTerm Raw)
+    → o ≡ arrow_operator optional → Some (maps, behind) ≡ mappings_within depth o centre tokens → Some (sided, last) ≡ sided_within depth behind → g ≡ record { maps = maps; sided = sided } → Some (g, last) ≡ group_tail_within depth optional centre tokens
+unfolding mappings_within sided_within group_tail_within
+group_tail_found depth optional centre tokens o maps behind sided last g arrow row sides same =
+    tail_found (with_centre centre) sided_by group_tail_by (group_by centre) group_of (λ x w. refl) (mapping_row_at (arrow_operator optional) (chain_within depth) tokens) (λ us. option_at (is_level 12) (sided_at (chain_within depth)) us) maps behind sided last g
+    (row ∙ ap (λ a. made (with_centre centre) (mapping_row_at a (chain_within depth) tokens)) arrow) sides same
 
-pub group_tail_sides : (depth : ℕ) (optional : Bool) (centre : Term Raw) (tokens : List Token) (e : Mapping Raw) (behind : List Token) (none one all : List (Mapping Raw)) (rest : List Token)
-    → Some (mapping_value e, behind) ≡ right_within depth centre tokens → none ≡ [] → one ≡ none ++ e ∷ [] → MappingsSoFar depth optional behind one all rest → None ≡ after Comma rest
-    → None ≡ sided_within depth rest → None ≡ group_tail_within depth optional centre tokens
-unfolding sided_within group_tail_within
-group_tail_sides depth optional centre tokens e behind none one all rest begun blank pushed row stop sides =
-    group_tail_unsided optional (chain_within depth) centre tokens (map mapping_value all) rest (mappings_read depth optional centre tokens e behind none one all rest begun blank pushed row stop) sides
+pub group_tail_sides : (depth : ℕ) (optional : Bool) (centre : Term Raw) (tokens : List Token) (o : Operator) (maps : List (MappingTerm Raw)) (behind : List Token)
+    → o ≡ arrow_operator optional → Some (maps, behind) ≡ mappings_within depth o centre tokens → None ≡ sided_within depth behind → None ≡ group_tail_within depth optional centre tokens
+unfolding mappings_within sided_within group_tail_within
+group_tail_sides depth optional centre tokens o maps behind arrow row sides =
+    tail_fails (with_centre centre) sided_by group_tail_by (group_by centre) (mapping_row_at (arrow_operator optional) (chain_within depth) tokens) (λ us. option_at (is_level 12) (sided_at (chain_within depth)) us) maps behind
+    (row ∙ ap (λ a. made (with_centre centre) (mapping_row_at a (chain_within depth) tokens)) arrow) sides
 
-pub group_tail_fails : (depth : ℕ) (optional : Bool) (centre : Term Raw) (tokens : List Token) (e : Mapping Raw) (behind : List Token) (one all : List (Mapping Raw)) (rest operand : List Token)
-    → Some (mapping_value e, behind) ≡ right_within depth centre tokens → MappingsSoFar depth optional behind one all rest → Some operand ≡ after Comma rest → None ≡ mapping_within depth optional operand → None ≡ group_tail_within depth optional centre tokens
-unfolding is_comma next_mapping_within mapping_within right_within group_tail_within
-group_tail_fails depth optional centre tokens e behind one all rest operand begun row front none =
-    group_tail_none optional (chain_within depth) centre tokens
-    (made_row_fails (is_level 11) right_and_more (right_at (chain_within depth)) (behind_at Comma (λ m. m) (mapping_at optional (chain_within depth))) (mappings_from centre) (mapping_by centre) tokens (mapping_value e) behind row.more rest begun row.so_far
-    (after_begins Comma (is_level 11) refl rest operand (sym front)) (behind_fails Comma (λ (m : MappingTerm Raw). m) (mapping_at optional (chain_within depth)) rest operand (sym front) none))
-
-pub group_tail_unbegun : (depth : ℕ) (optional : Bool) (centre : Term Raw) (tokens : List Token) → None ≡ right_within depth centre tokens → None ≡ group_tail_within depth optional centre tokens
-unfolding right_within group_tail_within
-group_tail_unbegun depth optional centre tokens none =
-    group_tail_none optional (chain_within depth) centre tokens (made_row_none (is_level 11) right_and_more (right_at (chain_within depth)) (behind_at Comma (λ m. m) (mapping_at optional (chain_within depth))) (mappings_from centre) (mapping_by centre) tokens none)
+pub group_tail_none : (depth : ℕ) (optional : Bool) (centre : Term Raw) (tokens : List Token) (o : Operator) → o ≡ arrow_operator optional → None ≡ mappings_within depth o centre tokens → None ≡ group_tail_within depth optional centre tokens
+unfolding mappings_within group_tail_within
+group_tail_none depth optional centre tokens o arrow row =
+    tail_unbegun (with_centre centre) group_tail_by (group_by centre) (mapping_row_at (arrow_operator optional) (chain_within depth) tokens) (λ us. option_at (is_level 12) (sided_at (chain_within depth)) us)
+    (row ∙ ap (λ a. made (with_centre centre) (mapping_row_at a (chain_within depth) tokens)) arrow)
 
 pub replacement_read : (depth : ℕ) (optional : Bool) (centre : Term Raw) (tokens : List Token) (e : Group Raw) (behind : List Token) (none one all : List (Group Raw)) (rest : List Token) (u : Term Raw)
     → Some (group_value e, behind) ≡ group_tail_within depth optional centre tokens → none ≡ [] → one ≡ none ++ e ∷ [] → GroupsSoFar depth optional behind one all rest → None ≡ after GroupComma rest
@@ -395,6 +372,50 @@ pub replacement_none : (depth : ℕ) (optional : Bool) (centre : Term Raw) (toke
 unfolding group_tail_within replacement_within
 replacement_none depth optional centre tokens none =
     made_row_none (is_level 13) (replacement_by optional) (group_tail_at optional (chain_within depth)) (behind_at GroupComma (λ g. g) (group_at optional (chain_within depth))) (λ (y : RulingTerm Raw). with_ruling centre (Some y)) (group_by centre) tokens none
+
+-- Directed rules.
+
+uppers_of : Reader Token (Term Raw) → List Token → Bool → Option (List (ContextTerm Raw) × List Token)
+uppers_of read tokens here = made or_no_context (cond here (option_map {U = Option (List (ContextTerm Raw)) × List Token} (λ (x : List (ContextTerm Raw) × List Token). (Some x.0, x.1)) (upper_at read tokens)) (Some (None, tokens)))
+
+pub upper_blank : (depth : ℕ) (tokens : List Token) (contexts : List (Context Raw)) → None ≡ after UpUp tokens → contexts ≡ [] → Some (map context_of_program contexts, tokens) ≡ upper_within depth tokens
+unfolding uppers_of upper_within
+upper_blank depth tokens contexts none blank =
+    ap (λ (cs : List (Context Raw)). Some (map context_of_program cs, tokens)) blank ∙ ap (uppers_of (chain_within depth) tokens) (sym (no_up_up tokens none))
+
+pub upper_is : (depth : ℕ) (tokens behind : List Token) → Some behind ≡ after UpUp tokens → contexts_within depth behind ≡ upper_within depth tokens
+unfolding uppers_of contexts_within upper_within
+upper_is depth tokens behind front =
+    same (contexts_at (chain_within depth) behind)
+    ∙ ap (λ o. made or_no_context (option_map {U = Option (List (ContextTerm Raw)) × List Token} (λ (x : List (ContextTerm Raw) × List Token). (Some x.0, x.1)) (option_and_then (λ us. made (λ (c : List (ContextTerm Raw)). c) (contexts_at (chain_within depth) us)) o))) front
+    ∙ ap (uppers_of (chain_within depth) tokens) (sym (after_begins UpUp is_up_up refl tokens behind (sym front)))
+  where
+    same : (o : Option (List (ContextTerm Raw) × List Token)) → o ≡ made or_no_context (option_map {U = Option (List (ContextTerm Raw)) × List Token} (λ (x : List (ContextTerm Raw) × List Token). (Some x.0, x.1)) (made (λ (c : List (ContextTerm Raw)). c) o))
+    same None = refl
+    same (Some x) = refl
+
+abbrev directed_of : Way → List (MappingTerm Raw) → List (ContextTerm Raw) → Term Raw
+directed_of way maps contexts = directed way (mappings_by maps) (contexts_by contexts)
+
+pub directed_found : (depth : ℕ) (way : Way) (centre : Term Raw) (tokens : List Token) (o : Operator) (maps : List (MappingTerm Raw)) (behind : List Token) (contexts : List (ContextTerm Raw)) (last : List Token) (u : Term Raw)
+    → o ≡ way_operator way → Some (maps, behind) ≡ mappings_within depth o centre tokens → Some (contexts, last) ≡ upper_within depth behind → u ≡ directed way (mappings_by maps) (contexts_by contexts) → Some (u, last) ≡ directed_within depth way centre tokens
+unfolding mappings_within upper_within directed_within
+directed_found depth way centre tokens o maps behind contexts last u arrow row uppers same =
+    tail_found (with_centre centre) or_no_context (direction_by way) (λ (y : RulingTerm Raw). with_ruling centre (Some y)) (directed_of way) (λ x w. refl) (mapping_row_at (way_operator way) (chain_within depth) tokens) (λ us. option_at is_up_up (upper_at (chain_within depth)) us)
+    maps behind contexts last u (row ∙ ap (λ a. made (with_centre centre) (mapping_row_at a (chain_within depth) tokens)) arrow) uppers same
+
+pub directed_unplaced : (depth : ℕ) (way : Way) (centre : Term Raw) (tokens : List Token) (o : Operator) (maps : List (MappingTerm Raw)) (behind : List Token)
+    → o ≡ way_operator way → Some (maps, behind) ≡ mappings_within depth o centre tokens → None ≡ upper_within depth behind → None ≡ directed_within depth way centre tokens
+unfolding mappings_within upper_within directed_within
+directed_unplaced depth way centre tokens o maps behind arrow row uppers =
+    tail_fails (with_centre centre) or_no_context (direction_by way) (λ (y : RulingTerm Raw). with_ruling centre (Some y)) (mapping_row_at (way_operator way) (chain_within depth) tokens) (λ us. option_at is_up_up (upper_at (chain_within depth)) us)
+    maps behind (row ∙ ap (λ a. made (with_centre centre) (mapping_row_at a (chain_within depth) tokens)) arrow) uppers
+
+pub directed_none : (depth : ℕ) (way : Way) (centre : Term Raw) (tokens : List Token) (o : Operator) → o ≡ way_operator way → None ≡ mappings_within depth o centre tokens → None ≡ directed_within depth way centre tokens
+unfolding mappings_within directed_within
+directed_none depth way centre tokens o arrow row =
+    tail_unbegun (with_centre centre) (direction_by way) (λ (y : RulingTerm Raw). with_ruling centre (Some y)) (mapping_row_at (way_operator way) (chain_within depth) tokens) (λ us. option_at is_up_up (upper_at (chain_within depth)) us)
+    (row ∙ ap (λ a. made (with_centre centre) (mapping_row_at a (chain_within depth) tokens)) arrow)
 
 -- Level 9.
 
@@ -433,10 +454,21 @@ ruling_arrow depth t tokens true behind front =
 ruling_arrow depth t tokens false behind front =
     replaced_same t (replacement_at false (chain_within depth) behind) ∙ ap (λ us. made (with_ruling t) (option_at (is_level 14) (ruling_at (chain_within depth)) us)) (sym (arrow_takes tokens false behind front))
 
-pub ruling_none : (depth : ℕ) (t : Term Raw) (tokens : List Token) → None ≡ after Only tokens → None ≡ one_of arrow_of tokens → Some (t, tokens) ≡ ruling_within depth t tokens
+pub ruling_way : (depth : ℕ) (t : Term Raw) (tokens : List Token) (way : Way) (behind : List Token) → Some (way, behind) ≡ one_of way_of tokens → directed_within depth way t behind ≡ ruling_within depth t tokens
+unfolding directed_within ruling_within
+ruling_way depth t tokens left_longest behind front =
+    replaced_same t (directed_at left_longest (chain_within depth) behind) ∙ ap (λ us. made (with_ruling t) (option_at (is_level 14) (ruling_at (chain_within depth)) us)) (sym (way_takes tokens left_longest behind front))
+ruling_way depth t tokens left_shortest behind front =
+    replaced_same t (directed_at left_shortest (chain_within depth) behind) ∙ ap (λ us. made (with_ruling t) (option_at (is_level 14) (ruling_at (chain_within depth)) us)) (sym (way_takes tokens left_shortest behind front))
+ruling_way depth t tokens right_longest behind front =
+    replaced_same t (directed_at right_longest (chain_within depth) behind) ∙ ap (λ us. made (with_ruling t) (option_at (is_level 14) (ruling_at (chain_within depth)) us)) (sym (way_takes tokens right_longest behind front))
+ruling_way depth t tokens right_shortest behind front =
+    replaced_same t (directed_at right_shortest (chain_within depth) behind) ∙ ap (λ us. made (with_ruling t) (option_at (is_level 14) (ruling_at (chain_within depth)) us)) (sym (way_takes tokens right_shortest behind front))
+
+pub ruling_none : (depth : ℕ) (t : Term Raw) (tokens : List Token) → None ≡ after Only tokens → None ≡ one_of arrow_of tokens → None ≡ one_of way_of tokens → Some (t, tokens) ≡ ruling_within depth t tokens
 unfolding ruling_within
-ruling_none depth t tokens only_none none =
-    ap (λ b. made (with_ruling t) (cond b (option_map {U = Option (RulingTerm Raw) × List Token} (λ (x : RulingTerm Raw × List Token). (Some x.0, x.1)) (ruling_at (chain_within depth) tokens)) (Some (None, tokens)))) (sym (no_ruling tokens only_none none))
+ruling_none depth t tokens only_none none way_none =
+    ap (λ b. made (with_ruling t) (cond b (option_map {U = Option (RulingTerm Raw) × List Token} (λ (x : RulingTerm Raw × List Token). (Some x.0, x.1)) (ruling_at (chain_within depth) tokens)) (Some (None, tokens)))) (sym (no_ruling tokens only_none none way_none))
 
 insertion_from : (depth : ℕ) (tokens : List Token) (optional : Bool) (behind : List Token) (t : Term Raw) (rest : List Token) → Some (optional, behind) ≡ one_of arrow_of tokens → Some (t, rest) ≡ chain_within depth behind
     → made (λ s. rules optional (groups_by (record { maps = inserting t ∷ []; sided = s } ∷ []))) (sided_within depth rest) ≡ insertion_within depth tokens

@@ -1,16 +1,17 @@
 -- The terms of nodes with lists, from the items of the `Vec`s that hold them.
 use Rattle.std.proofs.Common.{◌≡◌, ◌==◌, Bool, true, false, List, [], ◌∷◌, length, map, Vec, vec_len, Box, Global, refl, ap, ◌∙◌, arith}
 use Rattle.std.proofs.lemmas.Bool.Decides.{Decides-eqb}
-use Rattle.regex_ast.specs.Terms.{Term, term, ignore, concat, terms_of, or, and, less, chain, links_of, steps, steps_by, cross_with, then as compose, only, rules, contexts_of, between, mappings_of, plain, markup, insert, groups_of, then_group, maps_of, side_of, contexts_in}
-use Rattle.regex_ast.specs.declared.expr.Expr.{Expr, Ignore, Concat, Chain, Only, Rules, Steps}
-use Rattle.regex_ast.specs.declared.expr.Expr.TheViews.{roll-RuleSet}
+use Rattle.regex_ast.specs.Terms.{Term, term, ignore, concat, terms_of, or, and, less, chain, links_of, steps, steps_by, cross_with, then as compose, only, rules, directed, contexts_of, between, mappings_of, plain, markup, insert, groups_of, then_group, maps_of, side_of, contexts_in}
+use Rattle.regex_ast.specs.declared.expr.Expr.{Expr, Ignore, Concat, Chain, Only, Rules, Directed, Steps}
+use Rattle.regex_ast.specs.declared.expr.Expr.TheViews.{roll-RuleSet, roll-Directed}
 use Rattle.regex_ast.specs.declared.expr.Context.{Context}
 use Rattle.regex_ast.specs.declared.expr.Group.{Group}
 use Rattle.regex_ast.specs.declared.expr.Mapping.{Mapping, Plain, Markup, Insert}
 use Rattle.regex_ast.specs.declared.expr.Link.{Link, Or, And, Less}
 use Rattle.regex_ast.specs.declared.expr.Raw.{Raw}
+use Rattle.regex_ast.specs.declared.expr.Way.{Way}
 use Rattle.regex_ast.specs.declared.expr.Step.{Step, CrossWith, Then}
-use Rattle.regex_ast.proofs.Rows.{term-Ignore, term-Concat, term-Chain, term-Only, term-Rules, term-Steps}
+use Rattle.regex_ast.proofs.Rows.{term-Ignore, term-Concat, term-Chain, term-Only, term-Rules, term-Directed, term-Steps}
 use Rattle.regex_grammar.specs.Grammar.{ignoring, side_by_side, links_by, with_links, steps_by as grammar_steps, with_steps, contexts_by, mappings_by, groups_by}
 use Rattle.regex_parser.specs.Values.{link_value, step_value, context_value, mapping_value, group_value}
 
@@ -76,3 +77,6 @@ groups_same (g ∷ gs) =
 
 pub term-rules : (optional : Bool) (all : Vec (Group Raw) Global) → term (Rules (roll-RuleSet Raw (record { optional = optional; groups = all }))) ≡ rules optional (groups_by (map group_value all.items))
 term-rules optional all = term-Rules optional all ∙ ap (rules optional) (groups_same all.items)
+
+pub term-directed : (way : Way) (maps : Vec (Mapping Raw) Global) (all : Vec (Context Raw) Global) → term (Directed (roll-Directed Raw (record { way = way; maps = maps; contexts = all }))) ≡ directed way (mappings_by (map mapping_value maps.items)) (contexts_by (map context_value all.items))
+term-directed way maps all = term-Directed way maps all ∙ ap (λ ms. directed way ms (contexts_of all.items)) (mappings_same maps.items) ∙ ap (directed way (mappings_by (map mapping_value maps.items))) (contexts_same all.items)

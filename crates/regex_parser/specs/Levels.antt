@@ -5,9 +5,11 @@ use Rattle.regex_ast.specs.Terms.{Term, any, edge, maybe, only}
 use Rattle.regex_ast.specs.declared.expr.Prefix.{Prefix}
 use Rattle.regex_ast.specs.declared.expr.Raw.{Raw}
 use Rattle.regex_ast.specs.declared.expr.Suffix.{Suffix}
+use Rattle.regex_ast.specs.declared.expr.Way.{Way}
 use Rattle.regex_grammar.specs.Rows.{Reader, many, option_at}
-use Rattle.regex_grammar.specs.Grammar.{run_term, quoted_term, braced_term, part, ContextTerm, contexts_by, SidedTerm, sided_by, MappingTerm, mapping_by, GroupTerm, group_by, with_ruling}
-use Rattle.regex_grammar.specs.Reading.{is_level, is_backslash, is_prefix, one_of, backslash_of, prefix_of, suffix_at, primary_at, square_at, bracket_at, negated_at, crossed_at, suffixed_at, prefixed_at, ignored_at, concat_at, chain_at, context_at, contexts_at, sided_at, dots_at, right_at, mapping_at, group_tail_at, group_at, replacement_at, ruling_at, insertion_at, nine_at, steps_at, expression_at}
+use Rattle.regex_grammar.specs.Grammar.{run_term, quoted_term, braced_term, part, ContextTerm, contexts_by, SidedTerm, sided_by, MappingTerm, mapping_by, with_centre, or_no_context, GroupTerm, group_by, with_ruling}
+use Rattle.regex_grammar.specs.Reading.{is_level, is_up_up, is_backslash, is_prefix, one_of, backslash_of, prefix_of, suffix_at, primary_at, square_at, bracket_at, negated_at, crossed_at, suffixed_at, prefixed_at, ignored_at, concat_at, chain_at, context_at, contexts_at, sided_at, dots_at, right_at, mapping_at, mapping_row_at, upper_at, group_tail_at, group_at, replacement_at, directed_at, ruling_at, insertion_at, nine_at, steps_at, expression_at}
+use Rattle.regex_tokens.specs.declared.token.Operator.{Operator}
 use Rattle.regex_tokens.specs.declared.token.Operator.TheVariants.{CloseRound, Question, Edge}
 use Rattle.regex_tokens.specs.declared.token.Token.{Token}
 use Rattle.regex_tokens.specs.declared.token.Token.TheVariants.{Operator as operator, Quoted as quoted_token, Braced as braced_token, Run as run_token}
@@ -90,8 +92,14 @@ marks_within depth centre before tokens = made (mapping_by centre) (dots_at (cha
 unfoldable pub right_within : ℕ → Term Raw → Reader Token (MappingTerm Raw)
 right_within depth centre tokens = made (mapping_by centre) (right_at (chain_within depth) tokens)
 
-unfoldable pub mapping_within : ℕ → Bool → Reader Token (MappingTerm Raw)
-mapping_within depth optional tokens = mapping_at optional (chain_within depth) tokens
+unfoldable pub mapping_within : ℕ → Operator → Reader Token (MappingTerm Raw)
+mapping_within depth arrow tokens = mapping_at arrow (chain_within depth) tokens
+
+unfoldable pub mappings_within : ℕ → Operator → Term Raw → Reader Token (List (MappingTerm Raw))
+mappings_within depth arrow centre tokens = made (with_centre centre) (mapping_row_at arrow (chain_within depth) tokens)
+
+unfoldable pub upper_within : ℕ → Reader Token (List (ContextTerm Raw))
+upper_within depth tokens = made or_no_context (option_at is_up_up (upper_at (chain_within depth)) tokens)
 
 unfoldable pub group_tail_within : ℕ → Bool → Term Raw → Reader Token (GroupTerm Raw)
 group_tail_within depth optional centre tokens = made (group_by centre) (group_tail_at optional (chain_within depth) tokens)
@@ -101,6 +109,9 @@ group_within depth optional tokens = group_at optional (chain_within depth) toke
 
 unfoldable pub replacement_within : ℕ → Bool → Term Raw → Reader Token (Term Raw)
 replacement_within depth optional centre tokens = made (λ y. with_ruling centre (Some y)) (replacement_at optional (chain_within depth) tokens)
+
+unfoldable pub directed_within : ℕ → Way → Term Raw → Reader Token (Term Raw)
+directed_within depth way centre tokens = made (λ y. with_ruling centre (Some y)) (directed_at way (chain_within depth) tokens)
 
 unfoldable pub restriction_within : ℕ → Term Raw → Reader Token (Term Raw)
 restriction_within depth centre tokens = made (λ y. only centre (contexts_by y)) (contexts_at (chain_within depth) tokens)

@@ -1,11 +1,13 @@
 ghost use Rattle.std.specs.Prelude.{◌≡◌, IfOk, map, [], ◌∷◌};
-ghost use Rattle.regex_ast.specs.Terms.{term, group as group_term, maybe, cross, only, rules};
-ghost use Rattle.regex_grammar.specs.Grammar.{with_suffixes, with_prefixes, ignoring, side_by_side, with_links, with_steps, contexts_by, plain_mapping, marking, inserting, groups_by};
+ghost use Rattle.regex_ast.specs.Terms.{term, group as group_term, maybe, cross, only, rules, directed};
+ghost use Rattle.regex_grammar.specs.Grammar.{with_suffixes, with_prefixes, ignoring, side_by_side, with_links, with_steps, contexts_by, plain_mapping, marking, inserting, mappings_by, groups_by};
 ghost use Rattle.regex_parser.specs.Values.{not_one_of, linked_by, step_by, link_value, step_value, context_value, sided_value, mapping_value, group_value};
 
 use crate::front::{LinkOperator, StepOperator};
 use crate::parsed::Parsed;
-use regex_ast::{Context, Expr, Group, Link, Mapping, Prefix, Raw, RuleSet, Side, Step, Suffix};
+use regex_ast::{
+    Context, Directed, Expr, Group, Link, Mapping, Prefix, Raw, RuleSet, Side, Step, Suffix, Way,
+};
 use std::alloc::{AllocError, Global};
 
 /// An operand behind so many backslashes; where there are none, the operand. With 2^32 of them or more there is no
@@ -216,6 +218,19 @@ pub fn rules(optional: bool, groups: Vec<Group<Raw>>) -> Parsed
 {
     Parsed {
         expr: Expr::Rules(RuleSet { optional, groups }),
+    }
+}
+
+/// Mappings that are taken in a way.
+pub fn directed(way: Way, maps: Vec<Mapping<Raw>>, contexts: Vec<Context<Raw>>) -> Parsed
+    ensures { term result.expr ≡ directed way (mappings_by (map mapping_value maps.items)) (contexts_by (map context_value contexts.items)) }
+{
+    Parsed {
+        expr: Expr::Directed(Directed {
+            way,
+            maps,
+            contexts,
+        }),
     }
 }
 

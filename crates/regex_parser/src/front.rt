@@ -3,13 +3,13 @@ ghost use Rattle.std.specs.List.{list_all};
 ghost use Rattle.std.specs.Option.{option_map};
 ghost use Rattle.regex_ast.specs.Terms.{Term};
 ghost use Rattle.regex_ast.specs.declared.expr.Raw.{Raw};
-ghost use Rattle.regex_grammar.specs.Grammar.{is_digit, is_number, power_value, arrow_operator};
-ghost use Rattle.regex_grammar.specs.Reading.{is_level, one_of, backslash_of, prefix_of, linked_of, side_of, arrow_of, step_of, power_at, suffix_at};
+ghost use Rattle.regex_grammar.specs.Grammar.{is_digit, is_number, power_value, arrow_operator, way_operator};
+ghost use Rattle.regex_grammar.specs.Reading.{is_level, one_of, backslash_of, prefix_of, linked_of, side_of, arrow_of, way_of, step_of, power_at, suffix_at};
 ghost use Rattle.regex_grammar.specs.Rows.{begins};
 ghost use Rattle.regex_parser.specs.Levels.{is_operand, backslashes_at, prefixes_at, suffixes_at};
 ghost use Rattle.regex_parser.specs.Values.{linked_by, step_by};
 
-use regex_ast::{Prefix, Side, Suffix};
+use regex_ast::{Prefix, Side, Suffix, Way};
 use regex_tokens::{Operator, Token};
 use std::alloc::{AllocError, Global};
 
@@ -109,6 +109,31 @@ pub fn arrow(optional: bool) -> Operator
         Operator::Optional
     } else {
         Operator::Arrow
+    }
+}
+
+/// The way of the directed arrow at the front, and the tokens behind it; `None` where there is no such arrow.
+pub fn split_way(tokens: &[Token]) -> Option<(Way, &[Token])>
+    ensures { option_map (λ x. (x.0, x.1.now)) result ≡ one_of way_of tokens.now }
+{
+    match tokens.split_first() {
+        Some((Token::Operator(Operator::LeftLongest), rest)) => Some((Way::LeftLongest, rest)),
+        Some((Token::Operator(Operator::LeftShortest), rest)) => Some((Way::LeftShortest, rest)),
+        Some((Token::Operator(Operator::RightLongest), rest)) => Some((Way::RightLongest, rest)),
+        Some((Token::Operator(Operator::RightShortest), rest)) => Some((Way::RightShortest, rest)),
+        _ => None,
+    }
+}
+
+/// The arrow of a way.
+pub fn directed_arrow(way: Way) -> Operator
+    ensures { result ≡ way_operator way }
+{
+    match way {
+        Way::LeftLongest => Operator::LeftLongest,
+        Way::LeftShortest => Operator::LeftShortest,
+        Way::RightLongest => Operator::RightLongest,
+        Way::RightShortest => Operator::RightShortest,
     }
 }
 

@@ -2,17 +2,17 @@ ghost use Rattle.std.specs.Prelude.{◌≡◌, IfOk, map};
 ghost use Rattle.std.specs.Option.{option_map};
 ghost use Rattle.regex_ast.specs.Terms.{term};
 ghost use Rattle.regex_grammar.specs.Reading.{expression_at};
-ghost use Rattle.regex_parser.specs.Levels.{square_within, round_within, primary_within, negated_within, crossed_within, suffixed_within, prefixed_within, ignored_within, concat_within, chain_within, part_within, context_within, contexts_within, sided_within, marks_within, right_within, mapping_within, group_tail_within, group_within, replacement_within, restriction_within, ruling_within, insertion_within, nine_within, steps_within};
+ghost use Rattle.regex_parser.specs.Levels.{square_within, round_within, primary_within, negated_within, crossed_within, suffixed_within, prefixed_within, ignored_within, concat_within, chain_within, part_within, context_within, contexts_within, sided_within, marks_within, right_within, mapping_within, mappings_within, upper_within, group_tail_within, group_within, replacement_within, directed_within, restriction_within, ruling_within, insertion_within, nine_within, steps_within};
 ghost use Rattle.regex_parser.specs.Values.{context_value, sided_value, mapping_value, group_value};
 
 use crate::build;
 use crate::front::{
-    arrow, backslashes, begins_operand, prefixes, split_arrow, split_link, split_side, split_step,
-    suffixes,
+    arrow, backslashes, begins_operand, directed_arrow, prefixes, split_arrow, split_link,
+    split_side, split_step, split_way, suffixes,
 };
 use crate::leaf::leaf;
 use crate::parsed::Parsed;
-use regex_ast::{Context, Expr, Group, Mapping, Raw, Side};
+use regex_ast::{Context, Expr, Group, Mapping, Raw, Side, Way};
 use regex_tokens::{Operator, Token, after};
 use std::alloc::{AllocError, Global};
 
@@ -105,6 +105,9 @@ fn ruling<'a>(
     if let Some((optional, rest)) = split_arrow(tokens) {
         return replacement(alloc, optional, centre, rest, depth);
     }
+    if let Some((way, rest)) = split_way(tokens) {
+        return directed(alloc, way, centre, rest, depth);
+    }
     Ok(Some((centre, tokens)))
 }
 
@@ -150,6 +153,26 @@ fn replacement<'a>(
     Ok(Some((build::rules(optional, groups), rest)))
 }
 
+/// Reads what is behind a first centre and its directed arrow.
+#[cycle(parser)]
+fn directed<'a>(
+    alloc: Global,
+    way: Way,
+    centre: Parsed,
+    tokens: &'a [Token],
+    depth: u32,
+) -> Result<Read<'a, Parsed>, AllocError>
+    ensures { IfOk result (λ read. option_map (λ x. (term x.0.expr, x.1.now)) read ≡ directed_within depth way (term centre.expr) tokens.now) }
+{
+    let Some((maps, rest)) = mappings(alloc, directed_arrow(way), centre, tokens, depth)? else {
+        return Ok(None);
+    };
+    let Some((contexts, rest)) = upper(alloc, rest, depth)? else {
+        return Ok(None);
+    };
+    Ok(Some((build::directed(way, maps, contexts), rest)))
+}
+
 /// Reads a group.
 #[cycle(parser)]
 fn group<'a>(
@@ -180,38 +203,55 @@ fn group_tail<'a>(
 ) -> Result<Read<'a, Group<Raw>>, AllocError>
     ensures { IfOk result (λ read. option_map (λ x. (group_value x.0, x.1.now)) read ≡ group_tail_within depth optional (term centre.expr) tokens.now) }
 {
-    let Some((first, mut rest)) = right_side(alloc, centre, tokens, depth)? else {
+    let Some((maps, rest)) = mappings(alloc, arrow(optional), centre, tokens, depth)? else {
         return Ok(None);
     };
-    let mut maps = Vec::new(alloc);
-    maps.push(first)?;
-    'mappings: while let Some(next) = after(rest, Operator::Comma) {
-        let Some((map, behind)) = mapping(alloc, optional, next, depth)? else {
-            return Ok(None);
-        };
-        maps.push(map)?;
-        rest = behind;
-    }
     let Some((side, contexts, rest)) = sided(alloc, rest, depth)? else {
         return Ok(None);
     };
     Ok(Some((build::group(maps, side, contexts), rest)))
 }
 
-/// Reads a mapping.
+/// Reads what is behind a first centre and this arrow of it: its right side, and further mappings by the same arrow.
+#[cycle(parser)]
+fn mappings<'a>(
+    alloc: Global,
+    arrow: Operator,
+    centre: Parsed,
+    tokens: &'a [Token],
+    depth: u32,
+) -> Result<Read<'a, Vec<Mapping<Raw>>>, AllocError>
+    ensures { IfOk result (λ read. option_map (λ x. (map mapping_value x.0.items, x.1.now)) read ≡ mappings_within depth arrow (term centre.expr) tokens.now) }
+{
+    let Some((first, mut rest)) = right_side(alloc, centre, tokens, depth)? else {
+        return Ok(None);
+    };
+    let mut maps = Vec::new(alloc);
+    maps.push(first)?;
+    'mappings: while let Some(next) = after(rest, Operator::Comma) {
+        let Some((map, behind)) = mapping(alloc, arrow, next, depth)? else {
+            return Ok(None);
+        };
+        maps.push(map)?;
+        rest = behind;
+    }
+    Ok(Some((maps, rest)))
+}
+
+/// Reads a mapping by this arrow.
 #[cycle(parser)]
 fn mapping<'a>(
     alloc: Global,
-    optional: bool,
+    arrow: Operator,
     tokens: &'a [Token],
     depth: u32,
 ) -> Result<Read<'a, Mapping<Raw>>, AllocError>
-    ensures { IfOk result (λ read. option_map (λ x. (mapping_value x.0, x.1.now)) read ≡ mapping_within depth optional tokens.now) }
+    ensures { IfOk result (λ read. option_map (λ x. (mapping_value x.0, x.1.now)) read ≡ mapping_within depth arrow tokens.now) }
 {
     let Some((centre, rest)) = chain(alloc, tokens, depth)? else {
         return Ok(None);
     };
-    let Some(behind) = after(rest, arrow(optional)) else {
+    let Some(behind) = after(rest, arrow) else {
         return Ok(None);
     };
     right_side(alloc, centre, behind, depth)
@@ -273,6 +313,21 @@ fn sided<'a>(
         return Ok(None);
     };
     Ok(Some((side, contexts, rest)))
+}
+
+/// Reads contexts behind `||`; where there is none, no context is asked for.
+#[cycle(parser)]
+fn upper<'a>(
+    alloc: Global,
+    tokens: &'a [Token],
+    depth: u32,
+) -> Result<Read<'a, Vec<Context<Raw>>>, AllocError>
+    ensures { IfOk result (λ read. option_map (λ x. (map context_value x.0.items, x.1.now)) read ≡ upper_within depth tokens.now) }
+{
+    let Some(rest) = after(tokens, Operator::UpUp) else {
+        return Ok(Some((Vec::new(alloc), tokens)));
+    };
+    contexts(alloc, rest, depth)
 }
 
 /// Reads contexts, with `,` between them.

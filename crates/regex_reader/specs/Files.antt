@@ -1,7 +1,7 @@
 -- What a text says: its definitions, or its first fault (Beesley and Karttunen, Finite State Morphology, 2003, chapter 3, on
 -- scripts of `define` commands). A text is a sequence of statements `define NAME EXPRESSION ;`. Statement by statement
 -- a place without a token is tried first, then the depth of brackets, the form, and the limits of powers and rules.
-use Rattle.std.specs.Prelude.{◌≡◌, ◌≢◌, ◌+◌, ◌++◌, ℕ, Bool, true, false, not, ◌&&◌, ◌||◌, nat_le, nat_lt, List, [], ◌∷◌, map, codes, Some, Result, Ok, Err}
+use Rattle.std.specs.Prelude.{◌≡◌, ◌≢◌, ◌++◌, ℕ, Bool, true, false, not, ◌&&◌, ◌||◌, nat_le, nat_lt, List, [], ◌∷◌, map, codes, Some, Result, Ok, Err}
 use Rattle.std.specs.List.{list_all, list_any}
 use Rattle.fsm_base.specs.Cut.{characters}
 use Rattle.regex_ast.specs.Terms.{Term, term}
@@ -14,7 +14,7 @@ use Rattle.regex_tokens.specs.Cuts.{Cuts}
 use Rattle.regex_tokens.specs.declared.comments.Comments.TheVariants.{OfDefinitions, OfEntries}
 use Rattle.regex_tokens.specs.declared.token.Ending.{Ending}
 use Rattle.regex_tokens.specs.declared.token.Ending.TheVariants.{Whole, NoToken}
-use Rattle.regex_tokens.specs.declared.token.Operator.TheVariants.{OpenSquare, CloseSquare, OpenRound, CloseRound, Semicolon, Arrow, Optional, Only}
+use Rattle.regex_tokens.specs.declared.token.Operator.TheVariants.{OpenSquare, CloseSquare, OpenRound, CloseRound, Semicolon, Arrow, Optional, LeftLongest, LeftShortest, RightLongest, RightShortest, Only}
 use Rattle.regex_tokens.specs.declared.token.Place.{Place}
 use Rattle.regex_tokens.specs.declared.token.Token.{Token}
 use Rattle.regex_tokens.specs.declared.token.Token.TheVariants.{Operator as operator, Run as run}
@@ -160,6 +160,10 @@ pub record ReadsAs (text : List ℕ) (answer : Result (List Statement) FaultAt) 
 abbrev pub is_ruling : Token → Bool
 is_ruling (operator Arrow) = true
 is_ruling (operator Optional) = true
+is_ruling (operator LeftLongest) = true
+is_ruling (operator LeftShortest) = true
+is_ruling (operator RightLongest) = true
+is_ruling (operator RightShortest) = true
 is_ruling (operator Only) = true
 is_ruling _ = false
 

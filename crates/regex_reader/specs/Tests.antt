@@ -4,7 +4,7 @@ use Rattle.std.specs.List.{list_any}
 use Rattle.regex_ast.specs.declared.expr.Raw.{Raw}
 use Rattle.regex_ast.specs.declared.expr.Suffix.{Suffix}
 use Rattle.regex_ast.specs.declared.expr.Suffix.TheVariants.{Power}
-use Rattle.regex_ast.specs.Terms.{Term, Terms, Links, Contexts, Steps, Mappings, Groups, edge, group, maybe, not_one, cross, suffixed, prefixed, ignore, concat, chain, only, rules, steps, no_term, then_term, no_link, or, and, less, no_context, between, no_step, cross_with, then, no_mapping, plain, markup, insert, no_group, then_group}
+use Rattle.regex_ast.specs.Terms.{Term, Terms, Links, Contexts, Steps, Mappings, Groups, edge, group, maybe, not_one, cross, suffixed, prefixed, ignore, concat, chain, only, rules, directed, steps, no_term, then_term, no_link, or, and, less, no_context, between, no_step, cross_with, then, no_mapping, plain, markup, insert, no_group, then_group}
 use Rattle.regex_reader.specs.Limits.{highest_power, most_in_rules}
 
 -- an expression or a part of one, and whether it stands inside a context
@@ -29,6 +29,7 @@ abbrev mutual
   nodes inside (chain e links) = at inside (chain e links) ∷ (nodes inside e ++ each_link inside links)
   nodes inside (only e contexts) = at inside (only e contexts) ∷ (nodes inside e ++ each_context contexts)
   nodes inside (rules optional groups) = at inside (rules optional groups) ∷ each_group inside groups
+  nodes inside (directed way maps contexts) = at inside (directed way maps contexts) ∷ (each_mapping inside maps ++ each_context contexts)
   nodes inside (steps e more) = at inside (steps e more) ∷ (nodes inside e ++ each_step inside more)
   nodes inside t = at inside t ∷ []
 
@@ -108,4 +109,5 @@ has_large_rule node = of_term node.term
     of_term : Term Raw → Bool
     of_term (only e contexts) = nat_lt most_in_rules (context_count contexts)
     of_term (rules optional groups) = nat_lt most_in_rules (mappings_in groups) || nat_lt most_in_rules (contexts_in groups)
+    of_term (directed way maps contexts) = nat_lt most_in_rules (mapping_count maps) || nat_lt most_in_rules (context_count contexts)
     of_term _ = false

@@ -11,9 +11,9 @@ use regex_ast::{Expr, Raw, ReadError, Why};
 use regex_tokens::{Comments, Ending, Operator, Token, tokens};
 use std::alloc::Global;
 
-/// Reads a text that begins in this line, counted from 1, as one expression without `->`, `(->)` and `=>`, as an entry
-/// of a lexicon has one (Beesley and Karttunen, Finite State Morphology, 2003, chapters 2 and 4). A comment begins with `!`
-/// alone there.
+/// Reads a text that begins in this line, counted from 1, as one expression without `->`, `(->)`, a directed arrow and
+/// `=>`, as an entry of a lexicon has one (Beesley and Karttunen, Finite State Morphology, 2003, chapters 2 and 4). A
+/// comment begins with `!` alone there.
 ///
 /// # Errors
 ///
@@ -77,6 +77,14 @@ fn is_ruling(token: &Token) -> bool
 {
     matches!(
         token,
-        Token::Operator(Operator::Arrow | Operator::Optional | Operator::Only)
+        Token::Operator(
+            Operator::Arrow
+                | Operator::Optional
+                | Operator::LeftLongest
+                | Operator::LeftShortest
+                | Operator::RightLongest
+                | Operator::RightShortest
+                | Operator::Only
+        )
     )
 }

@@ -20,7 +20,7 @@ pub struct Findings {
     pub misplaced_edge: bool,
     /// A power `^n` with a number above 255.
     pub high_power: bool,
-    /// A set of rules with more than 64 mappings or contexts, or more than 64 contexts of one `=>`.
+    /// A set of rules or a directed rule with more than 64 mappings or contexts, or more than 64 contexts of one `=>`.
     pub large_rule: bool,
 }
 
@@ -113,6 +113,10 @@ pub fn find_in_expression(expr: &Expr<Raw>, inside: bool) -> Findings
         Expr::Rules(rules) => {
             Findings::of_size(are_large(&rules.groups)).or(find_in_groups(&rules.groups, inside))
         }
+        Expr::Directed(rule) => Findings::of_size(is_large(
+            rule.maps.len(),
+            rule.contexts.len(),
+        )).or(find_in_mappings(&rule.maps, inside).or(find_in_contexts(&rule.contexts))),
         Expr::Steps(first, steps) => find_in_expression(first, inside).or(find_in_steps(
             steps, inside,
         )),
@@ -235,6 +239,13 @@ fn are_large(groups: &[Group<Raw>]) -> bool
         mappings = mappings.saturating_add(group.maps.len());
         contexts = contexts.saturating_add(group.contexts.len());
     }
+    is_large(mappings, contexts)
+}
+
+/// Whether there are more than 64 mappings or more than 64 contexts.
+fn is_large(mappings: usize, contexts: usize) -> bool
+    ensures { result ≡ (nat_lt most_in_rules mappings || nat_lt most_in_rules contexts) }
+{
     mappings > MOST_IN_RULES || contexts > MOST_IN_RULES
 }
 

@@ -27,7 +27,8 @@ use std::alloc::Global;
 /// - `LimitNesting`, where more than 64 brackets are open round a token;
 /// - `Statement`, where it has another form or no `;`, or `.#.` stands outside of a context;
 /// - `LimitPower`, where a power `^n` has a number above 255;
-/// - `LimitRule`, where a set of rules has more than 64 mappings or contexts, or a `=>` more than 64 contexts.
+/// - `LimitRule`, where a set of rules, directed or not, has more than 64 mappings or contexts, or a `=>` more than 64
+///   contexts.
 ///
 /// `Memory` where there was no memory.
 pub fn read_xfst(alloc: Global, text: &str) -> Result<Vec<Define<Raw>>, ReadError>

@@ -8,7 +8,7 @@ use Rattle.regex_tokens.specs.Bytes.{begins, is_blank, is_sign}
 use Rattle.regex_tokens.specs.Spelling.{spelling, IsSpaced, Spells}
 use Rattle.regex_tokens.specs.Reading.{longest_first, first_of, closes, spaced_by, spaced_at, HasNone, IsRead, taken, left}
 use Rattle.regex_tokens.specs.declared.token.Operator.{Operator}
-use Rattle.regex_tokens.specs.declared.token.Operator.TheVariants.{OpenSquare, CloseSquare, OpenRound, CloseRound, Optional, Arrow, Only, UpUp, Bar, LowUp, Slash, UpLow, LowLow, Backslash, Ampersand, Minus, Tilde, Dollar, Star, Plus, Caret, Colon, Semicolon, GroupComma, Comma, Question, Underscore, Dots, CrossWith, Then, Upper, Lower, Inverse, Reverse, Edge, Insertion}
+use Rattle.regex_tokens.specs.declared.token.Operator.TheVariants.{OpenSquare, CloseSquare, OpenRound, CloseRound, Optional, Arrow, LeftLongest, LeftShortest, RightLongest, RightShortest, Only, UpUp, Bar, LowUp, Slash, UpLow, LowLow, Backslash, Ampersand, Minus, Tilde, Dollar, Star, Plus, Caret, Colon, Semicolon, GroupComma, Comma, Question, Underscore, Dots, CrossWith, Then, Upper, Lower, Inverse, Reverse, Edge, Insertion}
 use Rattle.regex_tokens.specs.declared.token.Token.{Token}
 use Rattle.regex_tokens.specs.declared.token.Token.TheVariants.{Operator as operator, Quoted as quoted, Braced as braced, Run as run}
 use Rattle.regex_tokens.proofs.Lists.{and_left, and_right, and_true, false_by, taken-left, list_all-taken, taken-front, left-front}
@@ -34,6 +34,10 @@ listed OpenRound = refl
 listed CloseRound = refl
 listed Optional = refl
 listed Arrow = refl
+listed LeftLongest = refl
+listed LeftShortest = refl
+listed RightLongest = refl
+listed RightShortest = refl
 listed Only = refl
 listed UpUp = refl
 listed Bar = refl
@@ -211,6 +215,10 @@ operator_ascii OpenRound = refl
 operator_ascii CloseRound = refl
 operator_ascii Optional = refl
 operator_ascii Arrow = refl
+operator_ascii LeftLongest = refl
+operator_ascii LeftShortest = refl
+operator_ascii RightLongest = refl
+operator_ascii RightShortest = refl
 operator_ascii Only = refl
 operator_ascii UpUp = refl
 operator_ascii Bar = refl

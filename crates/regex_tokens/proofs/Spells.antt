@@ -11,7 +11,7 @@ use Rattle.regex_tokens.specs.Cuts.{IsLongest}
 use Rattle.regex_tokens.specs.Reading.{piece_len, IsPiecesLen, undone_from, HasNone, IsRead, taken, left}
 use Rattle.regex_tokens.specs.declared.token.Run.{Run}
 use Rattle.regex_tokens.specs.declared.token.Operator.{Operator}
-use Rattle.regex_tokens.specs.declared.token.Operator.TheVariants.{OpenSquare, CloseSquare, OpenRound, CloseRound, Optional, Arrow, Only, UpUp, Bar, LowUp, Slash, UpLow, LowLow, Backslash, Ampersand, Minus, Tilde, Dollar, Star, Plus, Caret, Colon, Semicolon, GroupComma, Comma, Question, Underscore, Dots, CrossWith, Then, Upper, Lower, Inverse, Reverse, Edge, Insertion}
+use Rattle.regex_tokens.specs.declared.token.Operator.TheVariants.{OpenSquare, CloseSquare, OpenRound, CloseRound, Optional, Arrow, LeftLongest, LeftShortest, RightLongest, RightShortest, Only, UpUp, Bar, LowUp, Slash, UpLow, LowLow, Backslash, Ampersand, Minus, Tilde, Dollar, Star, Plus, Caret, Colon, Semicolon, GroupComma, Comma, Question, Underscore, Dots, CrossWith, Then, Upper, Lower, Inverse, Reverse, Edge, Insertion}
 use Rattle.regex_tokens.specs.declared.token.Token.{Token}
 use Rattle.regex_tokens.specs.declared.token.Token.TheVariants.{Operator as operator, Quoted as quoted, Braced as braced, Run as run}
 use Rattle.regex_tokens.proofs.Lists.{and_left, false_by, list_all-taken, begins-left, split_once, take-prefix_len, drop-prefix_len}
@@ -78,6 +78,10 @@ signed OpenRound = refl
 signed CloseRound = refl
 signed Optional = refl
 signed Arrow = refl
+signed LeftLongest = refl
+signed LeftShortest = refl
+signed RightLongest = refl
+signed RightShortest = refl
 signed Only = refl
 signed UpUp = refl
 signed Bar = refl

@@ -1,5 +1,5 @@
 -- A text has one cut.
-use Rattle.std.proofs.Common.{◌≡◌, ◌≤◌, ℕ, ◌+◌, true, false, cond, not, List, [], ◌∷◌, ◌++◌, length, take, drop, Option, Some, None, refl, sym, ap, subst, ◌∙◌, ◌⊎◌, inl, inr, arith, append-nil, length-append}
+use Rattle.std.proofs.Common.{◌≡◌, ◌≤◌, ℕ, ◌+◌, true, false, cond, not, List, [], ◌∷◌, ◌++◌, length, take, drop, Option, Some, None, refl, sym, ap, subst, ◌∙◌, inl, inr, arith, append-nil, length-append}
 use Rattle.std.specs.List.{list_any}
 use Rattle.std.specs.Str.{bytes_eq}
 use Rattle.regex_ast.specs.Flags.{IsFlag}
@@ -13,7 +13,7 @@ use Rattle.regex_tokens.specs.declared.token.Ending.{Ending}
 use Rattle.regex_tokens.specs.declared.token.Ending.TheVariants.{Whole, NoToken}
 use Rattle.regex_tokens.specs.declared.token.Place.{Place}
 use Rattle.regex_tokens.specs.declared.token.Operator.{Operator}
-use Rattle.regex_tokens.specs.declared.token.Operator.TheVariants.{OpenSquare, CloseSquare, OpenRound, CloseRound, Optional, Arrow, Only, UpUp, Bar, LowUp, Slash, UpLow, LowLow, Backslash, Ampersand, Minus, Tilde, Dollar, Star, Plus, Caret, Colon, Semicolon, GroupComma, Comma, Question, Underscore, Dots, CrossWith, Then, Upper, Lower, Inverse, Reverse, Edge, Insertion}
+use Rattle.regex_tokens.specs.declared.token.Operator.TheVariants.{OpenSquare, CloseSquare, OpenRound, CloseRound, Optional, Arrow, LeftLongest, LeftShortest, RightLongest, RightShortest, Only, UpUp, Bar, LowUp, Slash, UpLow, LowLow, Backslash, Ampersand, Minus, Tilde, Dollar, Star, Plus, Caret, Colon, Semicolon, GroupComma, Comma, Question, Underscore, Dots, CrossWith, Then, Upper, Lower, Inverse, Reverse, Edge, Insertion}
 use Rattle.regex_tokens.specs.declared.token.Token.{Token}
 use Rattle.regex_tokens.specs.declared.token.Token.TheVariants.{Operator as operator, Quoted as quoted, Braced as braced, Run as run}
 use Rattle.regex_tokens.proofs.Lists.{split_once}
@@ -36,6 +36,10 @@ named_is OpenRound = refl
 named_is CloseRound = refl
 named_is Optional = refl
 named_is Arrow = refl
+named_is LeftLongest = refl
+named_is LeftShortest = refl
+named_is RightLongest = refl
+named_is RightShortest = refl
 named_is Only = refl
 named_is UpUp = refl
 named_is Bar = refl

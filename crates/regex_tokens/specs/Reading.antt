@@ -9,7 +9,7 @@ use Rattle.regex_tokens.specs.declared.comments.Comments.{Comments}
 use Rattle.regex_tokens.specs.declared.bytes.ByteClass.{ByteClass}
 use Rattle.regex_tokens.specs.declared.bytes.ByteClass.TheVariants.{Blank, Line, Run, Quoted, Braced, Feature}
 use Rattle.regex_tokens.specs.declared.token.Operator.{Operator}
-use Rattle.regex_tokens.specs.declared.token.Operator.TheVariants.{OpenSquare, CloseSquare, OpenRound, CloseRound, Optional, Arrow, Only, UpUp, Bar, LowUp, Slash, UpLow, LowLow, Backslash, Ampersand, Minus, Tilde, Dollar, Star, Plus, Caret, Colon, Semicolon, GroupComma, Comma, Question, Underscore, Dots, CrossWith, Then, Upper, Lower, Inverse, Reverse, Edge, Insertion}
+use Rattle.regex_tokens.specs.declared.token.Operator.TheVariants.{OpenSquare, CloseSquare, OpenRound, CloseRound, Optional, Arrow, LeftLongest, LeftShortest, RightLongest, RightShortest, Only, UpUp, Bar, LowUp, Slash, UpLow, LowLow, Backslash, Ampersand, Minus, Tilde, Dollar, Star, Plus, Caret, Colon, Semicolon, GroupComma, Comma, Question, Underscore, Dots, CrossWith, Then, Upper, Lower, Inverse, Reverse, Edge, Insertion}
 use Rattle.regex_tokens.specs.declared.token.Token.{Token}
 use Rattle.regex_tokens.specs.declared.token.Token.TheVariants.{Operator as operator, Quoted as quoted, Braced as braced, Run as run}
 
@@ -104,8 +104,8 @@ gap_step marks (b ∷ bs) = if is_blank b then Some 1 else if begins_comment mar
 -- the operators, none behind one that is shorter
 abbrev pub longest_first : List Operator
 longest_first =
-    Optional ∷ Insertion ∷ Dots ∷ CrossWith ∷ Then ∷ Edge ∷ Arrow ∷ Only ∷ UpUp ∷ LowUp ∷ UpLow ∷ LowLow ∷ GroupComma
-    ∷ Upper ∷ Lower ∷ Inverse ∷ Reverse ∷ OpenSquare ∷ CloseSquare ∷ OpenRound ∷ CloseRound ∷ Bar ∷ Slash ∷ Backslash
+    Optional ∷ Insertion ∷ Dots ∷ CrossWith ∷ Then ∷ Edge ∷ LeftLongest ∷ RightLongest ∷ Arrow ∷ Only ∷ UpUp ∷ LowUp ∷ UpLow ∷ LowLow ∷ GroupComma
+    ∷ LeftShortest ∷ RightShortest ∷ Upper ∷ Lower ∷ Inverse ∷ Reverse ∷ OpenSquare ∷ CloseSquare ∷ OpenRound ∷ CloseRound ∷ Bar ∷ Slash ∷ Backslash
     ∷ Ampersand ∷ Minus ∷ Tilde ∷ Dollar ∷ Star ∷ Plus ∷ Caret ∷ Colon ∷ Semicolon ∷ Comma ∷ Question ∷ Underscore ∷ []
 
 -- the first of the operators that the text begins with

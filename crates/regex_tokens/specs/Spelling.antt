@@ -5,7 +5,7 @@ use Rattle.std.specs.List.{list_any, list_all, concat}
 use Rattle.regex_tokens.specs.Bytes.{is_blank, is_run_byte, is_escapable, is_quoted_byte, is_braced_byte, is_character}
 use Rattle.regex_tokens.specs.declared.token.Run.{Run}
 use Rattle.regex_tokens.specs.declared.token.Operator.{Operator}
-use Rattle.regex_tokens.specs.declared.token.Operator.TheVariants.{OpenSquare, CloseSquare, OpenRound, CloseRound, Optional, Arrow, Only, UpUp, Bar, LowUp, Slash, UpLow, LowLow, Backslash, Ampersand, Minus, Tilde, Dollar, Star, Plus, Caret, Colon, Semicolon, GroupComma, Comma, Question, Underscore, Dots, CrossWith, Then, Upper, Lower, Inverse, Reverse, Edge, Insertion}
+use Rattle.regex_tokens.specs.declared.token.Operator.TheVariants.{OpenSquare, CloseSquare, OpenRound, CloseRound, Optional, Arrow, LeftLongest, LeftShortest, RightLongest, RightShortest, Only, UpUp, Bar, LowUp, Slash, UpLow, LowLow, Backslash, Ampersand, Minus, Tilde, Dollar, Star, Plus, Caret, Colon, Semicolon, GroupComma, Comma, Question, Underscore, Dots, CrossWith, Then, Upper, Lower, Inverse, Reverse, Edge, Insertion}
 use Rattle.regex_tokens.specs.declared.token.Token.{Token}
 use Rattle.regex_tokens.specs.declared.token.Token.TheVariants.{Operator as operator, Quoted as quoted, Braced as braced, Run as run}
 
@@ -17,6 +17,10 @@ spelling OpenRound = codes "("
 spelling CloseRound = codes ")"
 spelling Optional = codes "(->)"
 spelling Arrow = codes "->"
+spelling LeftLongest = codes "@->"
+spelling LeftShortest = codes "@>"
+spelling RightLongest = codes "->@"
+spelling RightShortest = codes ">@"
 spelling Only = codes "=>"
 spelling UpUp = codes "||"
 spelling Bar = codes "|"

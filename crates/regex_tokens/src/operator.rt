@@ -6,13 +6,15 @@ use crate::bytes::{ByteClass, split};
 use crate::token::{Operator, Token};
 
 /// The operators, none behind one that is shorter.
-const LONGEST_FIRST: [Operator; 36] = [
+const LONGEST_FIRST: [Operator; 40] = [
     Operator::Optional,
     Operator::Insertion,
     Operator::Dots,
     Operator::CrossWith,
     Operator::Then,
     Operator::Edge,
+    Operator::LeftLongest,
+    Operator::RightLongest,
     Operator::Arrow,
     Operator::Only,
     Operator::UpUp,
@@ -20,6 +22,8 @@ const LONGEST_FIRST: [Operator; 36] = [
     Operator::UpLow,
     Operator::LowLow,
     Operator::GroupComma,
+    Operator::LeftShortest,
+    Operator::RightShortest,
     Operator::Upper,
     Operator::Lower,
     Operator::Inverse,

@@ -19,6 +19,14 @@ pub enum Operator {
     Optional,
     /// `->`.
     Arrow,
+    /// `@->`.
+    LeftLongest,
+    /// `@>`.
+    LeftShortest,
+    /// `->@`.
+    RightLongest,
+    /// `>@`.
+    RightShortest,
     /// `=>`.
     Only,
     /// `||`.
@@ -189,6 +197,10 @@ impl Operator {
             Operator::CloseRound => ")",
             Operator::Optional => "(->)",
             Operator::Arrow => "->",
+            Operator::LeftLongest => "@->",
+            Operator::LeftShortest => "@>",
+            Operator::RightLongest => "->@",
+            Operator::RightShortest => ">@",
             Operator::Only => "=>",
             Operator::UpUp => "||",
             Operator::Bar => "|",

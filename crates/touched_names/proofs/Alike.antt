@@ -2,10 +2,12 @@
 use Rattle.std.proofs.Common.{List, [], ◌∷◌, inl, inr}
 use Rattle.std.specs.List.{Contains}
 use Rattle.fsm_base.specs.declared.letters.Bound.{Bound}
-use Rattle.regex_ast.specs.Terms.{Term, Terms, Links, Contexts, Steps, Mappings, Groups, empty, any, edge, atom, letters, group, maybe, not_one, cross, suffixed, prefixed, ignore, concat, chain, only, rules, steps, no_term, then_term, no_link, or, and, less, no_context, between, no_step, cross_with, then, no_mapping, plain, markup, insert, no_group, then_group}
+use Rattle.regex_ast.specs.Terms.{Term, Terms, Links, Contexts, Steps, Mappings, Groups, empty, any, edge, atom, letters, group, maybe, not_one, cross, suffixed, prefixed, ignore, concat, chain, only, rules, directed, steps, no_term, then_term, no_link, or, and, less, no_context, between, no_step, cross_with, then, no_mapping, plain, markup, insert, no_group, then_group}
+use Rattle.regex_ast.specs.declared.expr.Side.TheVariants.{UpUp}
 use Rattle.expr_meaning.specs.Replacement.{Piece}
-use Rattle.expr_meaning.specs.Meaning.{InLeaf, InLeaves, In, InEach, InIgnoring, InChain, InContext, InSteps, IsCentre, IsMapped, Replaces, Applies, Relates, RelatesEach, RelatesChain, RelatesSteps}
-use Rattle.touched_names.proofs.Sets.{Same, SamePairs, same_itself, pairs_themselves, either_same, both_same, less_same, concatenation_same, ignoring_same, edged_same, either_pairs, both_pairs, concatenation_pairs, composition_same, itself_same, inside, centred, resulting, crossed_same, left_same, right_same, around_same, suffixes_same, suffixes_pairs, letter_same, not_one_same, prefixes_same, restricted_same, allowed_same, rewritten}
+use Rattle.expr_meaning.proofs.Directed.{directed_goes}
+use Rattle.expr_meaning.specs.Meaning.{InLeaf, InLeaves, In, InEach, InIgnoring, InChain, InContext, InSteps, IsCentre, IsMapped, Replaces, Applies, IsMatch, Directs, Relates, RelatesEach, RelatesChain, RelatesSteps}
+use Rattle.touched_names.proofs.Sets.{Same, SamePairs, same_itself, pairs_themselves, either_same, both_same, less_same, concatenation_same, ignoring_same, edged_same, either_pairs, both_pairs, concatenation_pairs, composition_same, itself_same, inside, centred, resulting, crossed_same, left_same, right_same, around_same, suffixes_same, suffixes_pairs, letter_same, not_one_same, prefixes_same, restricted_same, allowed_same, asked_same, rewritten}
 
 -- what rules do is the same
 record SameRules {L : Type 0} (R S : List (Piece L) → List L → List L → List (Piece L) → Type 0) : Type 1 where
@@ -45,6 +47,7 @@ module _ {A L : Type 0} (leaf leaf' : A → List L → List L → Type 0) (alpha
     same_set (chain e links) = same_chain links (same_set e)
     same_set (only e contexts) = restricted_same alphabet alphabet' symbols (same_set e) (same_contexts contexts)
     same_set (rules optional groups) = same_itself
+    same_set (directed way maps contexts) = same_itself
     same_set (steps e more) = same_steps more (same_set e)
 
     same_each : (es : Terms A) → Same (InEach leaf alphabet es) (InEach leaf' alphabet' es)
@@ -146,6 +149,22 @@ module _ {A L : Type 0} (leaf leaf' : A → List L → List L → Type 0) (alpha
         record {
           to = rewritten alphabet alphabet' symbols.to replaces.to applies.back optional;
           back = rewritten alphabet' alphabet symbols.back replaces.back applies.to optional;
+        }
+    same_relation (directed way maps contexts) =
+        let centre = same_centre maps in
+        let mapping = same_mapping maps in
+        let test = same_contexts contexts in
+        let allowed = allowed_same contexts UpUp test in
+        let asked = asked_same contexts test in
+        let matches = IsMatch leaf alphabet maps contexts in
+        let matches' = IsMatch leaf' alphabet' maps contexts in
+        let directs = Directs leaf alphabet maps contexts in
+        let directs' = Directs leaf' alphabet' maps contexts in
+        record {
+          to = directed_goes alphabet alphabet' matches matches' directs directs' symbols.to
+              (λ before c r behind h. (mapping.to c r h.0, allowed.to before behind h.1)) (λ x c z h. (centre.back c h.0, asked.back x z h.1)) way;
+          back = directed_goes alphabet' alphabet matches' matches directs' directs symbols.back
+              (λ before c r behind h. (mapping.back c r h.0, allowed.back before behind h.1)) (λ x c z h. (centre.to c h.0, asked.to x z h.1)) way;
         }
     same_relation (steps e more) = same_walk more (same_set e) (same_relation e)
 

@@ -3,14 +3,16 @@ use Rattle.std.proofs.Common.{◌≡◌, ℕ, zero, suc, Bool, true, false, ◌&
 use Rattle.std.proofs.lemmas.Bool.{false≢true, and_parts}
 use Rattle.regex_ast.specs.declared.expr.Side.{Side}
 use Rattle.regex_ast.specs.declared.expr.Side.TheVariants.{UpUp, LowUp, UpLow, LowLow}
+use Rattle.regex_ast.specs.declared.expr.Way.{Way}
+use Rattle.regex_ast.specs.declared.expr.Way.TheVariants.{LeftLongest, LeftShortest, RightLongest, RightShortest}
 use Rattle.regex_ast.specs.declared.expr.Suffix.{Suffix}
 use Rattle.regex_ast.specs.declared.expr.Suffix.TheVariants.{Star, Plus, Power, Upper, Lower, Inverse, Reverse}
 use Rattle.regex_ast.specs.declared.expr.Prefix.{Prefix}
 use Rattle.regex_ast.specs.declared.expr.Prefix.TheVariants.{Not, Contains}
-use Rattle.regex_ast.specs.Terms.{Term, Terms, Links, Contexts, Steps, Mappings, Groups, empty, any, edge, atom, letters, group, maybe, not_one, cross, suffixed, prefixed, ignore, concat, chain, only, rules, steps, no_term, then_term, no_link, or, and, less, no_context, between, no_step, cross_with, then, no_mapping, plain, markup, insert, no_group, then_group}
+use Rattle.regex_ast.specs.Terms.{Term, Terms, Links, Contexts, Steps, Mappings, Groups, empty, any, edge, atom, letters, group, maybe, not_one, cross, suffixed, prefixed, ignore, concat, chain, only, rules, directed, steps, no_term, then_term, no_link, or, and, less, no_context, between, no_step, cross_with, then, no_mapping, plain, markup, insert, no_group, then_group}
 use Rattle.touched_names.proofs.Tests.{Test, and_true, two_are, number_test, known_by, list_test}
 
--- suffixes, prefixes, sides and truth values, by numbers
+-- suffixes, prefixes, sides, ways and truth values, by numbers
 abbrev suffix_number : Suffix → ℕ
 suffix_number Star = 0
 suffix_number Plus = 1
@@ -68,6 +70,24 @@ side_back LowUp = refl
 side_back UpLow = refl
 side_back LowLow = refl
 
+abbrev way_number : Way → ℕ
+way_number LeftLongest = 0
+way_number LeftShortest = 1
+way_number RightLongest = 2
+way_number RightShortest = 3
+
+abbrev way_of : ℕ → Way
+way_of zero = LeftLongest
+way_of (suc zero) = LeftShortest
+way_of (suc (suc zero)) = RightLongest
+way_of (suc (suc (suc n))) = RightShortest
+
+way_back : (w : Way) → way_of (way_number w) ≡ w
+way_back LeftLongest = refl
+way_back LeftShortest = refl
+way_back RightLongest = refl
+way_back RightShortest = refl
+
 abbrev truth_number : Bool → ℕ
 truth_number false = 0
 truth_number true = 1
@@ -88,6 +108,9 @@ prefix_test = known_by prefix_number prefix_of prefix_back number_test
 
 side_test : Test Side
 side_test = known_by side_number side_of side_back number_test
+
+way_test : Test Way
+way_test = known_by way_number way_of way_back number_test
 
 truth_test : Test Bool
 truth_test = known_by truth_number truth_of truth_back number_test
@@ -120,6 +143,7 @@ module _ {A : Type 0} (leaf : Test A) where
     same_term (chain e a) (chain f b) = same_term e f && same_links a b
     same_term (only e a) (only f b) = same_term e f && same_contexts a b
     same_term (rules o a) (rules p b) = truth_test.same o p && same_groups a b
+    same_term (directed u m a) (directed v n b) = way_test.same u v && (same_mappings m n && same_contexts a b)
     same_term (steps e a) (steps f b) = same_term e f && same_steps a b
     same_term _ _ = false
 
@@ -176,6 +200,11 @@ module _ {A : Type 0} (leaf : Test A) where
     term_is (chain e a) (chain f b) is = two_are chain e f a b (same_term e f) (same_links a b) (term_is e f) (links_are a b) is
     term_is (only e a) (only f b) is = two_are only e f a b (same_term e f) (same_contexts a b) (term_is e f) (contexts_are a b) is
     term_is (rules o a) (rules p b) is = two_are rules o p a b (truth_test.same o p) (same_groups a b) (truth_test.sound o p) (groups_are a b) is
+    term_is (directed u m a) (directed v n b) is =
+        let first = and_parts (way_test.same u v) (same_mappings m n && same_contexts a b) is in
+        let way = way_test.sound u v first.0 in
+        let rest = two_are (directed u) m n a b (same_mappings m n) (same_contexts a b) (mappings_are m n) (contexts_are a b) first.1 in
+        rest ∙ ap (λ (w : Way). directed w n b) way
     term_is (steps e a) (steps f b) is = two_are steps e f a b (same_term e f) (same_steps a b) (term_is e f) (steps_are a b) is
     term_is _ _ is = absurd (false≢true is)
 
@@ -252,6 +281,7 @@ module _ {A : Type 0} (leaf : Test A) where
     term_itself (chain e a) = and_true (term_itself e) (links_itself a)
     term_itself (only e a) = and_true (term_itself e) (contexts_itself a)
     term_itself (rules o a) = and_true (truth_test.itself o) (groups_itself a)
+    term_itself (directed w m a) = and_true (way_test.itself w) (and_true (mappings_itself m) (contexts_itself a))
     term_itself (steps e a) = and_true (term_itself e) (steps_itself a)
 
     terms_itself : (a : Terms A) → same_terms a a ≡ true

@@ -85,6 +85,7 @@ pub fn over_pairs(
         | Expr::Cross(_, _)
         | Expr::Only(_, _)
         | Expr::Rules(_)
+        | Expr::Directed(_)
         | Expr::Steps(_, _) => Ok(None),
     }
 }

@@ -10,14 +10,30 @@
 //! `lane TEXT` adds a lane with this input. Behind it `gets TEXT` says what its output is to get, one such line for each lawful outcome, and nothing where there is
 //! none; `enters N` how often its seat enters at least; `lane_fails INPUT OUTPUT` and `lane_sizes READ WRITE ROOM` are as for the row. A text has the
 //! escapes of `row_texts`. An empty line, and one that begins with `#`, says nothing; a line with another field is told.
+//!
+//! `document FILE` runs the commands that a document shows, over the examples that lie where the program runs, and prints each and whether its answer is as the
+//! document has it. A command is an indented line that begins with `$`; the indented lines below it, up to the next command, are its answer. Commands are
+//! `./morph WORD ..` or `./try WORD ..`, behind `printf 'TEXT' |` or alone, and `cat FILE`. Those with lanes aren't run.
+//!
+//! `waits TRIAL` serves lanes whose sources and sinks wait for what others do (`trials`), and prints what came of it.
 #![tactic(auto)]
 
+mod commands;
+mod documents;
 mod lane;
 mod numbers;
 mod row;
+mod sign;
+mod sink;
+mod source;
+mod trials;
 
+use crate::commands::answer_to;
+use crate::documents::{Shown, shown_in};
 use crate::lane::RowLane;
 use crate::row::Row;
+use crate::trials::waited;
+use row_texts::shown;
 use std::alloc::{AllocError, Global};
 use std::io::{self, Read};
 use std::sync::Wait;
@@ -109,6 +125,40 @@ fn obey<R: Threads + Wait + Sync>(
     Ok(None)
 }
 
+/// Prints a command, and whether its answer is as it is shown.
+fn tell<T: Threads + Wait + Sync>(
+    threads: &T,
+    rt: &HostRuntime,
+    example: &Shown,
+) -> io::Result<()> {
+    let command = example.command.as_str();
+    let answer = answer_to(threads, rt, command)?;
+    if answer.as_slice() == example.answer.as_bytes() {
+        println!(rt; "{command}\n    as written")
+    } else {
+        println!(rt;
+            "{command}\n    gives {}",
+            shown(rt.alloc(), &answer)?.as_str()
+        )
+    }
+}
+
+/// Runs the commands of a document.
+fn tell_document<T: Threads + Wait + Sync>(
+    threads: &T,
+    rt: &HostRuntime,
+    document: &str,
+) -> io::Result<()> {
+    let alloc = rt.alloc();
+    println!(rt; "{document}")?;
+    let text = answer_to(threads, rt, format!(in alloc; "cat {document}")?.as_str())?;
+    let text = std::str::from_utf8(&text).unwrap_or("");
+    'examples: for example in &shown_in(alloc, text)? {
+        tell(threads, rt, example)?;
+    }
+    Ok(())
+}
+
 fn main(rt: HostRuntime) -> io::Result<()> {
     let alloc = rt.alloc();
     let mut text = String::new(alloc);
@@ -116,7 +166,11 @@ fn main(rt: HostRuntime) -> io::Result<()> {
     let mut count = Count { run: 0, right: 0 };
     let mut row = Row::named(alloc, "")?;
     'lines: for line in text.as_str().lines() {
-        if let Some(told) = obey(&rt, alloc, &mut count, &mut row, line)? {
+        if let Some(document) = line.strip_prefix("document ") {
+            tell_document(&rt, &rt, document)?;
+        } else if let Some(trial) = line.strip_prefix("waits ") {
+            println!(rt; "{trial}: {}", waited(&rt, alloc, trial)?.as_str())?;
+        } else if let Some(told) = obey(&rt, alloc, &mut count, &mut row, line)? {
             println!(rt; "{}", told.as_str())?;
         }
     }

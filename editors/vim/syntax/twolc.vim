@@ -13,6 +13,8 @@ syn keyword twolcSection Alphabet Sets Definitions Rules
 " what hfst-twolc has and this program hasn't: these are symbols here
 syn keyword twolcMissing Diacritics where matched mixed freely except
 syn match twolcComment /%\@1<!!.*/ contains=@Spell
+" tests of the rules, for ./expect
+syn match twolcTest /^\s*!!\%(€\|\$\).*/
 
 hi def link twolcSection Statement
 hi def link twolcRule Title
@@ -23,5 +25,6 @@ hi def link twolcZero Special
 hi def link twolcEscape SpecialChar
 hi def link twolcMissing Error
 hi def link twolcComment Comment
+hi def link twolcTest PreProc
 
 let b:current_syntax = 'twolc'

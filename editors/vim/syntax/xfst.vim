@@ -4,7 +4,7 @@ if exists('b:current_syntax')
 endif
 
 syn match xfstOperator /[][()|\/\\&~$*+^:;,?_-]/
-syn match xfstOperator /(->)\|->\|=>\|||\|\/\/\|\\\\\|\\\/\|,,\|\.\.\.\|\.[xo]\.\|\.[ulir]\>/
+syn match xfstOperator /(->)\|@->\|->@\|@>\|>@\|->\|=>\|||\|\/\/\|\\\\\|\\\/\|,,\|\.\.\.\|\.[xo]\.\|\.[ulir]\>/
 syn match xfstOperator /\[\.\.\]\|\[\.\_s\+\.\]/
 " a run of characters: a name or a symbol
 syn match xfstRun /\%(%.\|[^][(){}|\/\\&~$*+^:;,?_.<>=!#@"% \t-]\)\+/ contains=xfstEscape
@@ -18,7 +18,7 @@ syn keyword xfstKeyword define contained
 syn match xfstComment /[!#].*/ contains=@Spell
 syn match xfstEdge /\.#\./
 " what xfst has and this program hasn't
-syn match xfstMissing /(@->)\|@->\|(@>)\|@>\|->@\|>@\|<-\|\^{[^}]*}\|\.[pP]\.\|\$[.?]\|\.\/\./
+syn match xfstMissing /(@->)\|(@>)\|(->@)\|(>@)\|<-\|\^{[^}]*}\|\.[pP]\.\|\$[.?]\|\.\/\./
 
 hi def link xfstKeyword Statement
 hi def link xfstDefine Identifier

@@ -1,11 +1,11 @@
 use Rattle.std.proofs.Common.{map, ap, ◌∙◌}
 use Rattle.regex_ast.specs.declared.expr.Atom.{Atom}
-use Rattle.regex_ast.specs.declared.expr.Expr.TheViews.{out-RuleSet}
-use Rattle.regex_ast.specs.Terms.{term, terms_of, links_of, contexts_of, steps_by, groups_of, ignore, concat, chain, only, rules, steps}
+use Rattle.regex_ast.specs.declared.expr.Expr.TheViews.{out-RuleSet, out-Directed}
+use Rattle.regex_ast.specs.Terms.{term, terms_of, links_of, contexts_of, steps_by, mappings_of, groups_of, ignore, concat, chain, only, rules, directed, steps}
 use Rattle.regex_ast.proofs.Rows.{term-Concat, term-Chain, term-Ignore, term-Only, term-Steps}
-use Rattle.expr_kinds.proofs.Sets.{term_rules}
+use Rattle.expr_kinds.proofs.Sets.{term_rules, term_directed}
 use Rattle.expr_leaves.proofs.Behind.{add_both_ok}
-use Rattle.body_equality.specs.Rows.{row_of, link_row, context_row, step_row}
+use Rattle.body_equality.specs.Rows.{row_of, link_row, context_row, step_row, mapping_row}
 use Rattle.body_equality.proofs.Walking.{whole}
 use Rattle.body_equality.proofs.walk.+walk.Goals as goal
 
@@ -42,6 +42,15 @@ add_expr-returns-in-Rules t c =
     let is = ap term c.in-Rules.is ∙ term_rules c.in-Rules.rules in
     let done = rw c.deref-in-Rules.ensures.value at c.add_groups.ensures in
     whole c.args.row.now.items _ _ c.add_groups.result c.node_of.result (term c.args.expr.now) (rules (out-RuleSet Atom c.in-Rules.rules).optional (groups_of (out-RuleSet Atom c.in-Rules.rules).groups.items)) c.in_ok-add_node.ensures c.node_of.ensures is done
+
+pub add_expr-returns-in_ok-add_mappings-in-Directed : goal.add_expr-returns-in_ok-add_mappings-in-Directed
+add_expr-returns-in_ok-add_mappings-in-Directed t c =
+    let set = out-Directed Atom c.in-Directed.directed in
+    let is = ap term c.in-Directed.is ∙ term_directed c.in-Directed.directed in
+    let first = rw c.deref-in-Directed.ensures.value at c.in_ok-add_mappings-in-Directed.ensures in
+    let more = rw c.deref-in-Directed-2.ensures.value at c.add_contexts-in-Directed.ensures in
+    whole c.args.row.now.items _ _ c.add_contexts-in-Directed.result c.node_of.result (term c.args.expr.now) (directed set.way (mappings_of set.maps.items) (contexts_of set.contexts.items)) c.in_ok-add_node.ensures c.node_of.ensures is
+    (add_both_ok _ _ _ c.add_contexts-in-Directed.result (mapping_row (mappings_of set.maps.items)) (context_row (contexts_of set.contexts.items)) first more)
 
 pub add_expr-returns-in_ok-add_expr-in-Steps : goal.add_expr-returns-in_ok-add_expr-in-Steps
 add_expr-returns-in_ok-add_expr-in-Steps t c =

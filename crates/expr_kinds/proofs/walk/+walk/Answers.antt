@@ -1,14 +1,14 @@
-use Rattle.std.proofs.Common.{◌≡◌, ◌-◌, map, sym, ap, ◌∙◌, arith}
-use Rattle.regex_ast.specs.Terms.{term, terms_of, links_of, contexts_of, steps_by, groups_of}
+use Rattle.std.proofs.Common.{◌≡◌, ◌-◌, map, not, sym, ap, ◌∙◌, arith}
+use Rattle.regex_ast.specs.Terms.{term, terms_of, links_of, contexts_of, steps_by, mappings_of, groups_of}
 use Rattle.regex_ast.specs.declared.expr.Atom.{Atom}
-use Rattle.regex_ast.specs.declared.expr.Expr.TheViews.{out-RuleSet}
+use Rattle.regex_ast.specs.declared.expr.Expr.TheViews.{out-RuleSet, out-Directed}
 use Rattle.regex_ast.proofs.Rows.{term-Concat, term-Chain, term-Ignore, term-Only, term-Steps}
 use Rattle.expr_kinds.specs.Atoms.{is_known_at, is_symbol, leaves_at, weights_at}
-use Rattle.expr_kinds.specs.Built.{inserts_alone}
-use Rattle.expr_kinds.specs.Forms.{as_language, built_if, form_in, form_in_contexts, form_in_each, form_in_links, form_in_steps, heavier, nothing, with_kind}
+use Rattle.expr_kinds.specs.Built.{holds_insertion, inserts_alone}
+use Rattle.expr_kinds.specs.Forms.{as_language, built_if, form_in, form_in_contexts, form_in_each, form_in_links, form_in_mappings, form_in_steps, heavier, nothing, with_kind}
 use Rattle.expr_kinds.specs.Weights.{count_of}
 use Rattle.expr_kinds.specs.declared.form.Kind.TheVariants.{Relation}
-use Rattle.expr_kinds.proofs.Sets.{term_rules}
+use Rattle.expr_kinds.proofs.Sets.{term_rules, term_directed}
 use Rattle.expr_kinds.proofs.Passes.{count_is}
 use Rattle.expr_kinds.proofs.walk.+walk.Goals as goal
 
@@ -51,6 +51,19 @@ in_expression-returns-in-Rules t c =
     let alone = rw c.deref-in-Rules-2.ensures.value at c.inserts_alone.ensures in
     c.built_if-in-Rules.ensures ∙ ap (λ b. built_if c.with_kind.result b) alone
     ∙ ap (λ f. built_if f (inserts_alone (groups_of (out-RuleSet Atom c.in-Rules.rules).groups.items))) (c.with_kind.ensures ∙ ap (λ f. with_kind f Relation) (c.heavier-in-Rules.ensures ∙ ap (λ f. heavier f 1) (c.as_language-in-Rules.ensures ∙ ap as_language all))) ∙ ap (form_in (leaves_at c.args.names.now) (weights_at c.args.names.now) (is_known_at c.args.names.now) is_symbol) (sym is)
+
+pub in_expression-returns-in-Directed : goal.in_expression-returns-in-Directed
+in_expression-returns-in-Directed t c =
+    let rule = out-Directed Atom c.in-Directed.rule in
+    let is = ap term c.in-Directed.is ∙ term_directed c.in-Directed.rule in
+    let maps = rw c.deref-in-Directed.ensures.value at c.in_mappings.ensures in
+    let first = maps ∙ ap (λ f. form_in_mappings (leaves_at c.args.names.now) (weights_at c.args.names.now) (is_known_at c.args.names.now) is_symbol f (mappings_of rule.maps.items)) c.leaf-in-Directed.ensures in
+    let contexts = rw c.deref-in-Directed-2.ensures.value at c.in_contexts-in-Directed.ensures in
+    let all = contexts ∙ ap (λ f. form_in_contexts (leaves_at c.args.names.now) (weights_at c.args.names.now) (is_known_at c.args.names.now) is_symbol f (contexts_of rule.contexts.items)) first in
+    let inserts = rw c.deref-in-Directed-3.ensures.value at c.holds_insertion.ensures in
+    c.built_if-in-Directed.ensures ∙ ap (λ b. built_if c.with_kind-in-Directed.result (not b)) inserts
+    ∙ ap (λ f. built_if f (not (holds_insertion (mappings_of rule.maps.items)))) (c.with_kind-in-Directed.ensures ∙ ap (λ f. with_kind f Relation) (c.heavier-in-Directed.ensures ∙ ap (λ f. heavier f 1) (c.as_language-in-Directed.ensures ∙ ap as_language all)))
+    ∙ ap (form_in (leaves_at c.args.names.now) (weights_at c.args.names.now) (is_known_at c.args.names.now) is_symbol) (sym is)
 
 pub in_expression-returns-in-Steps : goal.in_expression-returns-in-Steps
 in_expression-returns-in-Steps t c =

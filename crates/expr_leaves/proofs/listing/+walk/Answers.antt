@@ -1,11 +1,12 @@
 use Rattle.std.proofs.Common.{◌≡◌, ◌++◌, OnOk, sym, ap, subst, ◌∙◌}
 use Rattle.regex_ast.specs.Terms.{term, links_of, contexts_of, steps_by, mappings_of, maps_of, contexts_in}
+use Rattle.regex_ast.specs.declared.expr.Expr.TheViews.{out-Directed}
 use Rattle.regex_ast.proofs.Rows.{term-Concat, term-Chain, term-Ignore, term-Only, term-Steps}
 use Rattle.expr_leaves.specs.Leaves.{leaves_in}
 use Rattle.expr_leaves.specs.Leaves.{seen, leaves_in_links, leaves_in_contexts, leaves_in_steps, leaves_in_mappings}
 use Rattle.expr_leaves.proofs.Behind.{add_both_ok, flat_map-alone}
 use Rattle.expr_leaves.proofs.LeafLists.{group_alone}
-use Rattle.expr_leaves.proofs.Sets.{term_rules, maps_of_is, contexts_in_is}
+use Rattle.expr_leaves.proofs.Sets.{term_rules, term_directed, maps_of_is, contexts_in_is}
 use Rattle.expr_leaves.proofs.listing.+walk.Goals as goal
 
 pub add_group-returns : goal.add_group-returns
@@ -53,6 +54,15 @@ add_leaves-returns-in-Rules g t c =
     let is = ap term c.in-Rules.is ∙ term_rules c.in-Rules.rules in
     let done = rw c.deref-in-Rules.ensures.value at c.add_groups.ensures in
     subst (λ e. OnOk c.add_groups.result (seen c.add_groups.new.found.items ≡ seen c.args.found.now.items ++ leaves_in e)) (sym is) done
+
+pub add_leaves-returns-in_ok-add_mappings-in-Directed : goal.add_leaves-returns-in_ok-add_mappings-in-Directed
+add_leaves-returns-in_ok-add_mappings-in-Directed g t c =
+    let rule = out-Directed _ c.in-Directed.rule in
+    let is = ap term c.in-Directed.is ∙ term_directed c.in-Directed.rule in
+    let maps = rw c.deref-in-Directed.ensures.value at c.in_ok-add_mappings-in-Directed.ensures in
+    let contexts = rw c.deref-in-Directed-2.ensures.value at c.add_contexts-in-Directed.ensures in
+    subst (λ e. OnOk c.add_contexts-in-Directed.result (seen c.add_contexts-in-Directed.new.found.items ≡ seen c.args.found.now.items ++ leaves_in e)) (sym is)
+    (add_both_ok _ _ _ c.add_contexts-in-Directed.result (leaves_in_mappings (mappings_of rule.maps.items)) (leaves_in_contexts (contexts_of rule.contexts.items)) maps contexts)
 
 pub add_leaves-returns-in_ok-add_leaves-in-Steps : goal.add_leaves-returns-in_ok-add_leaves-in-Steps
 add_leaves-returns-in_ok-add_leaves-in-Steps g t c =

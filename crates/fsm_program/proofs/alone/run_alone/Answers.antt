@@ -1,4 +1,4 @@
-use Rattle.fsm_program.proofs.Endings.{check, completes, fault_cause, gloss, help, look, make, refusal, spent_cause, unsaid, usage_cause}
+use Rattle.fsm_program.proofs.Outcomes.{att, check, compare, completes, completes_saved, declined_cause, fault_cause, gloss, help, look, look_saved, make, pair, refusal, spent_cause, unsaid, usage_cause}
 use Rattle.fsm_program.proofs.alone.run_alone.Goals as goal
 
 pub returns-clause-usage : goal.returns-clause-usage
@@ -25,11 +25,29 @@ returns-clause-answered g c = look c.ended.ensures.ends
 pub returns-clause-glossed : goal.returns-clause-glossed
 returns-clause-glossed g c = gloss c.ended.ensures.ends
 
+pub returns-clause-att : goal.returns-clause-att
+returns-clause-att g c = att c.ended.ensures.ends
+
+pub returns-clause-compared : goal.returns-clause-compared
+returns-clause-compared g c = compare c.ended.ensures.ends
+
+pub returns-clause-paired : goal.returns-clause-paired
+returns-clause-paired g c = pair c.ended.ensures.ends
+
+pub returns-clause-saved : goal.returns-clause-saved
+returns-clause-saved g c = look_saved c.ended.ensures.ends
+
+pub returns-clause-declined : goal.returns-clause-declined
+returns-clause-declined g c = declined_cause c.ended.ensures.ends
+
 pub returns-clause-generated : goal.returns-clause-generated
 returns-clause-generated g c = make c.ended.ensures.ends
 
 pub returns-clause-complete : goal.returns-clause-complete
 returns-clause-complete g c = completes c.ended.ensures.ends c.ended.ensures.read c.ended.ensures.write
+
+pub returns-clause-complete_saved : goal.returns-clause-complete_saved
+returns-clause-complete_saved g c = completes_saved c.ended.ensures.ends c.ended.ensures.read c.ended.ensures.write
 
 pub returns-clause-spent : goal.returns-clause-spent
 returns-clause-spent g c = spent_cause c.ended.ensures.ends

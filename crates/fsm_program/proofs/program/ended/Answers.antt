@@ -1,7 +1,7 @@
 use Rattle.std.proofs.Common.{Option, inl, inr, refl, subst, sym}
 use Rattle.reply_meaning.specs.Transcripts.{first_version}
 use Rattle.fsm_program.specs.Beside.{EndsBeside, alone}
-use Rattle.fsm_program.specs.Ends.{Asked, for_serve}
+use Rattle.fsm_program.specs.Ends.{Asked, AskedFor, for_serve}
 use Rattle.fsm_program.specs.Outside.{outside}
 use Rattle.fsm_program.proofs.program.ended.Goals as goal
 
@@ -14,11 +14,18 @@ returns-then-is_serve-clause-ends g c =
 pub returns-then-is_serve-clause-unasked : goal.returns-then-is_serve-clause-unasked
 returns-then-is_serve-clause-unasked g c none = absurd (none for_serve (c.is_serve.ensures.0 c.if-is_serve.true) tt)
 
+pub returns-then-is_serve-clause-lines_read : goal.returns-then-is_serve-clause-lines_read
+returns-then-is_serve-clause-lines_read g c none = absurd (none for_serve (c.is_serve.ensures.0 c.if-is_serve.true) tt)
+
+pub returns-then-is_serve-clause-unread_declined : goal.returns-then-is_serve-clause-unread_declined
+returns-then-is_serve-clause-unread_declined g c seven = absurd (c.serve.ensures.status seven)
+
+pub returns-then-is_serve-clause-asked : goal.returns-then-is_serve-clause-asked
+returns-then-is_serve-clause-asked g c =
+    subst (λ (asked : Option Asked). AskedFor asked (g.F.Folder.files c.args.folder.now) (g.F.Folder.asked c.args.folder.now) (g.F.Folder.asked c.serve.new.folder)) (sym (c.is_serve.ensures.0 c.if-is_serve.true)) c.serve.ensures.asked
+
 pub returns-else-is_serve-clause-ends : goal.returns-else-is_serve-clause-ends
 returns-else-is_serve-clause-ends g c = alone c.run_alone.ensures.ends refl
-
-pub returns-else-is_serve-clause-look_ups_read : goal.returns-else-is_serve-clause-look_ups_read
-returns-else-is_serve-clause-look_ups_read g c none other = c.run_alone.ensures.look_ups_read none
 
 pub returns-else-is_serve-clause-read : goal.returns-else-is_serve-clause-read
 returns-else-is_serve-clause-read g c three = elim (c.run_alone.ensures.read three) [ inl rose ↦ inl rose | inr rose ↦ inr (inl rose) ]

@@ -1,12 +1,13 @@
 use Rattle.std.proofs.Common.{◌≡◌, ◌++◌, ◌∷◌, [], OnOk, append-nil, sym, ap, subst, ◌∙◌}
 use Rattle.regex_ast.specs.declared.expr.Atom.{Atom}
+use Rattle.regex_ast.specs.declared.expr.Expr.TheViews.{out-Directed}
 use Rattle.regex_ast.specs.declared.expr.Group.{Group}
 use Rattle.regex_ast.specs.Terms.{term, links_of, contexts_of, steps_by, mappings_of, groups_of, maps_of, contexts_in}
 use Rattle.regex_ast.proofs.Rows.{term-Concat, term-Chain, term-Ignore, term-Only, term-Steps}
 use Rattle.project_meaning.specs.Centres.{centres_in, centres_in_links, centres_in_contexts, centres_in_steps, centres_in_mappings, centres_in_groups}
 use Rattle.network_centres.specs.Centres.{terms_seen}
 use Rattle.expr_leaves.proofs.Behind.{add_both_ok}
-use Rattle.expr_kinds.proofs.Sets.{term_rules, maps_of_is, contexts_in_is}
+use Rattle.expr_kinds.proofs.Sets.{term_rules, term_directed, maps_of_is, contexts_in_is}
 use Rattle.network_centres.proofs.listing.+walk.Goals as goal
 
 -- the centres of a group: those of its mappings, and those of its contexts
@@ -44,15 +45,24 @@ pub add_centres-returns-in_ok-add_centres-in-Only : goal.add_centres-returns-in_
 add_centres-returns-in_ok-add_centres-in-Only t c =
     let is = ap term c.in-Only.is ∙ term-Only c.in-Only.centre c.in-Only.contexts in
     let first = rw c.deref-in-Only.ensures at c.in_ok-add_centres-in-Only.ensures in
-    let more = rw c.deref-in-Only-2.ensures.value at c.add_contexts.ensures in
-    subst (λ e. OnOk c.add_contexts.result (terms_seen c.add_contexts.new.found.items ≡ terms_seen c.args.found.now.items ++ centres_in e)) (sym is)
-    (add_both_ok _ _ _ c.add_contexts.result (centres_in (term c.in-Only.centre.value)) (centres_in_contexts (contexts_of c.in-Only.contexts.items)) first more)
+    let more = rw c.deref-in-Only-2.ensures.value at c.add_contexts-in-Only.ensures in
+    subst (λ e. OnOk c.add_contexts-in-Only.result (terms_seen c.add_contexts-in-Only.new.found.items ≡ terms_seen c.args.found.now.items ++ centres_in e)) (sym is)
+    (add_both_ok _ _ _ c.add_contexts-in-Only.result (centres_in (term c.in-Only.centre.value)) (centres_in_contexts (contexts_of c.in-Only.contexts.items)) first more)
 
 pub add_centres-returns-in-Rules : goal.add_centres-returns-in-Rules
 add_centres-returns-in-Rules t c =
     let is = ap term c.in-Rules.is ∙ term_rules c.in-Rules.rules in
     let done = rw c.deref.ensures.value at c.add_groups.ensures in
     subst (λ e. OnOk c.add_groups.result (terms_seen c.add_groups.new.found.items ≡ terms_seen c.args.found.now.items ++ centres_in e)) (sym is) done
+
+pub add_centres-returns-in_ok-add_mappings-in-Directed : goal.add_centres-returns-in_ok-add_mappings-in-Directed
+add_centres-returns-in_ok-add_mappings-in-Directed t c =
+    let rule = out-Directed Atom c.in-Directed.rule in
+    let is = ap term c.in-Directed.is ∙ term_directed c.in-Directed.rule in
+    let maps = rw c.deref-in-Directed.ensures.value at c.in_ok-add_mappings-in-Directed.ensures in
+    let contexts = rw c.deref-in-Directed-2.ensures.value at c.add_contexts.ensures in
+    subst (λ e. OnOk c.add_contexts.result (terms_seen c.add_contexts.new.found.items ≡ terms_seen c.args.found.now.items ++ centres_in e)) (sym is)
+    (add_both_ok _ _ _ c.add_contexts.result (centres_in_mappings (mappings_of rule.maps.items)) (centres_in_contexts (contexts_of rule.contexts.items)) maps contexts)
 
 pub add_centres-returns-in_ok-add_centres-in-Steps : goal.add_centres-returns-in_ok-add_centres-in-Steps
 add_centres-returns-in_ok-add_centres-in-Steps t c =

@@ -29,11 +29,11 @@ use Rattle.network_expr.proofs.Rows.{each_built, each_fits, chain_built, chain_f
 use Rattle.network_expr.proofs.Meant.{IsChosen, AreIn, reduced_for, alone_chosen, chain_for, chain_halves, chain_choice, choice_halves, none_chosen, none_accepted, steps_for, context_one, context_halves, no_contexts, only_meant, words_meant, meant_words, letters_meant, colon_language, maybe_meant, same_meant, turn_alone, turns_meant, prefixed_meant, not_one_meant, ignore_row, ignore_one, ignore_halves, each_kind_language, language_meant, empty_only, given_one, given_two}
 use Rattle.network_sets.proofs.Suffixed.{suffixed_for, for_itself}
 use Rattle.network_expr.proofs.Narrowed.{fails, two_links, before_narrowing, halves_fit, narrowed_halves, narrowed_meant, narrowed_only}
-use Rattle.expr_kinds.proofs.Sets.{term_rules, maps_of_is, contexts_in_is}
-use Rattle.network_expr.proofs.Ruled.{MapsReady, ContextsReady, GroupsReady, map_ready, context_ready, group_ready, side_of_is, take_whole, rules_meant, insertion_meant, else_second}
+use Rattle.expr_kinds.proofs.Sets.{term_rules, term_directed, maps_of_is, contexts_in_is}
+use Rattle.network_expr.proofs.Ruled.{MapsReady, ContextsReady, GroupsReady, map_ready, context_ready, group_ready, side_of_is, take_whole, rules_meant, directed_meant, insertion_meant, else_second}
 use Rattle.network_expr.specs.Rules.{AreMaps, AreContexts, AreGroups}
 use Rattle.network_expr.proofs.RuleRows.{maps_more, contexts_more, groups_more}
-use Rattle.network_expr.proofs.RuleMeaning.{groups_over, insertion_rows}
+use Rattle.network_expr.proofs.RuleMeaning.{maps_over, groups_over, insertion_rows}
 use Rattle.replace_rules.specs.declared.rules.LangMap.{LangMap}
 use Rattle.replace_rules.specs.declared.rules.LangContext.{LangContext}
 use Rattle.replace_rules.specs.declared.rules.LangGroup.{LangGroup}
@@ -462,6 +462,18 @@ network_of-returns-in-Rules-clause-meaning t c =
     let is = ap term c.in-Rules.is ∙ term_rules c.in-Rules.rules in
     subst (λ e. IfOk c.replaced.result (IsMeant c.args.parts.now c.args.alphabet.now e)) (sym is) (rw c.deref-in-Rules.ensures.value at c.replaced.ensures.meaning)
 
+pub network_of-directed_rule-requires : goal.network_of-directed_rule-requires
+network_of-directed_rule-requires t c =
+    let is = ap term c.in-Directed.is ∙ term_directed c.in-Directed.rule in
+    let maps = c.deref-in-Directed.ensures.value in
+    let contexts = c.deref-in-Directed-2.ensures.value in
+    (rw (maps, contexts) (omega (arith, c.decreases, ap weight is)), (c.requires.ground, (rw (maps, contexts) (subst (λ e. IsBuiltOver c.args.parts.now c.args.alphabet.now e) is c.requires.built), rw (maps, contexts) (subst (λ e. Fits (kinds c.args.parts.now) e) is c.requires.fits))))
+
+pub network_of-returns-in-Directed-clause-meaning : goal.network_of-returns-in-Directed-clause-meaning
+network_of-returns-in-Directed-clause-meaning t c =
+    let is = ap term c.in-Directed.is ∙ term_directed c.in-Directed.rule in
+    subst (λ e. IfOk c.directed_rule.result (IsMeant c.args.parts.now c.args.alphabet.now e)) (sym is) (rw (c.deref-in-Directed.ensures.value, c.deref-in-Directed-2.ensures.value) at c.directed_rule.ensures.meaning)
+
 pub network_of-returns-in_ok-word-in-Empty-clause-letters : goal.network_of-returns-in_ok-word-in-Empty-clause-letters
 network_of-returns-in_ok-word-in-Empty-clause-letters t c = empty_only (all_letters c.args.alphabet.now) c.in_ok-word-in-Empty.field-0 c.in_ok-word-in-Empty.ensures.letters
 
@@ -788,3 +800,25 @@ replaced-returns-then-is_insertion-clause-meaning t c =
     let so_far = subst (λ (z : List (Group Atom)). AreGroups (stands P) A (groups_of z) c.groups.langs.items) (take_whole whole c.groups.group-index c.groups-test.false) c.groups.invariant in
     let are = subst (λ (z : List LangGroup). AreGroups (stands P) A (groups_of whole) z) (sym c.deref-then-is_insertion.ensures.value) so_far in
     insertion_meant P A c.args.optional whole c.deref-then-is_insertion.result.now c.in_ok-insertion.field-0 (sym c.is_insertion.ensures ∙ c.if-is_insertion.true) are c.in_ok-insertion.ensures.relation
+
+pub directed_rule-lang_maps-requires : goal.directed_rule-lang_maps-requires
+directed_rule-lang_maps-requires t c = (omega (arith, c.decreases), (c.requires.ground, (c.requires.built.1, c.requires.fits.0)))
+
+pub directed_rule-lang_contexts-requires : goal.directed_rule-lang_contexts-requires
+directed_rule-lang_contexts-requires t c = (omega (arith, c.decreases), (c.requires.ground, (c.requires.built.2, c.requires.fits.1)))
+
+pub directed_rule-directed-requires-clause-over : goal.directed_rule-directed-requires-clause-over
+directed_rule-directed-requires-clause-over t c =
+    let A = c.args.alphabet.now in
+    let leaf = stands c.args.parts.now in
+    let maps = mappings_of c.args.maps.now in
+    let are = subst (λ (z : List LangMap). AreMaps leaf A maps z) (sym c.deref.ensures.value) c.in_ok-langs.ensures in
+    maps_over leaf A maps c.deref.result.now c.requires.built.0 are
+
+pub directed_rule-returns-clause-meaning : goal.directed_rule-returns-clause-meaning
+directed_rule-returns-clause-meaning t c =
+    let P = c.args.parts.now in
+    let A = c.args.alphabet.now in
+    let are = subst (λ (z : List LangMap). AreMaps (stands P) A (mappings_of c.args.maps.now) z) (sym c.deref.ensures.value) c.in_ok-langs.ensures in
+    let beside = subst (λ (z : List LangContext). AreContexts (stands P) A (contexts_of c.args.contexts.now) z) (sym c.deref-2.ensures.value) c.in_ok-around.ensures in
+    directed_meant P A c.args.way c.args.maps.now c.args.contexts.now c.deref.result.now c.deref-2.result.now c.in_ok-directed.field-0 are beside c.in_ok-directed.ensures.relation

@@ -79,6 +79,9 @@ decreases-in_contexts l = weight_contexts (contexts_of l.contexts.now)
 abbrev pub decreases-replaced : goal.decreases-replaced
 decreases-replaced l = weight_groups (groups_of l.groups.now) + 3
 
+abbrev pub decreases-directed_rule : goal.decreases-directed_rule
+decreases-directed_rule l = weight_mappings (mappings_of l.maps.now) + weight_contexts (contexts_of l.contexts.now) + 3
+
 abbrev pub decreases-lang_maps : goal.decreases-lang_maps
 decreases-lang_maps l = weight_mappings (mappings_of l.maps.now) + 2
 

@@ -1,7 +1,7 @@
-use Rattle.project_store.specs.Building.{expression_leaves}
+use Rattle.project_store.specs.Building.{IsBuiltAt, expression_leaves}
 use Rattle.project_definitions.specs.Plain.{body_of}
 use Rattle.project_store.specs.Centres.{HasNoNetwork}
-use Rattle.std.proofs.Common.{All, Contains, ◌<◌, ◌∙◌, List, length, rules, subst, sym}
+use Rattle.std.proofs.Common.{All, Contains, ◌<◌, ◌∙◌, List, arith, length, rules, subst, sym}
 use Rattle.regex_ast.specs.declared.expr.Atom.{Atom}
 use Rattle.project_definitions.specs.declared.definition.Definition.{Definition}
 use Rattle.project_store.proofs.Trying.{behind_one, is_empty, is_free, none_behind}
@@ -16,6 +16,12 @@ offset_bounds-all-place c =
     let below : c.args.place < length c.definitions-all.result.now =
     subst (λ (ds : List Definition). c.args.place < length ds) (sym (c.definitions-all.ensures.definitions ∙ c.plan-plan.ensures.definitions)) c.requires.place in
     search rules
+
+pub has_network-requires : goal.has_network-requires
+has_network-requires c = let many = c.requires.free.are.count in omega (arith, c.requires.place, many)
+
+pub returns-then-has_network : goal.returns-then-has_network
+returns-then-has_network c = rw c.if-has_network.true at c.has_network.ensures.yes
 
 pub returns-then-branch : goal.returns-then-branch
 returns-then-branch c =
@@ -37,15 +43,16 @@ built_of-requires-clause-parts c =
     let at = stands_at c.definitions-all.result.now loaded.definitions c.args.place d same below c.index-all-place.is in
     none_behind loaded c.args.built.now c.requires.free.are c.args.place d at (subst (λ (x : Definition). All (λ leaf. HasNoNetwork c.args.built.now leaf → ⊥) (expression_leaves (body_of x.body))) (sym c.index-all-place.is) (rw c.if-branch.false at c.in_ok-lacks_part.ensures.no))
 
-pub returns-in-Ok : goal.returns-in-Ok
-returns-in-Ok c =
+pub returns-in_ok-shared-in-Ok : goal.returns-in_ok-shared-in-Ok
+returns-in_ok-shared-in-Ok c =
     let loaded = c.args.project.now in
     let d = c.index-all-place.result in
     let same = c.definitions-all.ensures.definitions ∙ c.plan-plan.ensures.definitions in
     let below = subst (λ (ds : List Definition). c.args.place < length ds) (sym same) c.requires.place in
     let at = stands_at c.definitions-all.result.now loaded.definitions c.args.place d same below c.index-all-place.is in
     let parts = none_behind loaded c.args.built.now c.requires.free.are c.args.place d at (subst (λ (x : Definition). All (λ leaf. HasNoNetwork c.args.built.now leaf → ⊥) (expression_leaves (body_of x.body))) (sym c.index-all-place.is) (rw c.if-branch.false at c.in_ok-lacks_part.ensures.no)) in
-    (c.in-Ok.ensures.network, is_free loaded c.args.built.now c.requires.free c.args.place parts c.in-Ok.ensures.filled)
+    let lacking = rw c.if-has_network.false at c.has_network.ensures.no in
+    (subst (IsBuiltAt loaded c.args.place) (sym c.in_ok-shared-in-Ok.ensures) c.in-Ok.ensures.network, is_free loaded c.args.built.now c.requires.free c.args.place parts c.in-Ok.ensures.filled, lacking)
 
 pub returns-in-Err-EmptyCentre : goal.returns-in-Err-EmptyCentre
 returns-in-Err-EmptyCentre c =

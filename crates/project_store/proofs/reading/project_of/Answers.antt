@@ -1,24 +1,23 @@
-use Rattle.project_sources.specs.Laws.{all_readers}
-use Rattle.project_sources.specs.Sources.{project_in}
-use Rattle.project_sources.proofs.Sound.{sound_read}
-use Rattle.std.proofs.Common.{refl, subst, sym}
-use Rattle.project_store.specs.Projects.{HasTable}
-use Rattle.project_store.proofs.Trying.{first_of_read, loads_project, why_not_loaded}
+use Rattle.std.proofs.Common.{◌≡◌, ◌∙◌, Result, Ok, Err, IfErr, subst, sym}
+use Rattle.std.specs.Result.{IsErrAnd}
+use Rattle.project_store.specs.Projects.{IsOfSources, IsWhyNot}
+use Rattle.project_store.proofs.Trying.{none_free, read_whole, why_not_loaded}
 use Rattle.project_store.proofs.reading.project_of.Goals as goal
 
-pub returns-in-Ok-clause-project : goal.returns-in-Ok-clause-project
-returns-in-Ok-clause-project c =
-    let is = rw c.new-table.ensures at c.in-Ok.ensures.plan in
-    let sound = sound_read all_readers c.args.sources.now (project_in is.said) (is.faultless, is.said, is.says, refl) in
-    loads_project c.args.sources.now is.said is.faultless is.says c.in_ok-of-in-Ok.field-0 (c.in_ok-of-in-Ok.ensures.loaded is.said is.stands sound)
-    (subst (HasTable c.args.sources.now) (sym c.in_ok-of-in-Ok.ensures.glosses) is.glosses) c.with_centres.result c.with_centres.ensures.same c.with_centres.ensures.filled
+pub with_centres-requires : goal.with_centres-requires
+with_centres-requires c =
+    let same = c.definitions.ensures.definitions ∙ c.plan.ensures.definitions in
+    none_free c.in_ok-project.project c.in_ok-none.none.items (rw same at c.in_ok-none.ensures.count) (rw same at c.in_ok-none.ensures.none)
 
-pub returns-in-Ok-clause-error : goal.returns-in-Ok-clause-error
-returns-in-Ok-clause-error c =
-    let is = rw c.new-table.ensures at c.in-Ok.ensures.plan in
-    let sound = sound_read all_readers c.args.sources.now (project_in is.said) (is.faultless, is.said, is.says, refl) in
-    why_not_loaded c.args.sources.now is.said is.faultless is.says c.in_ok-of-in-Ok.field-0 (c.in_ok-of-in-Ok.ensures.loaded is.said is.stands sound) c.with_centres.result c.with_centres.ensures.error
+pub returns-clause-project : goal.returns-clause-project
+returns-clause-project c = subst (IsOfSources c.args.sources.now) (sym c.of.ensures) (read_whole c.args.sources.now c.in_ok-project.project c.in_ok-project.ensures.project c.in_ok-built.ensures.filled)
 
-pub returns-in-Err-Refused-clause-error : goal.returns-in-Err-Refused-clause-error
-returns-in-Err-Refused-clause-error c =
-    rw c.in-Err-Refused.fault-is (first_of_read c.args.sources.now _ (rw c.in-Err-Refused.field-0-is at c.in-Err-Refused.ensures.plan))
+-- the error that another one becomes is so where that one is
+fails_by : {T E : Type 0} (r : Result T E) (P : E → Type 0) (error : E) → IsErrAnd r (λ e. e ≡ error) → P error → IfErr r P
+fails_by (Ok x) P error is h = tt
+fails_by (Err e) P error is h = subst P (sym is) h
+
+pub returns-in_err-built-clause-error : goal.returns-in_err-built-clause-error
+returns-in_err-built-clause-error c =
+    let why = why_not_loaded c.args.sources.now c.in_ok-project.project c.in_ok-project.ensures.project c.in_err-built.field-0.0 c.in_err-built.ensures.error in
+    fails_by _ (IsWhyNot c.args.sources.now) _ c.from_residual-in_err-built.ensures.1 why

@@ -4,4 +4,4 @@ use Rattle.project_versions.proofs.networks.all_built.Given as goal
 
 -- the networks so far
 abbrev pub invariant-order : goal.invariant-order
-invariant-order l = BuiltSoFar l.project l.order (length l.project.definitions) l.next-index l.built.items
+invariant-order l = BuiltSoFar l.project l.order (length l.project.definitions) l.initial.built.items l.next-index l.built.items

@@ -1,34 +1,34 @@
-use Rattle.std.proofs.Common.{◌+◌, ◌∷◌, [], List, Option, arith, length, map, subst, sym, ap, ◌∙◌}
-use Rattle.std.proofs.lemmas.List.{map-append}
+use Rattle.std.proofs.Common.{◌+◌, List, Option, arith, subst, sym}
 use Rattle.network_algebra.specs.declared.network.Network.{Network}
 use Rattle.project_store.specs.Building.{IsThere}
-use Rattle.project_versions.specs.Networks.{IsReadyAt, StayBut, net_of}
-use Rattle.project_versions.proofs.Readying.{ReadySoFar, are_networks, next_ready, next_there, none_ready, written_back}
+use Rattle.project_versions.specs.Networks.{AreKeptIn, IsReadyAt}
+use Rattle.project_versions.specs.declared.networks.Built.{Built}
+use Rattle.project_versions.proofs.Readying.{ReadySoFar, are_ready, kept_on, next_ready, next_there, none_ready}
 use Rattle.project_versions.proofs.networks.networks_of.Goals as goal
 
 pub places-init : goal.places-init
-places-init c = rw c.new-networks.ensures.items (none_ready c.in_ok-all.all.items)
+places-init c = rw c.new-networks.ensures.items (none_ready c.in_ok-all.all.items c.args.kept.now)
 
-pub ready_at-requires : goal.ready_at-requires
-ready_at-requires c =
-    subst (λ (nets : List (Option Network)). IsThere nets c.places.place) (sym c.deref_mut.ensures.value)
-    (next_there c.args.project.now c.in_ok-all.all.items c.places.all.items c.places.place (map net_of c.places.networks.items) c.in_ok-all.ensures (omega arith) c.places.invariant)
+pub built_at-requires-clause-there : goal.built_at-requires-clause-there
+built_at-requires-clause-there c =
+    subst (λ (nets : List (Option Network)). IsThere nets c.places.place) (sym c.deref.ensures.value)
+    (next_there c.args.project.now c.in_ok-all.all.items c.in_ok-all.ensures.all c.places.place (omega arith))
 
-pub returns : goal.returns
-returns c =
-    are_networks c.args.project.now c.in_ok-all.all.items c.in_ok-all.ensures c.places.place (omega arith) (omega arith) c.places.all.items (map net_of c.places.networks.items) c.places.invariant
+pub built_at-requires-clause-kept : goal.built_at-requires-clause-kept
+built_at-requires-clause-kept c =
+    subst (AreKeptIn c.args.kept.now) (sym c.deref.ensures.value) (kept_on c.args.kept.now c.args.built.items c.in_ok-all.all.items c.in_ok-all.ensures.stay c.requires.kept)
 
 pub places-preserved : goal.places-preserved
 places-preserved c =
-    let first = c.in_ok-all.all.items in
-    let left = c.places.all.items in
-    let new = c.ready_at.new.built in
-    let value = c.deref_mut.ensures.value in
-    let net = net_of c.in_ok-ready_at.field-0 in
-    let here = subst (λ (nets : List (Option Network)). IsReadyAt nets c.places.place net) value c.in_ok-ready_at.ensures.ready in
-    let stay = subst (λ (nets : List (Option Network)). StayBut c.places.place nets new) value c.in_ok-ready_at.ensures.kept in
-    let so_far = next_ready first left new c.places.place (map net_of c.places.networks.items) net c.places.invariant here stay in
-    let pushed = ap (map net_of) c.in_ok-push.ensures.items ∙ map-append net_of c.places.networks.items (c.in_ok-ready_at.field-0 ∷ []) in
-    let back = written_back left new c.places.all.len (c.ready_at.auto.built ∙ ap (λ (nets : List (Option Network)). length nets) value) c.places.all.ok.0 in
-    subst (λ (nets : List (Option Network)). ReadySoFar first (c.places.place + 1) nets (map net_of c.push.new.self.items)) (sym back)
-    (subst (ReadySoFar first (c.places.place + 1) new) (sym pushed) so_far)
+    let all = c.in_ok-all.all.items in
+    let b = c.in_ok-built_at.field-0 in
+    let ready = subst (λ (nets : List (Option Network)). IsReadyAt nets c.places.place b) c.deref.ensures.value c.in_ok-built_at.ensures.ready in
+    subst (λ (bs : List Built). ReadySoFar all c.args.kept.now (c.places.place + 1) bs) (sym c.in_ok-push.ensures.items)
+    (next_ready all c.args.kept.now c.places.place c.places.networks.items b c.places.invariant ready c.in_ok-built_at.ensures.kept)
+
+pub returns-clause-ready : goal.returns-clause-ready
+returns-clause-ready c =
+    are_ready c.args.project.now c.in_ok-all.all.items c.in_ok-all.ensures.all c.args.kept.now c.places.place (omega arith) (omega arith) c.places.networks.items c.places.invariant
+
+pub returns-clause-kept : goal.returns-clause-kept
+returns-clause-kept c = c.places.invariant.kept_by

@@ -8,7 +8,7 @@ use Rattle.regex_parser.specs.Levels.{is_operand, ignored_within}
 use Rattle.regex_parser.specs.Values.{link_value, step_value, context_value, sided_value, mapping_value, group_value}
 use Rattle.regex_parser.proofs.Loops.{item_pushed, row_begun, more_begin, more_pushed}
 use Rattle.regex_parser.proofs.Levels.{expression_none, expression_steps, is_slash, slash_within, slash_read, slash_begins, slash_shorter, ignored_read, ignored_fails, ignored_none, ignored_shorter, concat_read, concat_fails, concat_none, is_link, link_within, link_read, link_here, link_shorter, chain_read, chain_fails, chain_none, is_step, step_within, step_read, step_here, step_shorter, steps_read, steps_fails, steps_none, negated_read, negated_none, crossed_none, crossed_alone, crossed_open, crossed_read, suffixed_read, suffixed_none, suffixed_fails, prefixed_read, prefixed_none, primary_square, primary_round, primary_leaf, square_blank, square_none, square_open, square_read, round_none, round_open, round_read}
-use Rattle.regex_parser.proofs.Rules.{is_comma, is_group_comma, next_context_within, next_mapping_within, next_group_within, next_context_shorter, next_mapping_shorter, next_group_shorter, next_context_read, next_mapping_read, next_group_read, comma_begins, group_comma_begins, contexts_read, contexts_fail, contexts_none, group_tail_found, group_tail_sides, group_tail_fails, group_tail_unbegun, replacement_read, replacement_fails, replacement_none, context_found, context_unbegun, context_unplaced, context_unended, marks_found, marks_none, insertion_read, insertion_none, insertion_fails, insertion_unsided, ruling_only, ruling_arrow, ruling_none, part_blank, part_is, sided_blank, sided_fails, sided_read, right_marks, right_none, right_marked, right_plain, mapping_none, mapping_unarrowed, mapping_is, group_none, group_unarrowed, group_is, restriction_read, restriction_none, nine_inserted, nine_none, nine_ruled}
+use Rattle.regex_parser.proofs.Rules.{is_comma, is_group_comma, next_context_within, next_mapping_within, next_group_within, next_context_shorter, next_mapping_shorter, next_group_shorter, next_context_read, next_mapping_read, next_group_read, comma_begins, group_comma_begins, contexts_read, contexts_fail, contexts_none, mappings_read, mappings_fail, mappings_none, group_tail_found, group_tail_sides, group_tail_none, upper_blank, upper_is, directed_found, directed_unplaced, directed_none, replacement_read, replacement_fails, replacement_none, context_found, context_unbegun, context_unplaced, context_unended, marks_found, marks_none, insertion_read, insertion_none, insertion_fails, insertion_unsided, ruling_only, ruling_arrow, ruling_way, ruling_none, part_blank, part_is, sided_blank, sided_fails, sided_read, right_marks, right_none, right_marked, right_plain, mapping_none, mapping_unarrowed, mapping_is, group_none, group_unarrowed, group_is, restriction_read, restriction_none, nine_inserted, nine_none, nine_ruled}
 use Rattle.regex_parser.proofs.parser.+parser.Goals as goal
 
 pub expression-returns-then-depth-eq0 : goal.expression-returns-then-depth-eq0
@@ -149,19 +149,19 @@ contexts-contexts-preserved t c =
     let here : begins is_comma c.contexts.rest.now ≡ true = comma_begins c.contexts.rest.now c.in-Some-after.next.now (search rules) in
     more_pushed is_comma (next_context_within c.args.depth) (context_value {A = Raw}) (next_context_shorter c.args.depth) c.in-Some.rest.now (map (context_value {A = Raw}) c.push.new.self.items) c.contexts.found.items c.push-in-Some-after.new.self.items c.contexts.rest.now c.in-Some-2.context c.in-Some-2.behind.now c.contexts.invariant here item c.in_ok-push-2.ensures.items
 
-pub group_tail-mappings-init : goal.group_tail-mappings-init
-group_tail-mappings-init t c =
-    more_begin is_comma (next_mapping_within c.args.depth c.args.optional) c.in-Some.rest.now (map (mapping_value {A = Raw}) c.push.new.self.items)
+pub mappings-mappings-init : goal.mappings-mappings-init
+mappings-mappings-init t c =
+    more_begin is_comma (next_mapping_within c.args.depth c.args.arrow) c.in-Some.rest.now (map (mapping_value {A = Raw}) c.push.new.self.items)
 
-pub group_tail-mappings-smaller : goal.group_tail-mappings-smaller
-group_tail-mappings-smaller t c =
-    next_mapping_shorter c.args.depth c.args.optional c.mappings.rest.now (mapping_value c.in-Some-2.map, c.in-Some-2.behind.now) (next_mapping_read c.args.depth c.args.optional c.mappings.rest.now c.in-Some-after.next.now (mapping_value c.in-Some-2.map) c.in-Some-2.behind.now (search rules) (search rules))
+pub mappings-mappings-smaller : goal.mappings-mappings-smaller
+mappings-mappings-smaller t c =
+    next_mapping_shorter c.args.depth c.args.arrow c.mappings.rest.now (mapping_value c.in-Some-2.map, c.in-Some-2.behind.now) (next_mapping_read c.args.depth c.args.arrow c.mappings.rest.now c.in-Some-after.next.now (mapping_value c.in-Some-2.map) c.in-Some-2.behind.now (search rules) (search rules))
 
-pub group_tail-mappings-preserved : goal.group_tail-mappings-preserved
-group_tail-mappings-preserved t c =
-    let item : next_mapping_within c.args.depth c.args.optional c.mappings.rest.now ≡ Some (mapping_value c.in-Some-2.map, c.in-Some-2.behind.now) = next_mapping_read c.args.depth c.args.optional c.mappings.rest.now c.in-Some-after.next.now (mapping_value c.in-Some-2.map) c.in-Some-2.behind.now (search rules) (search rules) in
+pub mappings-mappings-preserved : goal.mappings-mappings-preserved
+mappings-mappings-preserved t c =
+    let item : next_mapping_within c.args.depth c.args.arrow c.mappings.rest.now ≡ Some (mapping_value c.in-Some-2.map, c.in-Some-2.behind.now) = next_mapping_read c.args.depth c.args.arrow c.mappings.rest.now c.in-Some-after.next.now (mapping_value c.in-Some-2.map) c.in-Some-2.behind.now (search rules) (search rules) in
     let here : begins is_comma c.mappings.rest.now ≡ true = comma_begins c.mappings.rest.now c.in-Some-after.next.now (search rules) in
-    more_pushed is_comma (next_mapping_within c.args.depth c.args.optional) (mapping_value {A = Raw}) (next_mapping_shorter c.args.depth c.args.optional) c.in-Some.rest.now (map (mapping_value {A = Raw}) c.push.new.self.items) c.mappings.maps.items c.push-in-Some-after.new.self.items c.mappings.rest.now c.in-Some-2.map c.in-Some-2.behind.now c.mappings.invariant here item c.in_ok-push-2.ensures.items
+    more_pushed is_comma (next_mapping_within c.args.depth c.args.arrow) (mapping_value {A = Raw}) (next_mapping_shorter c.args.depth c.args.arrow) c.in-Some.rest.now (map (mapping_value {A = Raw}) c.push.new.self.items) c.mappings.maps.items c.push-in-Some-after.new.self.items c.mappings.rest.now c.in-Some-2.map c.in-Some-2.behind.now c.mappings.invariant here item c.in_ok-push-2.ensures.items
 
 pub replacement-groups-init : goal.replacement-groups-init
 replacement-groups-init t c =
@@ -189,21 +189,49 @@ pub contexts-returns-in_default : goal.contexts-returns-in_default
 contexts-returns-in_default t c =
     contexts_none c.args.depth c.args.tokens.now (search rules)
 
+pub mappings-returns : goal.mappings-returns
+mappings-returns t c =
+    mappings_read c.args.depth c.args.arrow (term c.args.centre.expr) c.args.tokens.now c.in-Some.first c.in-Some.rest.now c.new-maps.result.items c.push.new.self.items c.mappings.maps.items c.mappings.rest.now (search rules) c.new-maps.ensures.items c.in_ok-push.ensures.items c.mappings.invariant (search rules)
+
+pub mappings-returns-in_default-2 : goal.mappings-returns-in_default-2
+mappings-returns-in_default-2 t c =
+    mappings_fail c.args.depth c.args.arrow (term c.args.centre.expr) c.args.tokens.now c.in-Some.first c.in-Some.rest.now c.push.new.self.items c.mappings.maps.items c.mappings.rest.now c.in-Some-after.next.now (search rules) c.mappings.invariant (search rules) (search rules)
+
+pub mappings-returns-in_default : goal.mappings-returns-in_default
+mappings-returns-in_default t c =
+    mappings_none c.args.depth c.args.arrow (term c.args.centre.expr) c.args.tokens.now (search rules)
+
 pub group_tail-returns : goal.group_tail-returns
 group_tail-returns t c =
-    group_tail_found c.args.depth c.args.optional (term c.args.centre.expr) c.args.tokens.now c.in-Some.first c.in-Some.rest.now c.new-maps.result.items c.push.new.self.items c.mappings.maps.items c.mappings.rest.now (sided_value c.in-Some-3.side c.in-Some-3.contexts.items) c.in-Some-3.rest.now (group_value c.group.result) (search rules) c.new-maps.ensures.items c.in_ok-push.ensures.items c.mappings.invariant (search rules) (search rules) c.group.ensures
-
-pub group_tail-returns-in_default-3 : goal.group_tail-returns-in_default-3
-group_tail-returns-in_default-3 t c =
-    group_tail_sides c.args.depth c.args.optional (term c.args.centre.expr) c.args.tokens.now c.in-Some.first c.in-Some.rest.now c.new-maps.result.items c.push.new.self.items c.mappings.maps.items c.mappings.rest.now (search rules) c.new-maps.ensures.items c.in_ok-push.ensures.items c.mappings.invariant (search rules) (search rules)
+    group_tail_found c.args.depth c.args.optional (term c.args.centre.expr) c.args.tokens.now c.arrow.result (map mapping_value c.in-Some.maps.items) c.in-Some.rest.now (sided_value c.in-Some-2.side c.in-Some-2.contexts.items) c.in-Some-2.rest.now (group_value c.group.result) c.arrow.ensures (search rules) (search rules) c.group.ensures
 
 pub group_tail-returns-in_default-2 : goal.group_tail-returns-in_default-2
 group_tail-returns-in_default-2 t c =
-    group_tail_fails c.args.depth c.args.optional (term c.args.centre.expr) c.args.tokens.now c.in-Some.first c.in-Some.rest.now c.push.new.self.items c.mappings.maps.items c.mappings.rest.now c.in-Some-after.next.now (search rules) c.mappings.invariant (search rules) (search rules)
+    group_tail_sides c.args.depth c.args.optional (term c.args.centre.expr) c.args.tokens.now c.arrow.result (map mapping_value c.in-Some.maps.items) c.in-Some.rest.now c.arrow.ensures (search rules) (search rules)
 
 pub group_tail-returns-in_default : goal.group_tail-returns-in_default
 group_tail-returns-in_default t c =
-    group_tail_unbegun c.args.depth c.args.optional (term c.args.centre.expr) c.args.tokens.now (search rules)
+    group_tail_none c.args.depth c.args.optional (term c.args.centre.expr) c.args.tokens.now c.arrow.result c.arrow.ensures (search rules)
+
+pub upper-returns-in_default : goal.upper-returns-in_default
+upper-returns-in_default t c =
+    upper_blank c.args.depth c.args.tokens.now c.new.result.items (search rules) c.new.ensures.items
+
+pub upper-returns : goal.upper-returns
+upper-returns t c =
+    let e = upper_is c.args.depth c.args.tokens.now c.in-Some.rest.now (search rules) in rw (← e) c.contexts.ensures
+
+pub directed-returns : goal.directed-returns
+directed-returns t c =
+    directed_found c.args.depth c.args.way (term c.args.centre.expr) c.args.tokens.now c.directed_arrow.result (map mapping_value c.in-Some.maps.items) c.in-Some.rest.now (map context_value c.in-Some-2.contexts.items) c.in-Some-2.rest.now (term c.directed.result.expr) c.directed_arrow.ensures (search rules) (search rules) c.directed.ensures
+
+pub directed-returns-in_default-2 : goal.directed-returns-in_default-2
+directed-returns-in_default-2 t c =
+    directed_unplaced c.args.depth c.args.way (term c.args.centre.expr) c.args.tokens.now c.directed_arrow.result (map mapping_value c.in-Some.maps.items) c.in-Some.rest.now c.directed_arrow.ensures (search rules) (search rules)
+
+pub directed-returns-in_default : goal.directed-returns-in_default
+directed-returns-in_default t c =
+    directed_none c.args.depth c.args.way (term c.args.centre.expr) c.args.tokens.now c.directed_arrow.result c.directed_arrow.ensures (search rules)
 
 pub replacement-returns : goal.replacement-returns
 replacement-returns t c =
@@ -265,9 +293,13 @@ pub ruling-returns-in-Some-split_arrow : goal.ruling-returns-in-Some-split_arrow
 ruling-returns-in-Some-split_arrow t c =
     let e = ruling_arrow c.args.depth (term c.args.centre.expr) c.args.tokens.now c.in-Some-split_arrow.optional c.in-Some-split_arrow.rest.now (search rules) in rw (← e) c.replacement.ensures
 
+pub ruling-returns-in-Some-split_way : goal.ruling-returns-in-Some-split_way
+ruling-returns-in-Some-split_way t c =
+    let e = ruling_way c.args.depth (term c.args.centre.expr) c.args.tokens.now c.in-Some-split_way.way c.in-Some-split_way.rest.now (search rules) in rw (← e) c.directed.ensures
+
 pub ruling-returns : goal.ruling-returns
 ruling-returns t c =
-    ruling_none c.args.depth (term c.args.centre.expr) c.args.tokens.now (search rules) (search rules)
+    ruling_none c.args.depth (term c.args.centre.expr) c.args.tokens.now (search rules) (search rules) (search rules)
 
 pub negated-returns : goal.negated-returns
 negated-returns t c =
@@ -391,15 +423,15 @@ right_side-returns t c =
 
 pub mapping-returns-in_default : goal.mapping-returns-in_default
 mapping-returns-in_default t c =
-    mapping_none c.args.depth c.args.optional c.args.tokens.now (search rules)
+    mapping_none c.args.depth c.args.arrow c.args.tokens.now (search rules)
 
 pub mapping-returns-in_default-after : goal.mapping-returns-in_default-after
 mapping-returns-in_default-after t c =
-    mapping_unarrowed c.args.depth c.args.optional c.args.tokens.now (term c.in-Some.centre.expr) c.in-Some.rest.now c.arrow.result (search rules) c.arrow.ensures (search rules)
+    mapping_unarrowed c.args.depth c.args.arrow c.args.tokens.now (term c.in-Some.centre.expr) c.in-Some.rest.now (search rules) (search rules)
 
 pub mapping-returns : goal.mapping-returns
 mapping-returns t c =
-    let e = mapping_is c.args.depth c.args.optional c.args.tokens.now (term c.in-Some.centre.expr) c.in-Some.rest.now c.arrow.result c.in-Some-after.behind.now (search rules) c.arrow.ensures (search rules) in rw (← e) c.right_side.ensures
+    let e = mapping_is c.args.depth c.args.arrow c.args.tokens.now (term c.in-Some.centre.expr) c.in-Some.rest.now c.in-Some-after.behind.now (search rules) (search rules) in rw (← e) c.right_side.ensures
 
 pub group-returns-in_default : goal.group-returns-in_default
 group-returns-in_default t c =

@@ -1,13 +1,13 @@
-use Rattle.std.proofs.Common.{◌≡◌, ◌++◌, refl, ap, sym, ◌∙◌, arith, inl, inr, map, drop, nat_lt, length}
+use Rattle.std.proofs.Common.{◌≡◌, ◌||◌, ◌++◌, refl, ap, sym, ◌∙◌, arith, inl, inr, map, drop, nat_lt, length}
 use Rattle.std.proofs.lemmas.List.{drop_all}
-use Rattle.regex_ast.specs.Terms.{term, terms_of, contexts_of, steps_by, links_of, groups_of, mappings_of, only, rules}
+use Rattle.regex_ast.specs.Terms.{term, terms_of, contexts_of, steps_by, links_of, groups_of, mappings_of, only, rules, directed}
 use Rattle.regex_ast.specs.declared.expr.Raw.{Raw}
-use Rattle.regex_ast.specs.declared.expr.Expr.TheViews.{out-RuleSet}
+use Rattle.regex_ast.specs.declared.expr.Expr.TheViews.{out-RuleSet, out-Directed}
 use Rattle.regex_ast.proofs.Rows.{term-Concat, term-Chain, term-Ignore, term-Only, term-Steps}
 use Rattle.regex_reader.specs.Found.{found_in}
-use Rattle.regex_reader.specs.Tests.{at, nodes, each_of, each_context, each_step, each_link, each_group, each_mapping}
-use Rattle.regex_ast.proofs.Sets.{term_rules, maps_of_is, contexts_in_is}
-use Rattle.regex_reader.proofs.Found.{finish, both, in_front, context_count_is, operand_term, step_term, parts_go_on, links_go_on, steps_go_on, contexts_go_on, groups_go_on, mappings_go_on}
+use Rattle.regex_reader.specs.Tests.{at, nodes, each_of, each_context, each_step, each_link, each_group, each_mapping, context_count}
+use Rattle.regex_ast.proofs.Sets.{term_rules, term_directed, maps_of_is, contexts_in_is}
+use Rattle.regex_reader.proofs.Found.{finish, both, in_front, context_count_is, mapping_count_is, operand_term, step_term, parts_go_on, links_go_on, steps_go_on, contexts_go_on, groups_go_on, mappings_go_on}
 use Rattle.regex_reader.proofs.findings.+walk.Goals as goal
 
 pub find_in_contexts-contexts-preserved : goal.find_in_contexts-contexts-preserved
@@ -61,6 +61,20 @@ find_in_expression-returns-in-Rules t c =
     let large = rw c.deref-in-Rules.ensures.value at c.are_large.ensures in
     let more = rw c.deref-in-Rules-2.ensures.value at c.find_in_groups.ensures in
     in_front (at c.args.inside (rules (out-RuleSet Raw c.in-Rules.rules).optional (groups_of (out-RuleSet Raw c.in-Rules.rules).groups.items))) _ _ _ _ (each_group c.args.inside (groups_of (out-RuleSet Raw c.in-Rules.rules).groups.items)) refl refl (sym large) c.or-in-Rules.ensures c.of_size-in-Rules.ensures more ∙ ap (λ e. found_in (nodes c.args.inside e)) (sym is)
+
+pub find_in_expression-returns-in-Directed : goal.find_in_expression-returns-in-Directed
+find_in_expression-returns-in-Directed t c =
+    let is = ap term c.in-Directed.is ∙ term_directed c.in-Directed.rule in
+    let rule = out-Directed Raw c.in-Directed.rule in
+    let maps = rw c.deref-in-Directed.ensures.value at c.find_in_mappings.ensures in
+    let around = rw c.deref-in-Directed-2.ensures.value at c.find_in_contexts-in-Directed.ensures in
+    let maps_long : length rule.maps.items ≡ c.len-in-Directed.result = omega (arith, rule.maps.ok.0, c.len-in-Directed.ensures) in
+    let contexts_long : length rule.contexts.items ≡ c.len-in-Directed-2.result = omega (arith, rule.contexts.ok.0, c.len-in-Directed-2.ensures) in
+    let large = ap (λ n. nat_lt 64 n || nat_lt 64 (context_count (contexts_of rule.contexts.items))) (mapping_count_is rule.maps.items ∙ maps_long) ∙ ap (λ n. nat_lt 64 c.len-in-Directed.result || nat_lt 64 n) (context_count_is rule.contexts.items ∙ contexts_long) in
+    let maps_nodes = each_mapping c.args.inside (mappings_of rule.maps.items) in
+    let context_nodes = each_context (contexts_of rule.contexts.items) in
+    in_front (at c.args.inside (directed rule.way (mappings_of rule.maps.items) (contexts_of rule.contexts.items))) _ _ _ _ (maps_nodes ++ context_nodes) refl refl (large ∙ sym c.is_large.ensures) c.or-in-Directed-2.ensures c.of_size-in-Directed.ensures (both _ _ _ maps_nodes context_nodes c.or-in-Directed.ensures maps around)
+    ∙ ap (λ e. found_in (nodes c.args.inside e)) (sym is)
 
 pub find_in_expression-returns-in-Steps : goal.find_in_expression-returns-in-Steps
 find_in_expression-returns-in-Steps t c =

@@ -1,10 +1,10 @@
 use Rattle.std.proofs.Common.{sym, ap, ◌∙◌, arith}
-use Rattle.regex_ast.specs.Terms.{term, links_of, contexts_of, mappings_of, steps_by, ignore, concat, chain, only, rules, steps}
-use Rattle.regex_ast.specs.declared.expr.Expr.TheViews.{out-RuleSet, size_is-Group}
+use Rattle.regex_ast.specs.Terms.{term, links_of, contexts_of, mappings_of, steps_by, ignore, concat, chain, only, rules, directed, steps}
+use Rattle.regex_ast.specs.declared.expr.Expr.TheViews.{out-RuleSet, out-Directed, size_is-Group}
 use Rattle.regex_ast.proofs.Rows.{term-Ignore, term-Concat, term-Chain, term-Only, term-Steps}
-use Rattle.expr_leaves.specs.Mapped.{mapped}
+use Rattle.expr_leaves.specs.Mapped.{mapped, mapped_mappings}
 use Rattle.expr_leaves.proofs.Rowed.{each_more, each_ended, links_more, links_ended, steps_more, steps_ended, contexts_more, contexts_ended, mappings_more, mappings_ended, groups_more, groups_ended, is_or, is_and, is_less, is_cross_with, is_then, is_between, is_plain, is_markup, is_insert}
-use Rattle.expr_leaves.proofs.MappedSets.{contexts_in_is, group_made, maps_of_is, side_of_is, size_in, term_rules}
+use Rattle.expr_leaves.proofs.MappedSets.{contexts_in_is, group_made, maps_of_is, side_of_is, size_in, contexts_smaller, term_rules, term_directed}
 use Rattle.expr_leaves.proofs.mapping.Walk.+walk.Goals as goal
 use Rattle.expr_leaves.proofs.mapping.Walk.+walk.Goals.{links-in-Or+in_ok-leaves-in-Or+in_ok-push-in-Or, links-in-And+in_ok-leaves-in-And+in_ok-push-in-And, links-in-Less+in_ok-leaves-in-Less+in_ok-push-in-Less, steps-in-CrossWith+in_ok-leaves-in-CrossWith+in_ok-push-in-CrossWith, steps-in-Then+in_ok-leaves-in-Then+in_ok-push-in-Then, mappings-in-Plain+in_ok-leaves-in-Plain+in_ok-leaves-in-Plain-2+in_ok-push-in-Plain, mappings-in-Markup+in_ok-leaves-in-Markup+in_ok-leaves-in-Markup-2+in_ok-leaves-in-Markup-3+in_ok-push-in-Markup, mappings-in-Insert+in_ok-leaves-in-Insert+in_ok-push-in-Insert}
 
@@ -124,3 +124,15 @@ leaves-returns-in_ok-groups-in-Rules g t c =
     let is = ap term c.in-Rules.is ∙ term_rules c.in-Rules.rules in
     let made = rw c.deref-in-Rules.ensures.value at c.in_ok-groups-in-Rules.ensures in
     c.with_groups.ensures ∙ ap (rules (out-RuleSet _ c.in-Rules.rules).optional) made ∙ ap (mapped (g.M.LeafMap.image c.args.self.now.images.now)) (sym is)
+
+pub leaves-returns-in_ok-contexts-in-Directed : goal.leaves-returns-in_ok-contexts-in-Directed
+leaves-returns-in_ok-contexts-in-Directed g t c =
+    let rule = out-Directed _ c.in-Directed.rule in
+    let is = ap term c.in-Directed.is ∙ term_directed c.in-Directed.rule in
+    let maps = rw c.deref-in-Directed.ensures.value at c.in_ok-maps-in-Directed.ensures in
+    let contexts = rw c.deref-in-Directed-2.ensures.value at c.in_ok-contexts-in-Directed.ensures in
+    c.with_way.ensures ∙ ap (λ m. directed rule.way m (contexts_of c.in_ok-contexts-in-Directed.contexts.items)) maps
+    ∙ ap (directed rule.way (mapped_mappings (g.M.LeafMap.image c.args.self.now.images.now) (mappings_of rule.maps.items))) contexts ∙ ap (mapped (g.M.LeafMap.image c.args.self.now.images.now)) (sym is)
+
+pub leaves-contexts-requires-in-Directed : goal.leaves-contexts-requires-in-Directed
+leaves-contexts-requires-in-Directed g t c κs within = (rw c.deref-in-Directed-2.ensures.value (omega (arith, contexts_smaller c.args.expr.now c.in-Directed.rule c.in-Directed.is)), within)

@@ -18,7 +18,7 @@ returns-in-Some c meant table stands has =
     let letters = c.alphabet-alphabet.ensures ∙ ap (λ (v : VersionView). v.loaded.alphabet) c.self.view_is in
     let shown = shows_over c.args.self.now meant stands _ letters c.args.net.now (Some c.in-Some.network.now) (c.in-Some.ensures.shows meant stands) in
     let own = subst (λ (v : VersionView). Stands v meant) (sym c.self.view_is) stands in
-    let same = c.glosses-glosses.ensures ∙ glosses_are _ meant own c.self.invariant.of_files table has in
+    let same = c.glosses-glosses.ensures ∙ glosses_are _ meant own c.self.invariant.0.of_files table has in
     let told = c.gloss_in.ensures meant.project c.args.net.now c.args.self.now.loaded.glosses shown in
     numbered _ meant own (λ number. GlossesText meant.project table number c.args.net.now c.args.text.now) _
     (subst (λ (entries : List Entry). IfOk c.gloss_in.result (λ bytes. GlossesText meant.project entries c.self.inside.number c.args.net.now c.args.text.now bytes.items)) same told)

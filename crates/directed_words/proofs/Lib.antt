@@ -1,0 +1,9 @@
+mod Splits
+mod Encode
+mod Reading
+mod Bridge
+mod Matches
+mod Barred
+pub mod Directions
+pub mod Turned
+pub mod Leaving

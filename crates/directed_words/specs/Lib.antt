@@ -1,0 +1,4 @@
+pub mod Kinds
+pub mod Marked
+pub mod Laws
+pub mod Comparisons

@@ -1,0 +1,4 @@
+mod Spelled
+mod Written
+mod Answered
+mod Found

@@ -1,0 +1,11 @@
+pub mod Splitting
+pub mod Alone
+pub mod Strings
+pub mod Numbering
+pub mod Verdicts
+pub mod Made
+pub mod Standing
+pub mod Told
+pub mod Grammars
+pub mod Opening
+pub mod Passing

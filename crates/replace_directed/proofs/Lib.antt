@@ -1,0 +1,9 @@
+mod Unions
+mod BlockWords
+mod Picked
+mod ShapeWords
+mod CentreWords
+mod Kept
+mod TurnedRules
+mod Relations
+mod LawProofs

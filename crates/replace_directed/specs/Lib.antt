@@ -1,0 +1,4 @@
+pub mod Directed
+pub mod Marked
+pub mod Turned
+pub mod Laws

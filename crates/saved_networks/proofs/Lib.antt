@@ -1,0 +1,4 @@
+pub mod Numbered
+pub mod Saved
+pub mod Lawful
+pub mod Replied

@@ -1,0 +1,5 @@
+pub mod Faults
+pub mod Networks
+pub mod OneReply
+pub mod Refusals
+pub mod Replies
