@@ -11,7 +11,7 @@ ROOT = os.path.dirname(os.path.dirname(os.path.abspath(__file__)))
 CRATE = os.path.join(ROOT, 'crates', 'worked_rows')
 PROMPT = '    $ '
 FIELD = 'document '
-BEHIND = 'lanes_go_beside_edits'
+BEHIND = 'trials texts'
 
 
 def read(path):
