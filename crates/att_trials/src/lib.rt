@@ -37,7 +37,11 @@ pub fn said_of_rows(alloc: Global, rows: &str) -> Result<String, AllocError> {
     let mut told = String::new(alloc);
     'rows: for row in rows.lines() {
         if let Some(said) = said_of_row(alloc, row)? {
-            add_row(&mut told, row, format!(in alloc; "    {}", said.as_str())?.as_str())?;
+            add_row(
+                &mut told,
+                row,
+                format!(in alloc; "    {}", said.as_str())?.as_str(),
+            )?;
         }
     }
     Ok(told)

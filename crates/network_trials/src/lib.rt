@@ -45,8 +45,8 @@ mod sides;
 mod symbols;
 
 use crate::answers::add_line;
-use row_texts::add_row;
 use lookup::one_kind;
+use row_texts::add_row;
 use std::alloc::{AllocError, Global};
 
 /// What the rows below a heading make.

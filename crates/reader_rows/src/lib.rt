@@ -68,10 +68,17 @@ pub fn said_of_rows(alloc: Global, rows: &str) -> Result<String, AllocError> {
     let mut trees = Trees { read: 0, same: 0 };
     'rows: for row in rows.lines() {
         if let Some(outcome) = obey(alloc, &mut trees, row)? {
-            add_row(&mut told, row, format!(in alloc; "    {}", outcome.as_str())?.as_str())?;
+            add_row(
+                &mut told,
+                row,
+                format!(in alloc; "    {}", outcome.as_str())?.as_str(),
+            )?;
         }
     }
-    let counts = format!(in alloc; "{} of {} trees are the same when they are printed and read again", trees.same, trees.read)?;
+    let counts = format!(in alloc;
+        "{} of {} trees are the same when they are printed and read again",
+        trees.same, trees.read
+    )?;
     add_line(&mut told, counts.as_str())?;
     Ok(told)
 }

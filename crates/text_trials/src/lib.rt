@@ -121,7 +121,11 @@ pub fn said_of_rows(rt: &impl Files, alloc: Global, rows: &str) -> Result<String
             section = section_of(name);
             add_line(&mut told, row)?;
         } else if !row.is_empty() && !row.starts_with('#') {
-            add_row(&mut told, row, line_of(alloc, said_of_row(rt, alloc, section, row)?)?.as_str())?;
+            add_row(
+                &mut told,
+                row,
+                line_of(alloc, said_of_row(rt, alloc, section, row)?)?.as_str(),
+            )?;
         }
     }
     Ok(told)
