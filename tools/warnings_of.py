@@ -5,6 +5,7 @@ import re
 import shutil
 import tempfile
 
+import hints
 import pair_tests
 import program
 import sources
@@ -307,7 +308,7 @@ def project(folder):
     files = tests_of(folder) if os.path.isdir(folder) else []
     status, said = program.answers(folder, [line for _, words, _ in files for line in tests.lines_of(words)])
     if status:
-        return status, said
+        return status, said + hints.of_folder(folder, said)
     read, warnings = sources.Project(folder), Warnings()
     look_at_names(read, files, warnings)
     for look in (look_at_lexc, look_at_xfst, look_at_twolc, look_at_contexts):
