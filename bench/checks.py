@@ -50,6 +50,8 @@ LINTS = [
     ('a name that a lexicon uses', {'project': 'xfst r.xfst\nlexc L n.lexc\nrequire L', 'r.xfst': 'define A a ;', 'n.lexc': 'LEXICON Root\n<A> # ;'}, []),
     ('symbols of a lexicon', {'project': 'lexc L n.lexc', 'n.lexc': 'Multichar_Symbols +N +V @P.F.x@ <a> %{B%}\nLEXICON Root\na+N:b # ;\nb+Adj # ;\nc%+Adv # ;\nd<a><n>:d{A}{B} # ;\ne+f # ;\n'},
      ['n.lexc 1 unused-symbol +V', 'n.lexc 4 undeclared +Adj', 'n.lexc 5 undeclared +Adv', 'n.lexc 6 undeclared <n>', 'n.lexc 6 undeclared {A}']),
+    ('a tag that is longer than a symbol', {'project': 'lexc L n.lexc', 'n.lexc': 'Multichar_Symbols +N +Sg\nLEXICON Root\na+Num+Sg: # ;\nb+N+Sg%ä:b # ;\nc+N-d # ;\n'},
+     ['n.lexc 3 undeclared +Num']),
     ('a symbol that another file uses', {'project': 'lexc L n.lexc\nxfst r.xfst', 'n.lexc': 'Multichar_Symbols +N\nLEXICON Root\na # ;', 'r.xfst': 'define A "+N" ;'}, []),
     ('lexicons', {'project': 'lexc L n.lexc', 'n.lexc': 'LEXICON Root\na X ;\nb %# ;\n<c "!" {!}> # ;\nLEXICON X\nx X ;\nLEXICON Y\ny X ;\nLEXICON %#\nz # ;\nEND\nLEXICON Z ;'},
      ['n.lexc 5 no-end X', 'n.lexc 7 unreached Y']),
