@@ -10,7 +10,8 @@
 //!
 //! - [`Way`], [`DirectedMap`], [`DirectedContext`]: a rule.
 //! - [`directed`]: its network.
-//! - [`directed_leaves_others`], [`directed_is_rewriting`]: laws, in the words of the subject (`specs/Laws.antt`).
+//! - [`directed_leaves_others`], [`directed_is_rewriting`], [`directed_agrees_without_overlap`], [`directed_agrees_on_symbols`]: laws, in the
+//!   words of the subject (`specs/Laws.antt`).
 #![tactic(auto)]
 
 mod blocks;
@@ -24,6 +25,9 @@ mod shapes;
 mod turning;
 
 pub use directing::directed;
-pub use laws::{directed_is_rewriting, directed_leaves_others};
+pub use laws::{
+    directed_agrees_on_symbols, directed_agrees_without_overlap, directed_is_rewriting,
+    directed_leaves_others,
+};
 pub use regex_ast::Way;
 pub use replace_rules::{LangContext as DirectedContext, LangMap as DirectedMap};
