@@ -5,8 +5,9 @@
 //! expr_meaning (`IsDirectedBy`, specs/Directed.antt).
 //!
 //! The construction from the left goes by words of marks (replace_words, directed_words): first all well-formed ones, and then for each
-//! context those that keep what is asked there, by one constraint after another, made small each time. From the right all parts of the
-//! rule are turned round, and then its network.
+//! context those that keep what is asked there, by one constraint after another, made small each time. Symbols that no part of the rule
+//! tells from one another are one as long as words of marks are made, and are put back at the end. From the right all parts of the rule
+//! are turned round, and then its network.
 //!
 //! - [`Way`], [`DirectedMap`], [`DirectedContext`]: a rule.
 //! - [`directed`]: its network.
@@ -14,6 +15,7 @@
 //!   words of the subject (`specs/Laws.antt`).
 #![tactic(auto)]
 
+mod alike;
 mod blocks;
 mod constraints;
 mod directing;
