@@ -52,8 +52,8 @@ def task_of(process):
     if os.path.basename(words[0]) != 'rattle' or '--crate-name' not in words:
         return None
     crate = words[words.index('--crate-name') + 1]
-    folder = os.path.basename(os.readlink(f'/proc/{process}/cwd'))
-    if folder.startswith('rt-edit-') or 'edit' in folder:
+    # edits are tried in folders of their own
+    if '/rt-edit' in os.readlink(f'/proc/{process}/cwd'):
         return crate, 'edits'
     return crate, 'tests' if '--test' in words else 'proof'
 
