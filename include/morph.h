@@ -3,7 +3,7 @@
  * The library is crates/morph_c/out/libmorph_c.a, which `rt lib` makes in crates/morph_c. It prints nothing, stops at no input and
  * starts no thread. Each call answers with one of the numbers of `enum morph_status`, except morph_close. docs/EMBEDDING.md says how a
  * program is built with it; docs/FORMATS.md says what the files of a project say and what the lines of a reply are. The contract of
- * each call stands at its export in crates/morph_c/src, and is proved; that a caller keeps what is asked of it here isn't checked.
+ * each call stands at its export in crates/morph_c/src; that a caller keeps what is asked of it here isn't checked.
  *
  * What a caller keeps, in every call:
  * - A pointer isn't null, also where its length is 0, and points to as many bytes as its length says.

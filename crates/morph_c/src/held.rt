@@ -82,3 +82,13 @@ impl Opened {
         Ok(Opened { version, project })
     }
 }
+
+/// Takes what may go to another thread. It does nothing when it runs.
+fn may_cross<T: Send>(_held: &T) {}
+
+impl Held {
+    /// That what C holds may go to another thread: this is proved where it is called for a type that may. It does nothing when it runs.
+    pub fn crosses(&self) {
+        may_cross(self);
+    }
+}
