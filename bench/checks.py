@@ -10,6 +10,9 @@ import sys
 import tempfile
 
 ROOT = os.path.dirname(os.path.dirname(os.path.abspath(__file__)))
+sys.path.insert(0, os.path.join(ROOT, 'tools'))
+import hints  # noqa: E402
+
 PAGES = ('docs/CHECKING.md',)
 PROMPT = '    $ '
 
@@ -33,6 +36,10 @@ LINTS = [
     ('contexts', {'project': 'xfst r.xfst',
                   'r.xfst': 'define A a -> b || .#. _ , b .#. _ ;\ndefine B a => _ .#. , _ .#. a ;\ndefine C a -> b // _ [b & c] ,, c -> a \\/ b _ ;'},
      ['r.xfst 1 empty-context b .#. _', 'r.xfst 2 empty-context _ .#. a', 'r.xfst 3 empty-context _ [ b & c ]']),
+    ('contexts of directed rules', {'project': 'xfst r.xfst',
+                                    'r.xfst': 'define A a+ @-> b || .#. _ , b .#. _ ;\ndefine B [a @> b || _ c .#. c] .o. [a b >@ c ... || a _] ;'},
+     ['r.xfst 1 empty-context b .#. _', 'r.xfst 2 empty-context _ c .#. c']),
+    ('a directed rule and a symbol behind its arrow', {'project': 'xfst r.xfst', 'r.xfst': 'define A a ->@ %+Sg | %+Sg ;'}, []),
     ('a context in brackets', {'project': 'xfst r.xfst', 'r.xfst': 'define A [a -> b || a .#. _ .#.] .o. [c -> d || c _ ] ;'},
      ['r.xfst 1 empty-context a .#. _ .#.']),
     ('a context with names and a complement', {'project': 'xfst r.xfst', 'r.xfst': 'define V a | e ;\ndefine A b -> c || \\V _ ~$V .#. ;\ndefine B b -> c || V & b _ ;'},
@@ -43,6 +50,8 @@ LINTS = [
     ('a name that a lexicon uses', {'project': 'xfst r.xfst\nlexc L n.lexc\nrequire L', 'r.xfst': 'define A a ;', 'n.lexc': 'LEXICON Root\n<A> # ;'}, []),
     ('symbols of a lexicon', {'project': 'lexc L n.lexc', 'n.lexc': 'Multichar_Symbols +N +V @P.F.x@ <a> %{B%}\nLEXICON Root\na+N:b # ;\nb+Adj # ;\nc%+Adv # ;\nd<a><n>:d{A}{B} # ;\ne+f # ;\n'},
      ['n.lexc 1 unused-symbol +V', 'n.lexc 4 undeclared +Adj', 'n.lexc 5 undeclared +Adv', 'n.lexc 6 undeclared <n>', 'n.lexc 6 undeclared {A}']),
+    ('a tag that is longer than a symbol', {'project': 'lexc L n.lexc', 'n.lexc': 'Multichar_Symbols +N +Sg\nLEXICON Root\na+Num+Sg: # ;\nb+N+Sg%ä:b # ;\nc+N-d # ;\n'},
+     ['n.lexc 3 undeclared +Num']),
     ('a symbol that another file uses', {'project': 'lexc L n.lexc\nxfst r.xfst', 'n.lexc': 'Multichar_Symbols +N\nLEXICON Root\na # ;', 'r.xfst': 'define A "+N" ;'}, []),
     ('lexicons', {'project': 'lexc L n.lexc', 'n.lexc': 'LEXICON Root\na X ;\nb %# ;\n<c "!" {!}> # ;\nLEXICON X\nx X ;\nLEXICON Y\ny X ;\nLEXICON %#\nz # ;\nEND\nLEXICON Z ;'},
      ['n.lexc 5 no-end X', 'n.lexc 7 unreached Y']),
@@ -65,6 +74,65 @@ LINTS = [
      ['t.twolc 4 fails pairs T a:b a: unexpected fail 1 1 r', 't.twolc 5 fails pairs T a b: unexpected pass']),
     ('a test without a network', {'project': 'xfst r.xfst', 'r.xfst': 'define A a ;', 't.expect': 'a\ta\n'},
      ['t.expect 1 no-test a line "up NET" or "down NET" stands first']),
+]
+MANIFEST = 'xfst r.xfst\nlexc L n.lexc\ntwolc T t.twolc'
+# A file of that manifest, what stands in it from the refused line on, the reason, and the beginning of the hint, or nothing.
+HINTS = [
+    ('r.xfst', 'regex a b ;', 'statement', 'there is no stack'),
+    ('r.xfst', 'read lexc n.lexc', 'statement', 'write a line "lexc NAME FILE"'),
+    ('r.xfst', 'define Lexicon ;', 'statement', 'write its expression'),
+    ('r.xfst', 'source r.foma', 'token', 'write a line "xfst FILE"'),
+    ('r.xfst', 'save stack w.bin', 'token', 'leave it out: a run compiles'),
+    ('r.xfst', 'push N ;', 'statement', 'leave it out: a file has definitions alone'),
+    ('r.xfst', 'invert net', 'statement', 'leave it out: a file has definitions alone'),
+    ('r.xfst', 'print words', 'statement', 'leave it out: a file has definitions alone'),
+    ('r.xfst', 'define N @"w.bin" ;', 'token', 'write the name of a definition'),
+    ('r.xfst', 'Define N a ;', 'statement', 'write "define"'),
+    ('r.xfst', 'define My_Noun {cat} ;', 'statement', 'write the name without "_"'),
+    ('r.xfst', 'define Plural(X) X s ;', 'statement', 'write the definition once'),
+    ('r.xfst', 'define N a^{2,3} ;', 'statement', '"E^{m,n}"'),
+    ('r.xfst', 'define N a^>2 ;', 'token', '"E^>n"'),
+    ('r.xfst', 'define N A .P. B ;', 'token', 'priority union'),
+    ('r.xfst', 'define N a <- b ;', 'token', '"a <- b"'),
+    ('r.xfst', 'define N $.a ;', 'token', '"$.E"'),
+    ('r.xfst', 'define N a @-> b // x _ ;', 'statement', 'a directed rule has'),
+    ('r.xfst', 'define N\n  a @-> b ,, c @-> d ;', 'statement', 'a directed rule has'),
+    ('r.xfst', 'define N a (@->) b ;', 'statement', 'there is no directed arrow'),
+    ('r.xfst', 'define N +a:b ;', 'statement', 'write "+Tag" in quotes'),
+    ('r.xfst', 'define N a+:b ;', 'statement', 'write brackets'),
+    ('r.xfst', 'define N "\\n" ;', 'token', 'no symbol has a backslash'),
+    ('r.xfst', 'define N "@P.F.v@" a ;', 'token', 'leave flags out'),
+    ('r.xfst', 'define N a* -> b ;', 'empty-centre', 'a rule replaces no empty word'),
+    ('r.xfst', 'define N ~[a:b] ;', 'not-a-language', 'take a side'),
+    ('r.xfst', 'define A b ;', 'duplicate', 'a name is defined once'),
+    ('r.xfst', 'define N a ] ;', 'statement', ''),
+    ('r.xfst', 'define N a ;', 'limit-weight', ''),
+    ('n.lexc', 'cat # "a pet" ;', 'statement', 'leave the text behind the entry out'),
+    ('n.lexc', '+N Definitions\nV = [ a | e ] ;', 'statement', 'write definitions into an xfst file'),
+    ('n.lexc', 'V = [ a | e ] ;', 'statement', 'write definitions into an xfst file'),
+    ('n.lexc', '< a -> b > # ;', 'statement', 'define the rule in an xfst file'),
+    ('n.lexc', '< a @-> b > # ;', 'token', 'define the rule in an xfst file'),
+    ('n.lexc', 'Lexicon Root', 'statement', 'write "LEXICON"'),
+    ('n.lexc', '# nouns', 'statement', 'begin comments with "!"'),
+    ('n.lexc', 'cat # ! a pet\ndog # ;', 'statement', 'end the entry'),
+    ('n.lexc', 'a:b:c # ;', 'statement', 'write "%:"'),
+    ('n.lexc', 'ice cream # ;', 'statement', 'write "%" before a blank'),
+    ('n.lexc', 'cat ;', 'unknown-lexicon', 'each entry names the lexicon'),
+    ('t.twolc', 'Diacritics %^ ;', 'statement', 'leave it out, and write each of its symbols'),
+    ('t.twolc', '"r" a:X => c _ ;\n where X in ( b d ) ;\n"s" a:b => d _ ;', 'statement', 'write a rule for each value'),
+    ('t.twolc', '"r" [ a:b | c:d ] => _ a ;', 'statement', 'write a rule for each pair'),
+    ('t.twolc', 'a:b => c _ ;', 'statement', 'write the name of the rule'),
+    ('t.twolc', '"r" a:b => c _\n"s" [ a:b ] => d _ ;', 'statement', 'end each context'),
+    ('t.twolc', 'Rules\n"r" a:b => c _ ;', 'statement', 'write the alphabet first'),
+    ('t.twolc', 'End = c [ c | .#. ] ;', 'statement', 'write ".#." into the contexts'),
+    ('project', 'lexc n.lexc', 'statement', 'write a name before the file'),
+    ('project', '# my project', 'statement', 'begin comments with "!"'),
+    ('project', 'XFST r.xfst', 'statement', 'write the first word in small letters'),
+    ('project', 'xfst r.xfst ;', 'statement', 'leave the ";" out'),
+    ('project', 'xfst r.xfst s.xfst', 'statement', 'write a line for each file'),
+    ('project', 'xfst rules/r.xfst', 'statement', 'write a file of the folder itself'),
+    ('project', 'sources r.xfst', 'statement', 'a line begins with'),
+    ('project', 'require Noun', 'unknown-name', 'no definition'),
 ]
 # A name, the tests of a project whose names are A, for a and b below x, Loop, for any number of a, and Id, for what begins with a sign; and
 # what ./expect writes of them.
@@ -155,8 +223,16 @@ def try_project(name, files, words, wanted):
         wants(name, shell('%s/%s' % (ROOT, words.replace('DIR', folder))).split('\n')[:-1], wanted)
 
 
+def try_hint(file, text, reason, wanted):
+    said = hints.hint('refused %s 2 %s\n' % (file, reason), lambda name: '\n' + text if name == file else MANIFEST)
+    told = 'hint %s 2 ' % file
+    wants('hint: ' + text, [said[len(told):][:len(wanted)] if said.startswith(told) and wanted else said], [wanted])
+
+
 def main():
     pages = sum(try_page(page) for page in PAGES)
+    for it in HINTS:
+        try_hint(*it)
     for name, files, wanted in LINTS:
         try_project(name, files, './lint DIR', ['warning ' + it for it in wanted])
     for name, text, wanted in TESTS:
@@ -167,8 +243,8 @@ def main():
                 ['refused t.twolc 0 statement: no line "twolc NAME t.twolc" stands in project'])
     for name, text, wanted in DRAWN:
         try_project('draw: ' + name, {'t.att': text}, r"./draw DIR/t.att | sed -n 's/^  \(.*;\)$/\1/p; /^refused/p' | sed '/^rankdir/d; /^start/d'", wanted)
-    print('%d commands, %d projects, %d files of tests, %d of pairs, %d texts: %d failed'
-          % (pages, len(LINTS), len(TESTS), len(PAIRS) + 1, len(DRAWN), len(FAILED)))
+    print('%d commands, %d projects, %d hints, %d files of tests, %d of pairs, %d texts: %d failed'
+          % (pages, len(LINTS), len(HINTS), len(TESTS), len(PAIRS) + 1, len(DRAWN), len(FAILED)))
     return 1 if FAILED else 0
 
 

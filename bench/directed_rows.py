@@ -1,6 +1,6 @@
 #!/usr/bin/env python3
-"""Writes the rows of worked_rows below the heading HEADING, with what is wanted of them: a hundred small directed rules by chance, with the four arrows in
-turn, whose pairs are listed here by the definition; or compares a built program with as many as asked for, each with all four arrows and more contexts. The definition is taken word for word, on strings: a
+"""Writes the rows of worked_rows below the heading HEADING, with what is wanted of them: two hundred small sets of directed rules by chance, with all four
+arrows, whose pairs are listed here by the definition; or compares a built program with as many as asked for, each with all four arrows and more contexts. The definition is taken word for word, on strings: a
 match is a part of the word that is a centre where a context holds; every way to cut the word into copied symbols and replaced centres is tried, and one is kept
 where no symbol is copied at which a match begins, and no centre is replaced at which a longer one, or a shorter one, does (from the right: ends). No automaton is built here.
 
@@ -17,10 +17,13 @@ import tempfile
 from measure import ROOT
 from replacement_rows import Mapping, holds, is_centre, results, some_contexts, some_words
 
-SEED, RULES = 1996, 100
+SEED, RULES = 1996, 200
 HEADING = '# Directed rules by chance, whose pairs bench/directed_rows.py lists by the definition'
 WAYS = [('LeftLongest', '@->'), ('LeftShortest', '@>'), ('RightLongest', '->@'), ('RightShortest', '>@')]
-MOST_WORDS = 10
+NAMES = 'ABCD'
+MOST_WORDS = 6
+# what a row shows whole of a reply
+MOST_BYTES = 300
 
 
 def written(part):
@@ -113,22 +116,34 @@ def escaped(text):
     return text.replace('\\', '\\\\').replace('\n', '\\n')
 
 
+def told_by(rule, words):
+    """What `serve` says of the rule with each arrow at each of the words."""
+    told = 'ok 1 rebuilt %s\n' % ' '.join(NAMES)
+    return told + ''.join(reply(word, rule.lowers(word, way)) for word in words for way, _ in WAYS)
+
+
+def telling(rule):
+    """The first words that the four arrows tell apart, as many as a row shows what is said of."""
+    apart = [word for word in words_of(rule.symbols) if len({frozenset(rule.lowers(word, way)) for way, _ in WAYS}) > 1][:MOST_WORDS]
+    while apart and len(told_by(rule, apart)) > MOST_BYTES:
+        apart.pop()
+    return apart
+
+
 def rows():
     chosen = random.Random(SEED)
     for number in range(RULES):
-        way, arrow = WAYS[number % 4]
-        # words to which all arrows do the same show little
         words = []
         while not words:
             rule = some_rule(chosen, [0, 0, 1])
-            words = [word for word in words_of(rule.symbols) if len({frozenset(rule.lowers(word, other)) for other, _ in WAYS}) > 1][:MOST_WORDS]
-        manifest, source = project_of(rule, arrow)
-        yield 'row directed_rule_%d' % (number + 1)
+            words = telling(rule)
+        manifest, _ = project_of(rule, '@->')
+        yield 'row directed_rules_%d' % (number + 1)
         yield 'file project ' + escaped(manifest)
-        yield 'file r.xfst ' + escaped(source)
-        yield 'words down d N'
-        yield 'input ' + escaped(''.join(word + '\n' for word in words))
-        yield 'run 0 ' + escaped(''.join(reply(word, rule.lowers(word, way)) for word in words))
+        yield 'file r.xfst ' + escaped(''.join('define %s %s ;\n' % (name, rule.text(arrow)) for name, (_, arrow) in zip(NAMES, WAYS)))
+        yield 'words serve d'
+        yield 'input ' + escaped(''.join('down %s %s\n' % (name, word) for word in words for name in NAMES))
+        yield 'run 0 ' + escaped(told_by(rule, words))
         yield ''
 
 

@@ -1,5 +1,6 @@
 #!/usr/bin/env python3
-"""Writes 400 rows `again` with expressions of every form, from a fixed seed: the last rows of crates/reader_rows/stdin.
+"""Writes 400 rows `again` with expressions of every form, from a fixed seed: the last rows of
+crates/worked_rows/data/trials/definitions.
 
 usage: bench/expressions.py
 """

@@ -63,11 +63,11 @@ def peak_of(process):
         return 0
 
 
-def timed(command, source=None, statuses=(0,), most=None):
-    """The seconds and the peak memory, in bytes, of a command that reads the open file `source` and ends with one of the statuses.
+def timed(command, source=None, statuses=(0,), most=None, cwd=None):
+    """The seconds and the peak memory, in bytes, of a command, in this folder, that reads the open file `source` and ends with one of the statuses.
     One that takes more than `most` seconds is ended, and has infinitely many."""
     start = time.monotonic()
-    child = subprocess.Popen(command, stdin=source, stdout=subprocess.DEVNULL)
+    child = subprocess.Popen(command, stdin=source, stdout=subprocess.DEVNULL, cwd=cwd)
     memory = 0
     while child.poll() is None:
         memory = max(memory, peak_of(child.pid))

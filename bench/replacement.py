@@ -1,5 +1,5 @@
 #!/usr/bin/env python3
-"""Times rule sets of replacement whose size is that of many symbols, places or both, by the program network_trials, each with one look-up.
+"""Times rule sets of replacement whose size is that of many symbols, places or both, by the program worked_rows, each with one look-up.
 Prints the seconds and the peak memory of each. What takes more than SECONDS is ended and shown as `inf`.
 
 usage: bench/replacement.py
@@ -10,8 +10,8 @@ import tempfile
 
 from measure import ROOT, timed
 
-CRATE = os.path.join(ROOT, 'crates', 'network_trials')
-PROGRAM = os.path.join(CRATE, 'out', 'network_trials')
+CRATE = os.path.join(ROOT, 'crates', 'worked_rows')
+PROGRAM = os.path.join(CRATE, 'out', 'worked_rows')
 SECONDS = 300
 
 
@@ -37,10 +37,14 @@ def main():
     # a run builds the program again where a source is newer
     subprocess.run(['rt', 'run'], cwd=CRATE, stdin=subprocess.DEVNULL, stdout=subprocess.DEVNULL, check=True)
     for name, over, rules in rows():
-        with tempfile.TemporaryFile('w+') as row:
-            row.write('## replace\n%s ; %s ; down %s\n' % (' '.join(over), rules, ' '.join(over[:3])))
+        # worked_rows reads the rows of its trials in the folder that it runs in
+        with tempfile.TemporaryDirectory() as folder, tempfile.TemporaryFile('w+') as row:
+            os.mkdir(os.path.join(folder, 'trials'))
+            with open(os.path.join(folder, 'trials', 'networks'), 'w') as rows_of:
+                rows_of.write('## replace\n%s ; %s ; down %s\n' % (' '.join(over), rules, ' '.join(over[:3])))
+            row.write('trials networks\n')
             row.seek(0)
-            seconds, memory = timed([PROGRAM], row, most=SECONDS)
+            seconds, memory = timed([PROGRAM], row, most=SECONDS, cwd=folder)
         print('%-55s %7.2f s  %7.1f MiB' % (name, seconds, memory / 2 ** 20))
 
 

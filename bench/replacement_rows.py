@@ -1,10 +1,10 @@
 #!/usr/bin/env python3
-"""Writes the rows of network_trials below the heading `## replace`, and what is wanted of them: rows that were worked out by hand, and
+"""Writes the rows of crates/worked_rows/data/trials/networks below the heading `## replace`, and what is wanted of them: rows that were worked out by hand, and
 a hundred small rule sets whose pairs are listed here by the definition. The definition is taken word for word, on strings: every way to
 cut a word into copied symbols and replaced centres, of which those are kept whose contexts hold on the sides that are read and, unless
 rules are optional, that leave no centre; an insertion is a choice of a word for each place. No automaton is built here.
 
-usage: bench/replacement_rows.py        (writes that section of crates/network_trials/stdin and stdout)
+usage: bench/replacement_rows.py        (writes that section of data/trials/networks and of stdout in crates/worked_rows)
 """
 import itertools
 import os
@@ -218,7 +218,7 @@ def lines_of(symbols, groups, optional, inserts, most):
 def with_section(lines, heading, section):
     """The lines, in which those below the heading, up to the next one, are the section's."""
     start = lines.index(heading) + 1
-    end = next((at for at in range(start, len(lines)) if lines[at].startswith('## ')), len(lines))
+    end = next((at for at in range(start, len(lines)) if lines[at].startswith(('## ', 'trials '))), len(lines))
     return lines[:start] + section + lines[end:]
 
 
@@ -240,8 +240,8 @@ def main():
         lines = list(lines_of(symbols, groups, optional, inserts, most))
         rows.append(row)
         wanted += [row] + (lines or [''])
-    folder = os.path.join(ROOT, 'crates', 'network_trials')
-    for name, section in (('stdin', rows), ('stdout', wanted)):
+    folder = os.path.join(ROOT, 'crates', 'worked_rows')
+    for name, section in ((os.path.join('data', 'trials', 'networks'), rows), ('stdout', wanted)):
         path = os.path.join(folder, name)
         with open(path) as old:
             lines = old.read().splitlines()

@@ -10,8 +10,9 @@ import sys
 
 ROOT = os.path.dirname(os.path.dirname(os.path.abspath(__file__)))
 # The sections of docs/FORMATS.md that the page takes, and what they are called in it.
-SECTIONS = (('Words', 'DESCRIPTION'), ('Replies to a line of `up` or `down`', 'REPLIES OF UP, DOWN AND ATTUP'), ('Replies to a line of `pairs`', 'REPLIES OF PAIRS'),
-            ('What `equal` and `within` say', 'WHAT EQUAL AND WITHIN SAY'), ('AT&T text', 'AT&T TEXT'), ('What `att` writes', 'WHAT ATT WRITES'),
+SECTIONS = (('Words', 'DESCRIPTION'), ('Replies to a line of `up` or `down`', 'REPLIES OF UP, DOWN AND ATTUP'), ('Replies to a line of `gloss`', 'REPLIES OF GLOSS'),
+            ('Replies to a line of `pairs`', 'REPLIES OF PAIRS'), ('What `equal` and `within` say', 'WHAT EQUAL AND WITHIN SAY'),
+            ('Commands of an editor', 'COMMANDS OF SERVE'), ('Lanes', 'LANES OF SERVE'), ('AT&T text', 'AT&T TEXT'), ('What `att` writes', 'WHAT ATT WRITES'),
             ('What `attup` answers', 'WHAT ATTUP ANSWERS'), ('Statuses', 'EXIT STATUS'))
 FILES = (('DIR/project', 'The manifest of a project: which files it has.'),
          ('docs/FORMATS.md', 'Every form, reply, refusal and limit.'),
@@ -64,7 +65,7 @@ def body(lines):
             first, *others = cells(line)
             if not in_table:
                 heads = [first, *others]
-            others = ['status ' + it if head == 'status' else it for it, head in zip(others, heads[1:])]
+            others = ['status ' + it if head == 'status' else head + ': ' + it if len(heads) > 3 and it else it for it, head in zip(others, heads[1:])]
             if in_table and not set(first) <= set('-: '):
                 made += ['.TP', written(first) or '\\&', written('; '.join(filter(None, others))) or '\\&']
             in_table = True

@@ -1,10 +1,12 @@
 """What `./lint` warns of: docs/CHECKING.md lists the warnings, each with an example."""
 import collections
+import itertools
 import os
 import re
 import shutil
 import tempfile
 
+import hints
 import pair_tests
 import program
 import sources
@@ -101,15 +103,25 @@ def look_at_lexc(project, warnings):
 
 
 def look_at_forms(it, warnings):
-    """Texts in forms that look like a tag or a flag, and are cut into their characters."""
+    """Texts in forms that look like a tag or a flag, and are cut into their characters, or into a shorter symbol and characters."""
     told = set()
     for entry, _, form in it.forms():
         rest = ''.join(text if kind == 'letter' else '\n' for kind, text in form)
-        for kind, pattern in ('undeclared', TAG), ('no-flag', FLAG_LIKE):
-            for text in pattern.findall(rest):
-                if text not in told:
-                    warnings.add(it.file, entry.line, kind, text)
-                told.add(text)
+        found = [('undeclared', text) for text in [*TAG.findall(rest), *longer_tags(form)]] + [('no-flag', text) for text in FLAG_LIKE.findall(rest)]
+        for kind, text in found:
+            if text not in told:
+                warnings.add(it.file, entry.line, kind, text)
+            told.add(text)
+
+
+def longer_tags(form):
+    """Texts of a form that look like a tag and begin with a shorter symbol: `+Num`, where `+N` is declared."""
+    for at, (kind, text) in enumerate(form):
+        if kind == 'symbol' and TAG.fullmatch(text) and text[0] == '+':
+            behind = itertools.takewhile(lambda it: it[0] == 'letter' and re.fullmatch('[A-Za-z0-9]', it[1]), form[at + 1:])
+            letters = ''.join(it[1] for it in behind)
+            if letters:
+                yield text + letters
 
 
 def look_at_paths(it, warnings):
@@ -307,7 +319,7 @@ def project(folder):
     files = tests_of(folder) if os.path.isdir(folder) else []
     status, said = program.answers(folder, [line for _, words, _ in files for line in tests.lines_of(words)])
     if status:
-        return status, said
+        return status, said + hints.of_folder(folder, said)
     read, warnings = sources.Project(folder), Warnings()
     look_at_names(read, files, warnings)
     for look in (look_at_lexc, look_at_xfst, look_at_twolc, look_at_contexts):

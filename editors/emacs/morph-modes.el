@@ -86,7 +86,7 @@
   (add-to-list 'auto-mode-alist it))
 
 (add-to-list 'compilation-error-regexp-alist-alist
-             '(morph "^\\(?:refused\\|\\(warning\\)\\) \\([^ \n]+\\) \\([0-9]+\\) " 2 3 nil (1)))
+             '(morph "^\\(?:refused\\|\\(warning\\)\\|\\(hint\\)\\) \\([^ \n]+\\) \\([0-9]+\\) " 3 4 nil (1 . 2)))
 (add-to-list 'compilation-error-regexp-alist 'morph)
 
 (defun morph-lint ()

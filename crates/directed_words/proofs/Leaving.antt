@@ -13,14 +13,14 @@ use Rattle.expr_meaning.specs.Directed.{Bars, BeginsAt, EndsAt, StandsAt, IsDire
 use Rattle.directed_words.specs.Comparisons.{DirectedLeaveOthers, DirectedAreRewritings}
 use Rattle.directed_words.proofs.Splits.{nil_split}
 
-abbrev Pieces : Type 0
+abbrev pub Pieces : Type 0
 Pieces = List (Piece Sym)
 
-abbrev copies : List Sym → Pieces
+abbrev pub copies : List Sym → Pieces
 copies u = map copied u
 
 -- the upper side of pieces, in parts
-uppers_parts : (ps before : Pieces) (p : Piece Sym) (behind : Pieces) → ps ≡ before ++ p ∷ behind → uppers ps ≡ uppers before ++ (upper p ++ uppers behind)
+pub uppers_parts : (ps before : Pieces) (p : Piece Sym) (behind : Pieces) → ps ≡ before ++ p ∷ behind → uppers ps ≡ uppers before ++ (upper p ++ uppers behind)
 uppers_parts ps before p behind is = ap uppers is ∙ flat_map-append upper before (p ∷ behind)
 
 uppers_copies : (u : List Sym) → uppers (copies u) ≡ u

@@ -7,3 +7,5 @@ mod Barred
 pub mod Directions
 pub mod Turned
 pub mod Leaving
+pub mod Firsts
+pub mod Overlap

@@ -1,5 +1,5 @@
--- What directed rules rewrite, by words of marks; and rules from the right, by rules from the left.
-use Rattle.std.specs.Prelude.{◌≡◌, ◌↔◌, List, [], ◌∷◌, ◌++◌, Contains, reverse}
+-- What directed rules rewrite, by words of marks; these by the firsts of symbols; and rules from the right, by rules from the left.
+use Rattle.std.specs.Prelude.{◌≡◌, ◌↔◌, List, [], ◌∷◌, ◌++◌, map, All, Contains, reverse}
 use Rattle.std.specs.List.{filter_map}
 use Rattle.fsm_base.specs.declared.letters.Bound.{Bound}
 use Rattle.fsm_base.specs.declared.letters.Bound.TheVariants.{Edge}
@@ -9,6 +9,7 @@ use Rattle.expr_meaning.specs.Replacement.{Piece, uppers}
 use Rattle.replace_words.specs.declared.marks.Mark.{Mark}
 use Rattle.replace_words.specs.Places.{Rules, HasNoEmptyCentre, ReplacesAt}
 use Rattle.replace_words.specs.Marked.{upper_of, lower_of, symbol_of}
+use Rattle.replace_words.specs.Firsts.{first_mark, HasSymbolIn, ActsByFirsts}
 use Rattle.directed_words.specs.declared.ways.Length.{Length}
 use Rattle.directed_words.specs.declared.ways.Length.TheVariants.{Longest, Shortest}
 use Rattle.regex_ast.specs.declared.expr.Way.{Way}
@@ -38,6 +39,13 @@ DirectedAreMarkedWords =
     (P : Type 0) (of : Rules P) (places : List P) (symbols : List Sym) (length : Length) (u w : List Sym)
     → ((p : P) → Contains places p → HasNoEmptyCentre of p)
     → IsDirectedBy (MatchesAt of places) symbols (ReplacesAt of places) (from_left length) u w ↔ IsMarkedFromLeftBy of places symbols length u w
+
+-- where places act by the firsts of symbols, a word of marks keeps a directed rule just where the word of the firsts does
+abbrev pub DirectedMarkedWordsGoByFirsts : Type 1
+DirectedMarkedWordsGoByFirsts =
+    (P : Type 0) (of : Rules P) (places : List P) (symbols firsts : List Sym) (first : Sym → Sym) (length : Length) (z : List (Bound Mark))
+    → ((p : P) → Contains places p → ActsByFirsts of symbols first p) → ((s : Sym) → Contains symbols s → Contains firsts (first s)) → All (HasSymbolIn symbols) z
+    → IsMarkedFromLeft of symbols places length z ↔ IsMarkedFromLeft of firsts places length (map (first_mark first) z)
 
 -- what is a match, and what replaces it, is the same where all words are turned round
 abbrev pub AreTurned : (List Sym → List Sym → List Sym → Type 0) → (List Sym → List Sym → List Sym → Type 0) → Type 0

@@ -1,5 +1,5 @@
 //! What another Rust program calls: automata and transducers by themselves, or the look-ups of a project of sources. This crate only
-//! hands on; each call's contract says what it gives, and stands in the crate that it comes from. The program library_example shows
+//! hands on; each call's contract says what it gives, and stands in the crate that it comes from. The crate library_example shows
 //! both uses.
 //!
 //! - [`automata`]: automata over letters of any kind (`fsa::Fsa`), complete ones (`Dfa`), and languages over a list of letters

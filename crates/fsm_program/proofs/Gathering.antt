@@ -39,6 +39,11 @@ added_seen name most old new files is added =
     added name ∙ ap (λ (b : Bool). cond b (option_map (take most) (file_of name files)) (file_of name old)) (same_bytes name)
     ∙ ap (λ n. option_map (take n) (file_of name files)) is
 
+-- another name than the one that was added is as it was, here where nothing was there
+added_alone : (name other : List ℕ) (most : ℕ) (new files : Files) → (name ≡ other → ⊥) → HasAdded name most [] new files → file_of other new ≡ None
+added_alone name other most new files differ added =
+    added other ∙ ap (λ (b : Bool). cond b (option_map (take most) (file_of name files)) (file_of other [])) (apart name other differ)
+
 -- a request for a file, as far as files are read
 abbrev whole : List ℕ → Asked
 whole name = record { name = name; most = most_read }
@@ -171,7 +176,11 @@ module _ (most : ℕ) (is_most : most ≡ most_read) (files : Option Files) (bet
   pub gathered_alone : ((lines : List Placed) → SourcesDeclare between lines → ⊥) → Told files (IsGathered between)
   gathered_alone none =
       told_so (HasAdded project_name most [] between) (IsGathered between) files
-      (λ fs added. record { manifest = added_seen project_name most [] between fs is_most added; named = λ lines declared. absurd (none lines declared) }) told
+      (λ fs added. record {
+        manifest = added_seen project_name most [] between fs is_most added;
+        named = λ lines declared. absurd (none lines declared);
+        only = λ other differ free. added_alone project_name other most between fs differ added;
+      }) told
 
   -- the files that it names were read
   module _ (lines : List Placed) (declared : SourcesDeclare between lines) (formed : IsManifest lines) where
@@ -185,6 +194,7 @@ module _ (most : ℕ) (is_most : most ≡ most_read) (files : Option Files) (bet
         (λ fs added all. record {
           manifest = stays ∙ added_seen project_name most [] between fs is_most added;
           named = λ more also. subst (λ (z : List Placed). All (IsSeen sources fs) (files_in z)) (same_lines sources lines more still also) all;
+          only = λ other differ free. others other (free lines still) ∙ added_alone project_name other most between fs differ added;
         }) told seen
       where
         stays : file_of project_name sources ≡ file_of project_name between

@@ -1,5 +1,5 @@
 -- The files of a folder that are read for its project.
-use Rattle.std.specs.Prelude.{◌≡◌, ℕ, List, All, Some, cond, take}
+use Rattle.std.specs.Prelude.{◌≡◌, ℕ, List, All, Contains, None, Some, cond, take}
 use Rattle.std.specs.Option.{option_map}
 use Rattle.std.specs.Str.{bytes_eq}
 use Rattle.fsm_io.specs.Folders.{Files, file_of}
@@ -20,7 +20,8 @@ IsSeen sources files name = file_of name sources ≡ option_map (take most_read)
 abbrev pub SourcesDeclare : Files → List Placed → Type 0
 SourcesDeclare sources lines = (content : List ℕ) × (file_of project_name sources ≡ Some content) × IsManifestFile content lines
 
--- the sources have the manifest of the files, and the files that it names
+-- the sources have the manifest of the files, and the files that it names, and nothing else
 pub record IsGathered (sources files : Files) : Type 0 where
   pub manifest : IsSeen sources files project_name
   pub named : (lines : List Placed) → SourcesDeclare sources lines → All (IsSeen sources files) (files_in lines)
+  pub only : (other : List ℕ) → (project_name ≡ other → ⊥) → ((lines : List Placed) → SourcesDeclare sources lines → Contains (files_in lines) other → ⊥) → file_of other sources ≡ None

@@ -6,4 +6,5 @@ mod CentreWords
 mod Kept
 mod TurnedRules
 mod Relations
+mod ByFirsts
 mod LawProofs

@@ -83,15 +83,28 @@ module _ (symbols : List Sym) (maps : List LangMap) (contexts : List LangContext
     λ k p at. let h = kept k p at in (h.1, others_there size p w h.2),
   )
 
-  marked_back : (size : Length) (w : List (Bound Mark)) → IsMarkedFromLeft (directing maps) symbols contexts size w → AreBlocksOf symbols maps (length contexts) w × AreKept size w
+  pub marked_back : (size : Length) (w : List (Bound Mark)) → IsMarkedFromLeft (directing maps) symbols contexts size w → AreBlocksOf symbols maps (length contexts) w × AreKept size w
   marked_back size w (((vs, e, all), kept), barred) = (
     (vs, e, All-weaker (IsBlock (directing maps) symbols contexts) (IsBlockOf symbols maps (length contexts)) block_back vs all),
     λ k p at. let h = kept k p at in let b = barred k p at in ((h.left, h.right), b.0, others_back size p w b.1),
   )
 
+  -- the words that keep what the rule asks, where all marks are those of some symbols
+  pub marked_language : (marks : List (Bound Mark)) (size : Length) (well : Automaton (Bound Mark)) (words : Complete (Bound Mark)) → ((x : Bound Mark) → Contains marks x ↔ IsMarkOf symbols (length contexts) x)
+      → ((w : List (Bound Mark)) → language.Accepts well w ↔ AreBlocksOf symbols maps (length contexts) w) → IsLang marks (λ w. (IsOver marks w × language.Accepts well w) × AreKept size w) words
+      → (w : List (Bound Mark)) → Accepts words w ↔ (All (IsMarkOf symbols (length contexts)) w × IsMarkedFromLeft (directing maps) symbols contexts size w)
+  marked_language marks size well words marks_are well_is words_are w = (
+    λ h.
+        let r = (words_are.words w).0 h in
+        (All-weaker (Contains marks) (IsMarkOf symbols (length contexts)) (λ x. (marks_are x).0) w r.0.0, marked_there size w ((well_is w).0 r.0.1) r.1),
+    λ (all, marked).
+        let (blocks, kept) = marked_back size w marked in
+        (words_are.words w).1 ((All-weaker (IsMarkOf symbols (length contexts)) (Contains marks) (λ x. (marks_are x).1) w all, (well_is w).1 blocks), kept),
+  )
+
   module _ (over : AreOver symbols maps) where
     -- the mappings replace no empty word
-    no_empty : (p : LangContext) → Contains contexts p → HasNoEmptyCentre (directing maps) p
+    pub no_empty : (p : LangContext) → Contains contexts p → HasNoEmptyCentre (directing maps) p
     no_empty p among = record {
       centre = λ h. (over h.0 h.1).no_empty h.2;
       replaces = λ result h. (over h.0 h.1).no_empty h.3;
@@ -124,23 +137,8 @@ module _ (symbols : List Sym) (maps : List LangMap) (contexts : List LangContext
     blocks_over (v ∷ vs) h =
         All-append Of v (flat_map (λ v. v) vs) (block_over v (All-head (IsBlockOf symbols maps (length contexts)) v vs h)) (blocks_over vs (All-tail (IsBlockOf symbols maps (length contexts)) v vs h))
 
-    well_over : (w : List (Bound Mark)) → AreBlocksOf symbols maps (length contexts) w → All Of w
+    pub well_over : (w : List (Bound Mark)) → AreBlocksOf symbols maps (length contexts) w → All Of w
     well_over w (vs, e, all) = subst (All Of) (sym e) (All-cons Of Edge (flat_map (λ v. v) vs ++ Edge ∷ []) tt (All-append Of (flat_map (λ v. v) vs) (Edge ∷ []) (blocks_over vs all) (All-cons Of Edge [] tt (All-nil Of))))
-
-    -- the words that keep what the rule asks relate what it does
-    pub directed_relation : (marks : List (Bound Mark)) (size : Length) (well : Automaton (Bound Mark)) (words : Complete (Bound Mark)) → ((x : Bound Mark) → Contains marks x ↔ Of x) → ((w : List (Bound Mark)) → language.Accepts well w ↔ AreBlocksOf symbols maps (length contexts) w)
-        → IsLang marks (λ w. (IsOver marks w × language.Accepts well w) × AreKept size w) words
-        → (u w : List Sym) → ((z : List (Bound Mark)) × Accepts words z × (filter_map (symbol_of upper_of) z ≡ u) × (filter_map (symbol_of lower_of) z ≡ w)) ↔ IsDirectedBy (MatchesAt (directing maps) contexts) symbols (ReplacesAt (directing maps) contexts) (from_left size) u w
-    directed_relation marks size well words marks_are well_is words_are u w = (
-      λ (z, h, up, low).
-          let r = (words_are.words z).0 h in
-          (directed_are_marked LangContext (directing maps) contexts symbols size u w no_empty).1 (z, marked_there size z ((well_is z).0 r.0.1) r.1, up, low),
-      λ h.
-          let (z, marked, up, low) = (directed_are_marked LangContext (directing maps) contexts symbols size u w no_empty).0 h in
-          let (blocks, kept) = marked_back size z marked in
-          let all : IsOver marks z = All-weaker Of (Contains marks) (λ x. (marks_are x).1) z (well_over z blocks) in
-          (z, (words_are.words z).1 ((all, (well_is z).1 blocks), kept), up, low),
-    )
 
 -- what places make is what mappings do
 makes_there : (maps : List LangMap) (p : LangContext) (c put : List Sym) → HasMapping maps c put → Makes (directing maps) p c put

@@ -1,4 +1,5 @@
 pub mod Directed
 pub mod Marked
 pub mod Turned
+pub mod Alike
 pub mod Laws

@@ -81,7 +81,7 @@ like_from P R g like (x ∷ w) u h =
     let e' : (u ++ g x ∷ []) ++ map g w ≡ u ++ g x ∷ map g w = append_assoc u (g x ∷ []) (map g w) in
     (λ p. subst P e' (rest.0 (subst P (sym e) (one.0 p))), λ p. one.1 (subst P e (rest.1 (subst P (sym e') p))))
 
-like_words : {L : Type 0} (P : List L → Type 0) (R : L → Type 0) (g : L → L) → ((x : L) → R x → IsLike P x (g x)) → (w : List L) → All R w → P w ↔ P (map g w)
+pub like_words : {L : Type 0} (P : List L → Type 0) (R : L → Type 0) (g : L → L) → ((x : L) → R x → IsLike P x (g x)) → (w : List L) → All R w → P w ↔ P (map g w)
 like_words P R g like w h = like_from P R g like w [] h
 
 all_front : {X : Type 0} (Q : X → Type 0) (x y : List X) → All Q (x ++ y) → All Q x
@@ -93,7 +93,7 @@ all_back Q [] y h = h
 all_back Q (a ∷ x) y h = all_back Q x y (All-tail Q a (x ++ y) h)
 
 -- ends and beginnings
-like_suffix : {L : Type 0} (P : List L → Type 0) (R : L → Type 0) (g : L → L) → ((x : L) → R x → IsLike P x (g x)) → (w : List L) → All R w → HasSuffix P w ↔ HasSuffix P (map g w)
+pub like_suffix : {L : Type 0} (P : List L → Type 0) (R : L → Type 0) (g : L → L) → ((x : L) → R x → IsLike P x (g x)) → (w : List L) → All R w → HasSuffix P w ↔ HasSuffix P (map g w)
 like_suffix P R g like w h = (
   λ (front, back, is, p). (map g front, map g back, ap (map g) is ∙ map-append g front back, (like_words P R g like back (all_back R front back (subst (All R) is h))).0 p),
   λ (front, back, is, p).
@@ -101,7 +101,7 @@ like_suffix P R g like w h = (
       (u, v, e, (like_words P R g like v (all_back R u v (subst (All R) e h))).1 (subst P (sym vb) p)),
 )
 
-like_prefix : {L : Type 0} (P : List L → Type 0) (R : L → Type 0) (g : L → L) → ((x : L) → R x → IsLike P x (g x)) → (w : List L) → All R w → HasPrefix P w ↔ HasPrefix P (map g w)
+pub like_prefix : {L : Type 0} (P : List L → Type 0) (R : L → Type 0) (g : L → L) → ((x : L) → R x → IsLike P x (g x)) → (w : List L) → All R w → HasPrefix P w ↔ HasPrefix P (map g w)
 like_prefix P R g like w h = (
   λ (front, back, is, p). (map g front, map g back, ap (map g) is ∙ map-append g front back, (like_words P R g like front (all_front R front back (subst (All R) is h))).0 p),
   λ (front, back, is, p).
@@ -171,7 +171,7 @@ module _ (symbols : List Sym) (first : Sym → Sym) (groups : List LangGroup) (l
       subst (ActsByFirsts rules_by symbols first) t.2 (place_acts r.0 r.1 t.0 t.1)
 
 -- marks of symbols have symbols among these, and the marks of their firsts are marks of the firsts
-has_symbol : (symbols : List Sym) (n : ℕ) (m : Bound Mark) → IsMarkOf symbols n m → HasSymbolIn symbols m
+pub has_symbol : (symbols : List Sym) (n : ℕ) (m : Bound Mark) → IsMarkOf symbols n m → HasSymbolIn symbols m
 has_symbol symbols n Edge h = tt
 has_symbol symbols n (Inner (Copy s)) h = h
 has_symbol symbols n (Inner (Up s)) h = h
@@ -180,7 +180,7 @@ has_symbol symbols n (Inner (Same s)) h = h
 has_symbol symbols n (Inner (Open k)) h = tt
 has_symbol symbols n (Inner (Close k)) h = tt
 
-first_of : (symbols once : List Sym) (first : Sym → Sym) → ((s : Sym) → Contains symbols s → Contains once (first s)) → (n : ℕ) (m : Bound Mark) → IsMarkOf symbols n m → IsMarkOf once n (first_mark first m)
+pub first_of : (symbols once : List Sym) (first : Sym → Sym) → ((s : Sym) → Contains symbols s → Contains once (first s)) → (n : ℕ) (m : Bound Mark) → IsMarkOf symbols n m → IsMarkOf once n (first_mark first m)
 first_of symbols once first are n Edge h = tt
 first_of symbols once first are n (Inner (Copy s)) h = are s h
 first_of symbols once first are n (Inner (Up s)) h = are s h

@@ -6,6 +6,6 @@ mod Listing
 mod Tables
 pub mod Sets
 mod Paired
-mod Told
-mod ByFirsts
+pub mod Told
+pub mod ByFirsts
 mod MarkRows

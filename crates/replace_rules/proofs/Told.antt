@@ -201,18 +201,24 @@ module _ {X Y : Type 0} (R : X → Y → Type 0) where
     subst (λ zs. Placewise xs zs) (sym ys_are) (subst (λ zs. Placewise zs (back ++ y ∷ [])) (sym xs_are) (placewise_more front back x y (sym before.0) before.1 here)),
   )
 
--- the mappings and the contexts of a group
-pub group_divided : (syms : List Sym) (bounds : List (Bound Sym)) (numbers : List ℕ) (g : LangGroup) → bounds ≡ map Inner syms → IsDivided syms numbers (EachOf MapIsLike g.maps.items) → IsDivided bounds numbers (EachOf ContextIsLike g.contexts.items) → IsDivided syms numbers (GroupIsLike g)
-group_divided syms bounds numbers g are by_maps by_contexts = record {
-  count = by_maps.count;
-  alike = λ j k n s t at_j at_k s_is t_is. record {
-    maps = by_maps.alike j k n s t at_j at_k s_is t_is;
-    contexts = by_contexts.alike j k n (Inner s) (Inner t) at_j at_k (as_bound j s s_is) (as_bound k t t_is);
-  };
+-- symbols of which what they are inside of words is told apart
+pub inside_divided : (syms : List Sym) (bounds : List (Bound Sym)) (numbers : List ℕ) (Q : Bound Sym → Bound Sym → Type 0) → bounds ≡ map Inner syms → IsDivided bounds numbers Q → IsDivided syms numbers (λ s t. Q (Inner s) (Inner t))
+inside_divided syms bounds numbers Q are divided = record {
+  count = divided.count ∙ ap length are ∙ length-map syms Inner;
+  alike = λ j k n s t at_j at_k s_is t_is. divided.alike j k n (Inner s) (Inner t) at_j at_k (as_bound j s s_is) (as_bound k t t_is);
 }
   where
     as_bound : (j : ℕ) (s : Sym) → slice_get syms j ≡ Some s → slice_get bounds j ≡ Some (Inner s)
     as_bound j s is = ap (λ bs. slice_get bs j) are ∙ slice_get-map Inner syms j ∙ ap (option_map Inner) is
+
+-- the mappings and the contexts of a group
+pub group_divided : (syms : List Sym) (bounds : List (Bound Sym)) (numbers : List ℕ) (g : LangGroup) → bounds ≡ map Inner syms → IsDivided syms numbers (EachOf MapIsLike g.maps.items) → IsDivided bounds numbers (EachOf ContextIsLike g.contexts.items) → IsDivided syms numbers (GroupIsLike g)
+group_divided syms bounds numbers g are by_maps by_contexts =
+    let inside = inside_divided syms bounds numbers (EachOf ContextIsLike g.contexts.items) are by_contexts in
+    record {
+      count = by_maps.count;
+      alike = λ j k n s t at_j at_k s_is t_is. record { maps = by_maps.alike j k n s t at_j at_k s_is t_is; contexts = inside.alike j k n s t at_j at_k s_is t_is };
+    }
 
 pub map_divided : (syms : List Sym) (m : LangMap) (first second last : List ℕ) → IsFiner first second → IsFiner second last → IsDivided syms first (IsLike (Accepts m.centre)) → IsDivided syms second (IsLike (Accepts m.result))
     → length last ≡ length syms → ((d : Complete Sym) → m.after ≡ Some d → IsDivided syms last (IsLike (Accepts d))) → IsDivided syms last (MapIsLike m)
@@ -236,19 +242,26 @@ context_divided bounds c first last finer left right = record {
       record { left = left.alike j k a.0 x y a.1 a.2 x_is y_is; right = right.alike j k n x y at_j at_k x_is y_is };
 }
 
-pub are_firsts : (syms : List Sym) (groups : List LangGroup) (numbers of_places class_firsts : List ℕ) (firsts : List Sym) → IsDivided syms numbers (EachOf GroupIsLike groups) → AreAlike (AreBothAlike numbers numbers) (length numbers) of_places class_firsts
-    → AreFirstsIn syms class_firsts of_places firsts → AreFirsts syms groups firsts
-are_firsts syms groups numbers of_places class_firsts firsts divided are found = record {
-  count = found.count ∙ are.count ∙ divided.count;
-  each = λ j s f s_is f_is.
+-- each symbol's class has a first symbol, which isn't told apart from it
+pub firsts_divided : (syms : List Sym) (Q : Sym → Sym → Type 0) (numbers of_places class_firsts : List ℕ) (firsts : List Sym) → IsDivided syms numbers Q → AreAlike (AreBothAlike numbers numbers) (length numbers) of_places class_firsts → AreFirstsIn syms class_firsts of_places firsts
+    → (length firsts ≡ length syms) × ((j : ℕ) (s f : Sym) → slice_get syms j ≡ Some s → slice_get firsts j ≡ Some f → Contains syms f × Q s f)
+firsts_divided syms Q numbers of_places class_firsts firsts divided are found = (
+  found.count ∙ are.count ∙ divided.count,
+  λ j s f s_is f_is.
       let c = at_place of_places firsts found.count j f f_is in
       let (k, first_is, at_k) = found.each j c.0 f c.1 f_is in
       let r = are.first j c.0 c.1 in
       let e : r.0 ≡ k = same_at class_firsts c.0 r.0 k r.1 first_is in
       let n = at_place numbers syms (sym divided.count) j s s_is in
       let same : slice_get numbers k ≡ Some n.0 = sym (r.2.0 ∙ ap (slice_get numbers) e) ∙ n.1 in
-      (Contains-from_slice_get syms k f at_k, divided.alike j k n.0 s f n.1 same s_is at_k);
-}
+      (Contains-from_slice_get syms k f at_k, divided.alike j k n.0 s f n.1 same s_is at_k),
+)
+
+pub are_firsts : (syms : List Sym) (groups : List LangGroup) (numbers of_places class_firsts : List ℕ) (firsts : List Sym) → IsDivided syms numbers (EachOf GroupIsLike groups) → AreAlike (AreBothAlike numbers numbers) (length numbers) of_places class_firsts
+    → AreFirstsIn syms class_firsts of_places firsts → AreFirsts syms groups firsts
+are_firsts syms groups numbers of_places class_firsts firsts divided are found =
+    let r = firsts_divided syms (EachOf GroupIsLike groups) numbers of_places class_firsts firsts divided are found in
+    record { count = r.0; each = r.1 }
 
 -- a list to which each symbol of another is added once
 pub once_there : (xs : List Sym) (x s : Sym) (k : ℕ) → slice_get xs k ≡ Some x → Contains xs s ↔ (Contains xs s ⊎ (x ≡ s))

@@ -27,7 +27,7 @@ pub fn firsts_of(alloc: Global, syms: &[Sym], groups: &[LangGroup]) -> Result<Ve
 }
 
 /// For each place the first symbol of its class, where the places of the first symbols are given.
-fn firsts_in(
+pub fn firsts_in(
     alloc: Global,
     syms: &[Sym],
     of_places: &[usize],
@@ -94,7 +94,7 @@ fn numbered(alloc: Global, syms: &[Sym], groups: &[LangGroup]) -> Result<Vec<usi
 }
 
 /// Each symbol as one inside the word.
-fn inside(alloc: Global, syms: &[Sym]) -> Result<Vec<Bound<Sym>>, AllocError>
+pub fn inside(alloc: Global, syms: &[Sym]) -> Result<Vec<Bound<Sym>>, AllocError>
     ensures { IfOk result (λ bounds. bounds.items ≡ map Inner syms.now) }
 {
     let mut bounds = Vec::new(alloc);
@@ -105,7 +105,7 @@ fn inside(alloc: Global, syms: &[Sym]) -> Result<Vec<Bound<Sym>>, AllocError>
 }
 
 /// New numbers, which tell apart what the mappings and contexts of a group do, too.
-fn told_by_group(
+pub fn told_by_group(
     alloc: Global,
     syms: &[Sym],
     bounds: &[Bound<Sym>],

@@ -10,13 +10,19 @@
 //! - [`LangMap`], [`LangContext`], [`LangGroup`], [`Side`]: rules.
 //! - [`replace`]: the network of groups of rules.
 //!
-//! Languages of words of marks, of which replace_insertions is built, too:
+//! Languages of words of marks, of which replace_insertions and replace_directed are built, too:
 //!
 //! - [`every_mark`]: all marks of some symbols and so many places, and the edge of the word.
 //! - [`over`]: a language over these letters. [`any`]: all words. [`in_marks`]: the words of a language, each symbol in one mark.
 //! - [`left_words`], [`right_words`]: the words before which, or behind which, a context holds.
 //! - [`kept_between`]: the words that keep what rules ask of a place.
 //! - [`network_of`]: the network of the two sides of the words.
+//!
+//! Symbols that are one, of which replace_directed is built, too:
+//!
+//! - [`told_by_group`]: numbers of symbols, which tell apart what mappings and contexts do. [`inside`]: symbols as contexts see them.
+//! - [`firsts_in`]: the first symbol of each symbol's class. [`each_once`]: symbols without repetition.
+//! - [`network_by_firsts`]: the network of the words of marks of which the words of the firsts are given.
 #![tactic(auto)]
 
 mod alike;
@@ -32,10 +38,11 @@ mod replacing;
 mod rows;
 mod rules;
 
+pub use alike::{each_once, firsts_in, inside, told_by_group};
 pub use constraints::kept_between;
 pub use contexts::{left_words, right_words};
 pub use langs::{Written, any, in_marks, over};
 pub use letters::every_mark;
-pub use network::network_of;
+pub use network::{network_by_firsts, network_of};
 pub use replacing::replace;
 pub use rules::{LangContext, LangGroup, LangMap, Side};

@@ -2,10 +2,11 @@
 //!
 //! - [`undone`]: the bytes that a text with escapes stands for.
 //! - [`shown`]: bytes with escapes, cut off where there are many.
+//! - [`add_row`], [`add_line`]: what is told of rows, line by line.
 #![tactic(auto)]
 
 mod escapes;
 mod showing;
 
 pub use escapes::undone;
-pub use showing::shown;
+pub use showing::{add_line, add_row, shown};

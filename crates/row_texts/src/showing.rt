@@ -42,3 +42,15 @@ pub fn shown(alloc: Global, bytes: &[u8]) -> Result<String, AllocError> {
     }
     Ok(shown)
 }
+
+/// Adds a row, and what came of it in the lines below.
+pub fn add_row(told: &mut String, row: &str, outcome: &str) -> Result<(), AllocError> {
+    add_line(told, row)?;
+    add_line(told, outcome)
+}
+
+/// Adds a line, with its newline.
+pub fn add_line(told: &mut String, line: &str) -> Result<(), AllocError> {
+    told.push_str(line)?;
+    told.push('\n')
+}

@@ -20,7 +20,7 @@ fn words_in(alloc: Global, command: &str) -> Result<Vec<String>, AllocError> {
 }
 
 /// The bytes of a file; none where it can't be read.
-fn content_of(rt: &HostRuntime, path: &str) -> io::Result<Vec<u8>> {
+pub fn content_of(rt: &HostRuntime, path: &str) -> io::Result<Vec<u8>> {
     let alloc = rt.alloc();
     let (folder, name) = path.rsplit_once('/').unwrap_or((".", path));
     let mut folder = DirFolder::new(rt, Text::of(alloc, folder)?);

@@ -15,11 +15,15 @@
 //! document has it. A command is an indented line that begins with `$`; the indented lines below it, up to the next command, are its answer. Commands are
 //! `./morph WORD ..` or `./try WORD ..`, behind `printf 'TEXT' |` or alone, and `cat FILE`. Those with lanes aren't run.
 //!
+//! `trials NAME` makes the calls of the crates that are tried on rows of their own, by the library of this name (`groups`): its rows stand in the file
+//! trials/NAME, where the program runs.
+//!
 //! `waits TRIAL` serves lanes whose sources and sinks wait for what others do (`trials`), and prints what came of it.
 #![tactic(auto)]
 
 mod commands;
 mod documents;
+mod groups;
 mod lane;
 mod numbers;
 mod row;
@@ -30,6 +34,7 @@ mod trials;
 
 use crate::commands::answer_to;
 use crate::documents::{Shown, shown_in};
+use crate::groups::said_of_trials;
 use crate::lane::RowLane;
 use crate::row::Row;
 use crate::trials::waited;
@@ -168,6 +173,8 @@ fn main(rt: HostRuntime) -> io::Result<()> {
     'lines: for line in text.as_str().lines() {
         if let Some(document) = line.strip_prefix("document ") {
             tell_document(&rt, &rt, document)?;
+        } else if let Some(name) = line.strip_prefix("trials ") {
+            print!(rt; "{line}\n{}", said_of_trials(&rt, &rt, name)?.as_str())?;
         } else if let Some(trial) = line.strip_prefix("waits ") {
             println!(rt; "{trial}: {}", waited(&rt, alloc, trial)?.as_str())?;
         } else if let Some(told) = obey(&rt, alloc, &mut count, &mut row, line)? {

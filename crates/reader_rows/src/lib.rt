@@ -1,11 +1,11 @@
-//! Reads the texts of the rows of the standard input, and prints each row and below it what came of it. The gate
-//! compares that with what is wanted, in the file `stdout`.
+//! Reads the texts of rows, and tells each row and below it what came of it. The program worked_rows runs it on the rows of
+//! data/trials/definitions.
 //!
 //! A line is a field and its value, a text with the escapes of `row_texts`:
 //!
 //! - `text TEXT` reads definitions: each with its line and its tree, or the line and the reason of their fault;
 //! - `entry TEXT` reads an expression as an entry of a lexicon has one, here in line 7;
-//! - `again TEXT` reads an expression, prints its tree and reads that again. Such a row is only printed where the tree
+//! - `again TEXT` reads an expression, prints its tree and reads that again. Such a row is only told where the tree
 //!   isn't the same then; how many are is told at the end. `bench/expressions.py` writes these rows.
 //!
 //! An empty line, and one that begins with `#`, says nothing; a line with another field is told.
@@ -17,9 +17,8 @@ mod reading;
 
 use crate::again::is_same_again;
 use crate::reading::{said_of_entry, said_of_text};
-use row_texts::undone;
+use row_texts::{add_line, add_row, undone};
 use std::alloc::{AllocError, Global};
-use std::io::{self, Read};
 
 /// The most bytes of a text that is read.
 const MOST_READ: usize = 1_000_000;
@@ -33,7 +32,7 @@ struct Trees {
     same: u64,
 }
 
-/// Does what a row says. Returns what came of it, if that is to be printed.
+/// Does what a row says. Returns what came of it, if that is to be told.
 fn obey(alloc: Global, trees: &mut Trees, row: &str) -> Result<Option<String>, AllocError> {
     let (field, value) = row.split_once(' ').unwrap_or((row, ""));
     let bytes = undone(alloc, value)?;
@@ -59,19 +58,27 @@ fn print_again(alloc: Global, trees: &mut Trees, text: &str) -> Result<Option<St
     Ok(Some(String::from_str(alloc, "not the same tree again")?))
 }
 
-fn main(rt: HostRuntime) -> io::Result<()> {
-    let alloc = rt.alloc();
-    let mut rows = String::new(alloc);
-    rt.stdin().read_to_string(&mut rows)?;
+/// What came of the rows of a text: each row with what came of it below, and how many trees stayed the same.
+///
+/// # Errors
+///
+/// Where there was no memory.
+pub fn said_of_rows(alloc: Global, rows: &str) -> Result<String, AllocError> {
+    let mut told = String::new(alloc);
     let mut trees = Trees { read: 0, same: 0 };
-    'rows: for row in rows.as_str().lines() {
+    'rows: for row in rows.lines() {
         if let Some(outcome) = obey(alloc, &mut trees, row)? {
-            println!(rt; "{row}\n    {}", outcome.as_str())?;
+            add_row(
+                &mut told,
+                row,
+                format!(in alloc; "    {}", outcome.as_str())?.as_str(),
+            )?;
         }
     }
-    println!(rt;
+    let counts = format!(in alloc;
         "{} of {} trees are the same when they are printed and read again",
         trees.same, trees.read
     )?;
-    Ok(())
+    add_line(&mut told, counts.as_str())?;
+    Ok(told)
 }

@@ -1,5 +1,5 @@
-//! Reads the AT&T texts of the rows of the standard input, and prints each row and below it what came of it. The gate compares
-//! that with what is wanted, in the file `stdout`.
+//! Reads the AT&T texts of rows, and tells each row and below it what came of it. The program worked_rows runs it on the rows of
+//! data/trials/att_texts.
 //!
 //! A row is a field and its value. A value's text has the escapes of `row_texts`.
 //!
@@ -13,11 +13,10 @@
 
 mod reading;
 
-use row_texts::undone;
+use row_texts::{add_row, undone};
 use std::alloc::{AllocError, Global};
-use std::io::{self, Read};
 
-/// What came of a row, if anything is to be printed.
+/// What came of a row, if anything is to be told.
 fn said_of_row(alloc: Global, row: &str) -> Result<Option<String>, AllocError> {
     let (field, value) = row.split_once(' ').unwrap_or((row, ""));
     let said = match field {
@@ -29,14 +28,21 @@ fn said_of_row(alloc: Global, row: &str) -> Result<Option<String>, AllocError> {
     Ok(Some(said))
 }
 
-fn main(rt: HostRuntime) -> io::Result<()> {
-    let alloc = rt.alloc();
-    let mut rows = String::new(alloc);
-    rt.stdin().read_to_string(&mut rows)?;
-    'rows: for row in rows.as_str().lines() {
+/// What came of the rows of a text: each row with what came of it below.
+///
+/// # Errors
+///
+/// Where there was no memory.
+pub fn said_of_rows(alloc: Global, rows: &str) -> Result<String, AllocError> {
+    let mut told = String::new(alloc);
+    'rows: for row in rows.lines() {
         if let Some(said) = said_of_row(alloc, row)? {
-            println!(rt; "{row}\n    {}", said.as_str())?;
+            add_row(
+                &mut told,
+                row,
+                format!(in alloc; "    {}", said.as_str())?.as_str(),
+            )?;
         }
     }
-    Ok(())
+    Ok(told)
 }

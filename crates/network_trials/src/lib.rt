@@ -1,7 +1,7 @@
-//! Looks words up in the small networks that the rows of the standard input make, and prints each row and below it what came
-//! of it. The gate compares that with what is wanted, in the file `stdout`.
+//! Looks words up in the small networks that rows make, and tells each row and below it what came of it. The program worked_rows runs it
+//! on the rows of data/trials/networks.
 //!
-//! A line `## NAME` is a heading, which is printed too: the rows below it, up to the next one, are of the section of that
+//! A line `## NAME` is a heading, which is told too: the rows below it, up to the next one, are of the section of that
 //! name. An empty line, and another one that begins with `#`, says nothing; in all sections but `lexicon` and `replace` a row
 //! in another form is told. `0` is no symbol, and as an answer the empty text.
 //!
@@ -46,8 +46,8 @@ mod symbols;
 
 use crate::answers::add_line;
 use lookup::one_kind;
+use row_texts::add_row;
 use std::alloc::{AllocError, Global};
-use std::io::{self, Read};
 
 /// What the rows below a heading make.
 #[derive(Clone, Copy, Debug)]
@@ -91,19 +91,22 @@ fn said_of_row(alloc: Global, section: Section, row: &str) -> Result<String, All
     }
 }
 
-fn main(rt: HostRuntime) -> io::Result<()> {
-    let alloc = rt.alloc();
-    let mut rows = String::new(alloc);
-    rt.stdin().read_to_string(&mut rows)?;
+/// What came of the rows of a text: each heading, and each row with what came of it below.
+///
+/// # Errors
+///
+/// Where there was no memory.
+pub fn said_of_rows(alloc: Global, rows: &str) -> Result<String, AllocError> {
     one_kind();
+    let mut told = String::new(alloc);
     let mut section = Section::Other;
-    'rows: for row in rows.as_str().lines() {
+    'rows: for row in rows.lines() {
         if let Some(name) = row.strip_prefix("## ") {
             section = section_of(name);
-            println!(rt; "{row}")?;
+            row_texts::add_line(&mut told, row)?;
         } else if !row.is_empty() && !row.starts_with('#') {
-            println!(rt; "{row}\n{}", said_of_row(alloc, section, row)?.as_str())?;
+            add_row(&mut told, row, said_of_row(alloc, section, row)?.as_str())?;
         }
     }
-    Ok(())
+    Ok(told)
 }

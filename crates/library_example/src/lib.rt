@@ -1,11 +1,10 @@
-//! What a Rust program writes that works with automata, or that looks words up in a project of its own: it calls fsm_library alone. It
-//! prints what came of it, and the gate compares that with what is wanted, in the file `stdout`.
+//! What a Rust program writes that works with automata, or that looks words up in a project of its own: it calls fsm_library alone. The
+//! program worked_rows prints what comes of it.
 #![tactic(auto)]
 
 use fsm_library::automata::{Dfa, Sym, minimal, shortest};
 use fsm_library::projects::{Direction, Sources, StoreError, load, reply_to_word};
 use std::alloc::{AllocError, Global};
-use std::io;
 
 /// The manifest of a project of one lexicon.
 const MANIFEST: &str = "lexc Noun nouns.lexc\n";
@@ -40,13 +39,18 @@ fn replies(alloc: Global) -> Result<Vec<u8>, StoreError> {
     Ok(bytes)
 }
 
-fn main(rt: HostRuntime) -> io::Result<()> {
-    let alloc = rt.alloc();
-    println!(rt; "{}", automata(alloc)?.as_str())?;
+/// What came of the automata, and of the look-ups in the project, line by line.
+///
+/// # Errors
+///
+/// Where there was no memory.
+pub fn examples(alloc: Global) -> Result<String, AllocError> {
+    let mut told = automata(alloc)?;
+    told.push('\n')?;
     match replies(alloc) {
-        Ok(bytes) => print!(rt; "{}", std::str::from_utf8(&bytes).unwrap_or(""))?,
-        Err(StoreError::Refused(fault)) => println!(rt; "{} {}", fault.file.as_str(), fault.line)?,
-        Err(StoreError::Memory(error)) => return Err(error.into()),
+        Ok(bytes) => told.push_str(std::str::from_utf8(&bytes).unwrap_or(""))?,
+        Err(StoreError::Refused(fault)) => write!(told, "{} {}", fault.file.as_str(), fault.line)?,
+        Err(StoreError::Memory(error)) => return Err(error),
     }
-    Ok(())
+    Ok(told)
 }

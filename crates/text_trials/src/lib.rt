@@ -1,11 +1,10 @@
-//! Makes the calls that the rows of the standard input name, of the crates that read and write texts, streams, commands,
-//! events and glosses, and prints each row and below it what came of it. The gate compares that with what is wanted, in
-//! the file `stdout`.
+//! Makes the calls that rows name, of the crates that read and write texts, streams, commands, events and glosses, and tells each row and
+//! below it what came of it. The program worked_rows runs it on the rows of data/trials/texts.
 //!
-//! A line `## NAME` is a heading, which is printed too: the rows below it, up to the next one, are of the section of that
+//! A line `## NAME` is a heading, which is told too: the rows below it, up to the next one, are of the section of that
 //! name. An empty line, and another one that begins with `#`, says nothing; a row in another form is told. A row is a
 //! field and its value, save in the section `live`. A value's text has the escapes of `row_texts`, and so has what is
-//! printed.
+//! told.
 //!
 //! `## text`, calls of fsm_base, fsm_io and regex_tokens:
 //!
@@ -59,8 +58,8 @@ mod tokens;
 mod twolc_rows;
 
 use edit_script::{one_command, one_look};
+use row_texts::{add_line, add_row};
 use std::alloc::{AllocError, Global};
-use std::io::{self, Read};
 use std::rt::Files;
 
 /// The most bytes of a text that is read.
@@ -107,23 +106,35 @@ fn said_of_row(
     }
 }
 
-fn main(rt: HostRuntime) -> io::Result<()> {
-    let alloc = rt.alloc();
-    let mut rows = String::new(alloc);
-    rt.stdin().read_to_string(&mut rows)?;
+/// What came of the rows of a text: each heading, and each row with what came of it below.
+///
+/// # Errors
+///
+/// Where there was no memory.
+pub fn said_of_rows(rt: &impl Files, alloc: Global, rows: &str) -> Result<String, AllocError> {
     one_command();
     one_look();
+    let mut told = String::new(alloc);
     let mut section = Section::Other;
-    'rows: for row in rows.as_str().lines() {
+    'rows: for row in rows.lines() {
         if let Some(name) = row.strip_prefix("## ") {
             section = section_of(name);
-            println!(rt; "{row}")?;
+            add_line(&mut told, row)?;
         } else if !row.is_empty() && !row.starts_with('#') {
-            match said_of_row(&rt, alloc, section, row)? {
-                Some(said) => println!(rt; "{row}\n    {}", said.as_str())?,
-                None => println!(rt; "{row}\n    no such row")?,
-            }
+            add_row(
+                &mut told,
+                row,
+                line_of(alloc, said_of_row(rt, alloc, section, row)?)?.as_str(),
+            )?;
         }
     }
-    Ok(())
+    Ok(told)
+}
+
+/// The line of what came of a row, or that it is no such row.
+fn line_of(alloc: Global, said: Option<String>) -> Result<String, AllocError> {
+    match said {
+        Some(said) => format!(in alloc; "    {}", said.as_str()),
+        None => String::from_str(alloc, "    no such row"),
+    }
 }
