@@ -2,3 +2,4 @@ pub mod Values
 pub mod Slots
 pub mod Telling
 pub mod Becoming
+pub mod Crossing
