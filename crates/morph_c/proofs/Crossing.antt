@@ -12,9 +12,11 @@ use Rattle.project_store.specs.contracts.project.Project as project
 use Rattle.project_store.proofs.shared.Shared.TheSendSync as shared
 use Rattle.project_versions.specs.contracts.version.Version as version
 use Rattle.regex_ast.proofs.expr.Expr.TheLaws.TheKnot as knot
-use Rattle.regex_ast.proofs.fault.Fault.TheSendSync as fault
 use Rattle.regex_ast.specs.contracts.expr.Atom as atom
 use Rattle.regex_ast.specs.contracts.expr.Expr as expr
+use Rattle.regex_ast.specs.contracts.fault.Fault as fault
+use Rattle.regex_ast.specs.contracts.fault.Why as why
+use Rattle.regex_ast.proofs.fault.Fault.TheSendSync as faults
 use Rattle.regex_ast.specs.contracts.lexc.Lexicon as lexicon
 use Rattle.regex_ast.specs.contracts.twolc.Grammar as grammar
 use Rattle.regex_ast.specs.contracts.twolc.PairAtom as pair
@@ -79,5 +81,17 @@ version_sync = let p = plan_sync in search (sendable, crosses, alphabet.the_sync
 opened_send : IsSend opened.the_row
 opened_send = let v = version_send in let w = version_sync in let p = project_send in let q = project_sync in search (sendable, crosses) depth 20
 
-pub held_send : IsSend held.the_row
-held_send = let o = opened_send in search (sendable, crosses, sources.the_send, fault.the_send) depth 20
+why_send : IsSend why.the_field.row
+why_send = search sendable depth 200
+
+fault_send : IsSend fault.the_field.row
+fault_send = let w = why_send in search (sendable, crosses, text.the_send) depth 20
+
+fault_two : IsSend fault.the_field.row
+fault_two = faults.the_send
+
+pub held_send : IsSend held.the_field.row
+held_send = let o = opened_send in let f = fault_send in search (sendable, crosses, sources.the_send) depth 40
+
+pub held_two : IsSend held.the_field.row
+held_two = let o = opened_send in search (sendable, crosses, sources.the_send, faults.the_send) depth 40
