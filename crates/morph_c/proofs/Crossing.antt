@@ -16,7 +16,6 @@ use Rattle.regex_ast.specs.contracts.expr.Atom as atom
 use Rattle.regex_ast.specs.contracts.expr.Expr as expr
 use Rattle.regex_ast.specs.contracts.fault.Fault as fault
 use Rattle.regex_ast.specs.contracts.fault.Why as why
-use Rattle.regex_ast.proofs.fault.Fault.TheSendSync as faults
 use Rattle.regex_ast.specs.contracts.lexc.Lexicon as lexicon
 use Rattle.regex_ast.specs.contracts.twolc.Grammar as grammar
 use Rattle.regex_ast.specs.contracts.twolc.PairAtom as pair
@@ -87,11 +86,5 @@ why_send = search sendable depth 200
 fault_send : IsSend fault.the_field.row
 fault_send = let w = why_send in search (sendable, crosses, text.the_send) depth 20
 
-fault_two : IsSend fault.the_field.row
-fault_two = faults.the_send
-
 pub held_send : IsSend held.the_field.row
 held_send = let o = opened_send in let f = fault_send in search (sendable, crosses, sources.the_send) depth 40
-
-pub held_two : IsSend held.the_field.row
-held_two = let o = opened_send in search (sendable, crosses, sources.the_send, faults.the_send) depth 40
