@@ -50,7 +50,11 @@ impl Model for Opened {
 
 impl Opened {
     /// A version, with the project of its files.
-    pub(crate) fn of(alloc: Global, version: Version, project: Project) -> Result<Opened, AllocError>
+    pub(crate) fn of(
+        alloc: Global,
+        version: Version,
+        project: Project,
+    ) -> Result<Opened, AllocError>
         requires { IsRead version.files project }
         ensures { IfOk result (λ opened. opened ≡ version) }
     {

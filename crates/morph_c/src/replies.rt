@@ -83,9 +83,7 @@ pub(crate) fn glossed(
     let text = line_of(text)?;
     let net = nfc(alloc, net)?;
     let text = nfc(alloc, text)?;
-    let bytes = opened
-        .version()
-        .gloss(alloc, net.as_str(), text.as_str())?;
+    let bytes = opened.version().gloss(alloc, net.as_str(), text.as_str())?;
     Ok(bytes)
 }
 

@@ -61,11 +61,7 @@ fn write(bytes: &[u8], out: &mut [u8]) -> u32
 }
 
 /// Tells an answer, or why there is none.
-pub(crate) fn tell(
-    answer: Result<Vec<u8>, Trouble>,
-    out: &mut [u8],
-    reply: &mut MorphReply,
-) -> u32
+pub(crate) fn tell(answer: Result<Vec<u8>, Trouble>, out: &mut [u8], reply: &mut MorphReply) -> u32
     ensures told { IfOk answer (λ bytes. IsTold bytes.items out.old out.new result) }
     ensures reply { IfOk answer (λ bytes. IsReply bytes.items reply.new) }
     ensures trouble { IfErr answer (λ trouble. result ≡ status_of trouble) }

@@ -1,4 +1,4 @@
-use Rattle.std.proofs.Common.{ℕ, zero, suc, List, [], ◌∷◌, Contains, arith}
+use Rattle.std.proofs.Common.{zero, suc, List, [], ◌∷◌, Contains, arith}
 use Rattle.word_relations.specs.Words.{IsOver}
 use Rattle.fsm_base.specs.Alphabet.{symbols_of}
 use Rattle.fsm_base.specs.declared.letters.Sym.{Sym}

@@ -1,11 +1,11 @@
 -- `into_loose` keeps the pointer, and owns what it owned.
 use Rattle.std.proofs.Common.{◌≡◌, List, [], ◌∷◌, ◌++◌, refl, sym, ap, ◌∙◌, subst}
-use mir.Val.{Val, vunit, vptr}
-use base.Logic.{SProp, ent, emp, id⊢}
+use mir.Val.{Val, vptr}
+use base.Logic.{SProp, ent, id⊢}
 use base.Fml.{ftrue, fsep}
 use prog.Wp.{WpFn}
-use types.Kit.{‵, raw, ◌⊛◌, ◌$◌, ◌∵◌, !, qed, by, move, keep, drop, split, join, fsplit, fsplit3, fjoin, suffices, use1, feq_i, done}
-use types.Run.{stop, fld, lit, unit_lit, of_opd, no_more, and_then, returns, enter}
+use types.Kit.{‵, raw, ◌⊛◌, ◌$◌, ◌∵◌, !, qed, move, keep, drop, split, join, fsplit3, fjoin, suffices, use1, done}
+use types.Run.{stop, fld, of_opd, no_more, and_then, returns, enter}
 use types.ByLocal.{alloc_all, pass_all, free_all, look_at, get, get_in, sets}
 use types.Part.{agg, sub, whole}
 use contract.Monad.{fact}
@@ -13,20 +13,19 @@ use contract.Running.{tables}
 use denote.Exit.{yes}
 use denote.RattleType.{RattleType}
 use denote.Signature.{plain}
-use denote.RawPtr.{Ptr, block_ptr, null_ptr, ptr_val}
+use denote.RawPtr.{Ptr, block_ptr}
 use denote.Steps.{nothing, heard}
 use denote.Triple.Walked.{says, Stays, stay_dropped, walk_of, Goes-dropped, ends_at}
-use Rattle.std.specs.Prelude.{None, Some, true, false, is_some}
+use Rattle.std.specs.Prelude.{true, is_some}
 use Rattle.std.specs.contracts.alloc.Global as heap
 use Rattle.std.proofs.alloc.Global.TheLaws as heap_laws
 use Rattle.std.specs.contracts.impls.GlobalAllocator.TheImpl.{ghosts}
 use Rattle.std_alloc.specs.Box.Ownership.{box_owns}
 use Rattle.std.proofs.raw_atomic.Walks.{proved_at}
-use Rattle.morph_c.specs.Slots.{slot_owns}
 use Rattle.morph_c.specs.contracts.held.Held as held
 use Rattle.morph_c.specs.contracts.slot.Slot as slot
-use Rattle.morph_c.proofs.Values.{both, Loose, loose_good, loose_in, loose_out}
-use Rattle.morph_c.proofs.Slots.{word, word_good, slot_in, slot_out, held_in, handle_out}
+use Rattle.morph_c.proofs.Values.{both, Loose, loose_good, loose_in}
+use Rattle.morph_c.proofs.Slots.{word, word_good, slot_out, held_in, handle_out}
 use Rattle.morph_c.specs.contracts.slot.Slot.into_loose.{ended, clauses}
 use Rattle.morph_c.specs.contracts.slot.Slot.into_loose.Key.{name as #self}
 use Rattle.morph_c.proofs.slot.Slot.into_loose.Statement.{statement}

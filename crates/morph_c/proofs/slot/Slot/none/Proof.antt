@@ -1,31 +1,19 @@
 -- `none` points nowhere, and owns nothing.
-use Rattle.std.proofs.Common.{◌≡◌, List, [], ◌∷◌, ◌++◌, refl, sym, subst}
-use mir.Val.{Val, vunit, vptr}
-use base.Logic.{SProp, ent, emp, id⊢}
+use Rattle.std.proofs.Common.{[], ◌∷◌, refl}
+use mir.Val.{Val}
+use base.Logic.{SProp, emp}
 use base.Fml.{ftrue}
-use prog.Wp.{WpFn}
-use types.Kit.{‵, raw, ◌⊛◌, ◌$◌, ◌∵◌, !, qed, by, move, keep, drop, split, join, fsplit, fjoin, suffices, use1, feq_i, done}
-use types.Run.{stop, fld, lit, unit_lit, of_opd, no_more, and_then, returns, enter}
-use types.ByLocal.{alloc_all, pass_all, free_all, look_at, get, get_in, sets}
-use types.Part.{agg, sub, whole}
-use contract.Monad.{fact}
+use types.Kit.{‵, raw, ◌⊛◌, ◌$◌, ◌∵◌, !, qed, drop, split, join, suffices, done}
+use types.Run.{lit, no_more, and_then, returns, enter}
+use types.ByLocal.{alloc_all, pass_all, free_all, look_at, sets}
+use types.Part.{agg}
 use contract.Running.{tables}
-use denote.Exit.{yes}
-use denote.RattleType.{RattleType}
-use denote.Signature.{plain}
-use denote.RawPtr.{Ptr, block_ptr, null_ptr, ptr_val}
-use denote.Steps.{nothing, heard}
-use denote.Triple.Walked.{says, Stays, stay_dropped, walk_of, Goes-dropped, ends_at}
-use Rattle.std.specs.Prelude.{None, Some, true, false, is_some}
-use Rattle.std.specs.contracts.alloc.Global as heap
-use Rattle.std.proofs.alloc.Global.TheLaws as heap_laws
-use Rattle.std.specs.contracts.impls.GlobalAllocator.TheImpl.{ghosts}
+use denote.RawPtr.{null_ptr}
+use denote.Steps.{nothing}
+use denote.Triple.Walked.{says, Stays, walk_of, ends_at}
+use Rattle.std.specs.Prelude.{None}
 use Rattle.std.proofs.raw_atomic.Walks.{proved_at}
-use Rattle.morph_c.specs.Slots.{slot_owns}
-use Rattle.morph_c.specs.contracts.held.Held as held
-use Rattle.morph_c.specs.contracts.slot.Slot as slot
-use Rattle.morph_c.proofs.Values.{both, Loose, loose_good, loose_in, loose_out}
-use Rattle.morph_c.proofs.Slots.{word, word_good, slot_in, slot_out}
+use Rattle.morph_c.proofs.Slots.{word, word_good, slot_in}
 use Rattle.morph_c.specs.contracts.slot.Slot.none.{ended, clauses}
 use Rattle.morph_c.specs.contracts.slot.Slot.none.Key.{name as #self}
 use Rattle.morph_c.proofs.slot.Slot.none.Statement.{statement}
