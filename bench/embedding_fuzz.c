@@ -87,7 +87,8 @@ int main(int argc, char **argv)
             };
             uint32_t f = pick(4);
             const char *content = files[f].all[pick(files[f].count)];
-            status = pick(8) ? morph_put(p, BYTES(files[f].name), BYTES(content)) : morph_put(p, BYTES(names[pick(8)]), BYTES(content));
+            const char *name = pick(8) ? files[f].name : names[pick(8)];
+            status = morph_put(p, BYTES(name), BYTES(content));
         } else if (kind < 6) {
             status = morph_open(p);
         } else if (kind < 7) {
