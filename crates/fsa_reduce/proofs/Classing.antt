@@ -10,7 +10,7 @@ use Rattle.fsa_explore.specs.Targets.{AreWithin}
 use Rattle.fsa_reduce.specs.Numbering.{Keeps}
 use Rattle.fsa_explore.specs.Signatures.{IsSignature, edge_mark, known_class}
 use Rattle.fsa_reduce.specs.Classes.{IsIn, AreClasses}
-use Rattle.fsa_reduce.proofs.Kept.{Keeps-get, Keeps-push, Keeps-then}
+use Rattle.fsa_reduce.proofs.Kept.{Keeps-get, Keeps-push, Keeps-same, Keeps-then}
 use Rattle.fsa_explore.proofs.Signed.{signatures_agree, letter_same, target_same}
 
 -- these are the edges that leave the state
@@ -30,6 +30,11 @@ HasSignatureOf finals rows lists classes s c =
 pub record IsClassing (finals : List Bool) (rows : List (Edge ℕ)) (lists : List (List ℕ)) (classes : List ℕ) : Type 0 where
   pub few : length classes ≤ length finals
   pub classed : (s c : ℕ) → IsIn classes (length finals) s c → HasSignatureOf finals rows lists classes s c
+
+-- the same with the signature by the same classes for all
+pub record IsClassingBeside (finals : List Bool) (rows : List (Edge ℕ)) (lists : List (List ℕ)) (known classes : List ℕ) : Type 0 where
+  pub few : length classes ≤ length finals
+  pub classed : (s c : ℕ) → IsIn classes (length finals) s c → (row : List ℕ) × (slice_get lists c ≡ Some row) × GoesOn finals rows known s row
 
 one_place : (j c d : ℕ) → slice_get (c ∷ []) j ≡ Some d → (j ≡ 0) × (c ≡ d)
 one_place zero c d e = (refl, same_at (c ∷ []) 0 c d refl e)
@@ -66,6 +71,45 @@ module _ (finals : List Bool) (rows : List (Edge ℕ)) where
           (row, known, number, Keeps-then known classes classes2 prefix (Keeps-push classes classes2 c is), (b, out, at, are_out, has)) in
           subst (λ k. HasSignatureOf finals rows lists2 classes2 k d) same (subst (λ k. HasSignatureOf finals rows lists2 classes2 state k) one.1 here)
     ];
+  }
+
+  pub beside_none : (lists : List (List ℕ)) (known classes : List ℕ) → classes ≡ [] → IsClassingBeside finals rows lists known classes
+  beside_none lists known classes none = record {
+    few = let e = ap length none in omega arith;
+    classed = λ s c i.
+        let l = slice_get_within classes (length finals - 1 - s) c i.1 in
+        let e = ap length none in
+        absurd (omega arith);
+  }
+
+  pub beside_more : (lists lists2 : List (List ℕ)) (known classes classes2 row : List ℕ) (state c : ℕ) (b : Bool) (out : List (Edge ℕ))
+      → length classes < length finals → state ≡ length finals - 1 - length classes → slice_get finals state ≡ Some b
+      → AreOut rows state out → Keeps lists lists2 → slice_get lists2 c ≡ Some row → classes2 ≡ classes ++ c ∷ []
+      → IsSignature b (map (edge_mark known (length finals)) out) row → IsClassingBeside finals rows lists known classes → IsClassingBeside finals rows lists2 known classes2
+  beside_more lists lists2 known classes classes2 row state c b out there is_state at are_out more_lists number is has before = record {
+    few = let e = ap length is in let l = length_push classes c in omega arith;
+    classed = λ s d i. elim (slice_get-append_cases classes (c ∷ []) (length finals - 1 - s) d (subst (λ xs. slice_get xs (length finals - 1 - s) ≡ Some d) is i.1)) [
+      | inl held ↦
+          let r = before.classed s d (i.0, held) in
+          (r.0, Keeps-get lists lists2 d r.0 more_lists r.1, r.2)
+      | inr r ↦
+          let one = one_place r.0 c d r.2 in
+          let first = one.0 in
+          let place = r.1 in
+          let inside = i.0 in
+          let same : state ≡ s = omega arith in
+          let here : (x : List ℕ) × (slice_get lists2 c ≡ Some x) × GoesOn finals rows known state x = (row, number, (b, out, at, are_out, has)) in
+          subst (λ k. (x : List ℕ) × (slice_get lists2 d ≡ Some x) × GoesOn finals rows known k x) same (subst (λ k. (x : List ℕ) × (slice_get lists2 k ≡ Some x) × GoesOn finals rows known state x) one.1 here)
+    ];
+  }
+
+  -- where the classes came out again, their signatures are by themselves
+  pub beside_same : (lists : List (List ℕ)) (known classes : List ℕ) → classes ≡ known → IsClassingBeside finals rows lists known classes → IsClassing finals rows lists classes
+  beside_same lists known classes same before = record {
+    few = before.few;
+    classed = λ s c i.
+        let r = before.classed s c i in
+        (r.0, known, r.1, Keeps-same known classes same, r.2);
   }
 
   module _ (lists : List (List ℕ)) (classes : List ℕ) (whole : length finals ≤ length classes) (within : AreWithin rows (length finals)) (found : IsClassing finals rows lists classes) where

@@ -10,6 +10,9 @@ module _ {X : Type 0} where
   pub Keeps-none : (xs : List X) → Keeps xs xs
   Keeps-none xs = ([], sym (append-nil xs))
 
+  pub Keeps-same : (xs ys : List X) → ys ≡ xs → Keeps xs ys
+  Keeps-same xs ys same = ([], same ∙ sym (append-nil xs))
+
   pub Keeps-push : (xs ys : List X) (x : X) → ys ≡ xs ++ x ∷ [] → Keeps xs ys
   Keeps-push xs ys x is = (x ∷ [], is)
 

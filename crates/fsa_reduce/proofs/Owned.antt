@@ -10,7 +10,7 @@ use Rattle.word_relations.proofs.Places.{same_at, slice_get-set_same, slice_get-
 use Rattle.fsa.specs.declared.automaton.Edge.{Edge}
 use Rattle.fsa_explore.proofs.Grouping.{last_or_before}
 use Rattle.fsa_reduce.specs.Classes.{AreAlike}
-use Rattle.fsa_reduce.specs.Merging.{AreOfClasses, AreOwn, IsMoved, IsOwn}
+use Rattle.fsa_reduce.specs.Merging.{AreOfClasses, AreOwn, IsOwn}
 use Rattle.fsa_reduce.proofs.MergedLanguage.{IsMovedOf}
 
 -- the same of the states before one of them

@@ -1,4 +1,4 @@
-ghost use Rattle.std.specs.Prelude.{◌≡◌, ◌<◌, ◌-◌, ℕ, Some, All, IfOk, OnOk, map, reverse, take, length, slice_get, slice_index};
+ghost use Rattle.std.specs.Prelude.{◌≡◌, ◌<◌, ◌-◌, ℕ, Some, All, IfOk, IfSome, OnOk, map, reverse, take, length, slice_get, slice_index};
 ghost use Rattle.fsa_explore.specs.Targets.{AreWithin};
 ghost use Rattle.fsa_reduce.specs.Numbering.{Keeps};
 ghost use Rattle.fsa_reduce.specs.Classes.{AreAlike, AreClasses, renumbered};
@@ -110,6 +110,75 @@ fn classes_back(
     while classes.len() < finals.len() {
         let state = finals.len() - 1 - classes.len();
         let known = known_classes(&classes, ends_first);
+        let signature = signature_of(alloc, finals[state], rows.out(state), known, finals.len())?;
+        classes.push(number_of(&mut signatures, signature)?)?;
+    }
+    Ok(Classes {
+        of_states: classes,
+        count: signatures.len(),
+    })
+}
+
+/// The fewest classes of states that go on alike, also in loops, or None where more than so many passes are needed to find them. All
+/// states are one class at first, and each pass splits the classes by how their states go on into classes (Moore, Gedanken-experiments on
+/// Sequential Machines, 1956). The class of the start is 0.
+pub fn fewest_classes(
+    alloc: Global,
+    finals: &[bool],
+    edges: &[Edge<usize>],
+    passes: usize,
+) -> Result<Option<Classes>, AllocError>
+    requires start { 0 < length finals.now }
+    requires within { AreWithinBoth edges.now (length finals.now) }
+    ensures start { IfOk result (λ found. IfSome found (λ c. slice_get c.of_states.items 0 ≡ Some 0)) }
+    ensures alike { IfOk result (λ found. IfSome found (λ c. AreAlike finals.now edges.now c.of_states.items c.count)) }
+{
+    let Some(found) = split(alloc, finals, &EdgesByState::of(alloc, edges)?, passes)? else {
+        return Ok(None);
+    };
+    let of_states = from_start(alloc, &found.of_states, found.count)?;
+    Ok(Some(Classes {
+        of_states,
+        count: found.count,
+    }))
+}
+
+/// The classes that no pass splits, of the states from the last one back.
+fn split(
+    alloc: Global,
+    finals: &[bool],
+    rows: &EdgesByState<usize>,
+    passes: usize,
+) -> Result<Option<Classes>, AllocError>
+    requires { AreWithin rows.now (length finals.now) }
+    ensures { IfOk result (λ found. IfSome found (λ c. AreClasses finals.now rows.now c.of_states.items c.count)) }
+{
+    let mut known = vec![in alloc; 0usize; finals.len()]?;
+    for _pass in 0..passes {
+        let next = classes_beside(alloc, finals, rows, &known)?;
+        if next.of_states == known {
+            return Ok(Some(next));
+        }
+        known = next.of_states;
+    }
+    Ok(None)
+}
+
+/// The states from the last one back by how they go on into known classes: where the same classes come out, their states go on alike.
+fn classes_beside(
+    alloc: Global,
+    finals: &[bool],
+    rows: &EdgesByState<usize>,
+    known: &[usize],
+) -> Result<Classes, AllocError>
+    requires { AreWithin rows.now (length finals.now) }
+    ensures { IfOk result (λ c. c.of_states.items ≡ known.now → AreClasses finals.now rows.now c.of_states.items c.count) }
+{
+    let mut signatures = ListTable::new(alloc);
+    let mut classes = Vec::with_capacity(alloc, finals.len())?;
+    number_nowhere(alloc, &mut signatures)?;
+    while classes.len() < finals.len() {
+        let state = finals.len() - 1 - classes.len();
         let signature = signature_of(alloc, finals[state], rows.out(state), known, finals.len())?;
         classes.push(number_of(&mut signatures, signature)?)?;
     }

@@ -1,15 +1,15 @@
-ghost use Rattle.std.specs.Prelude.{◌≡◌, ◌<◌, ◌↔◌, ℕ, List, Bool, Some, true, IfOk, IsTrue, OnOk, All, Contains, slice_get, length};
+ghost use Rattle.std.specs.Prelude.{◌≡◌, ◌<◌, ◌↔◌, ℕ, List, Bool, Some, true, IfOk, IfSome, IsTrue, OnOk, All, Contains, slice_get, length};
 ghost use Rattle.fsa.specs.Automaton.{UsesLetter};
 ghost use Rattle.fsa.specs.Language.{Accepts};
 ghost use Rattle.fsa.specs.declared.automaton.Edge.{Edge};
 ghost use Rattle.fsa_rational.specs.Shapes.{Extends, ForEach};
-ghost use Rattle.fsa_reduce.specs.Numbering.{StandsFor};
+ghost use Rattle.fsa_reduce.specs.Numbering.{AreNumbered, StandsFor};
 ghost use Rattle.fsa_reduce.specs.Classes.{AreAlike};
 ghost use Rattle.fsa_reduce.specs.Merging.{IsMoved, AreWithinBoth, AreOfClasses, AreOwn, IsOwn};
 
-use crate::classes::classes_of;
+use crate::classes::{Classes, classes_of, fewest_classes};
 use crate::cutting::without_last;
-use crate::numbering::{lettered, number_letters};
+use crate::numbering::{Numbered, lettered, number_letters};
 use fsa::{Edge, Fsa};
 use fsm_base::Letter;
 use std::alloc::{AllocError, Global};
@@ -22,6 +22,40 @@ pub fn merged<L: Letter>(alloc: Global, a: &Fsa<L>, ends_first: bool) -> Result<
 {
     let with_numbers = number_letters(alloc, a.edges())?;
     let alike = classes_of(alloc, a.finals(), &with_numbers.edges, ends_first)?;
+    merged_by(alloc, a, &with_numbers, &alike)
+}
+
+/// The same with the fewest classes of states that go on alike, also in loops, or None where more than so many passes over the edges are
+/// needed to find them.
+pub fn wholly_merged<L: Letter>(
+    alloc: Global,
+    a: &Fsa<L>,
+    passes: usize,
+) -> Result<Option<Fsa<L>>, AllocError>
+    ensures letters { IfOk result (λ found. IfSome found (λ m. (x : L) → UsesLetter m x → UsesLetter a.now x)) }
+    ensures language { IfOk result (λ found. IfSome found (λ m. (w : List L) → Accepts m w ↔ Accepts a.now w)) }
+{
+    let with_numbers = number_letters(alloc, a.edges())?;
+    let Some(alike) = fewest_classes(alloc, a.finals(), &with_numbers.edges, passes)? else {
+        return Ok(None);
+    };
+    let merged = merged_by(alloc, a, &with_numbers, &alike)?;
+    Ok(Some(merged))
+}
+
+/// The automaton with one state for each of the classes, which are those of its edges with numbers in place of letters.
+fn merged_by<L: Letter>(
+    alloc: Global,
+    a: &Fsa<L>,
+    with_numbers: &Numbered<L>,
+    alike: &Classes,
+) -> Result<Fsa<L>, AllocError>
+    requires numbers { AreNumbered a.now.edges with_numbers.now.letters.items with_numbers.now.edges.items }
+    requires start { slice_get alike.now.of_states.items 0 ≡ Some 0 }
+    requires alike { AreAlike a.now.finals with_numbers.now.edges.items alike.now.of_states.items alike.now.count }
+    ensures letters { IfOk result (λ m. (x : L) → UsesLetter m x → UsesLetter a.now x) }
+    ensures language { IfOk result (λ m. (w : List L) → Accepts m w ↔ Accepts a.now w) }
+{
     let finals = merged_finals(alloc, a.finals(), &alike.of_states, alike.count)?;
     let edges = merged_edges(alloc, &with_numbers.edges, &alike.of_states, alike.count)?;
     let mut m = Fsa::of_states(alloc, finals);

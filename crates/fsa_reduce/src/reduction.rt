@@ -3,7 +3,7 @@ ghost use Rattle.fsa.specs.Automaton.{UsesLetter};
 ghost use Rattle.fsa.specs.Language.{Accepts};
 
 use crate::epsilon::is_cheap;
-use crate::merging::merged;
+use crate::merging::{merged, wholly_merged};
 use crate::order::lead_on;
 use fsa::{Edge, Fsa};
 use fsa_rational::without_empty;
@@ -13,6 +13,12 @@ use std::alloc::{AllocError, Global};
 /// How often states are merged at most. A pass that takes away no more than a sixteenth of the states is the last
 /// one in any case.
 const PASSES: usize = 500;
+
+/// How many edges are looked at, at most, by all passes that look for the fewest classes.
+const STEPS: usize = 524_288;
+
+/// With how few passes the fewest classes aren't looked for, since most would not end.
+const FEW: usize = 6;
 
 /// A smaller automaton of the same language: states that go on alike become one, and epsilon edges, where there are any, go
 /// away if that is cheap. Takes time in proportion to the edges, which are sorted.
@@ -42,16 +48,35 @@ fn has_epsilon<L>(edges: &[Edge<L>]) -> bool {
     edges.iter().any(|edge| edge.letter.is_none())
 }
 
-/// Merges states, and again where there are loops, as long as that takes away more than a sixteenth of them.
+/// Merges states: all that go on alike where there are no loops or few passes find them, and else as many as passes in turns find.
 fn merged_often<L: Letter>(alloc: Global, a: &Fsa<L>) -> Result<Fsa<L>, AllocError>
     ensures letters { IfOk result (λ m. (x : L) → UsesLetter m x → UsesLetter a.now x) }
     ensures language { IfOk result (λ m. (w : List L) → Accepts m w ↔ Accepts a.now w) }
 {
-    let mut m = merged(alloc, a, true)?;
+    let m = merged(alloc, a, true)?;
     if lead_on(m.edges()) {
         // There is no loop, so that all common ends were found at once.
         return Ok(m);
     }
+    let passes = passes_over(m.edges().len());
+    match wholly_merged(alloc, &m, passes)? {
+        Some(few) => Ok(few),
+        None => merged_in_turns(alloc, m),
+    }
+}
+
+/// How many passes over so many edges may look for the fewest classes.
+fn passes_over(edges: usize) -> usize {
+    let passes = STEPS / edges.saturating_add(1);
+    if passes < FEW { 0 } else { passes }
+}
+
+/// Merges states again and again, as long as that takes away more than a sixteenth of them.
+fn merged_in_turns<L: Letter>(alloc: Global, a: Fsa<L>) -> Result<Fsa<L>, AllocError>
+    ensures letters { IfOk result (λ m. (x : L) → UsesLetter m x → UsesLetter a x) }
+    ensures language { IfOk result (λ m. (w : List L) → Accepts m w ↔ Accepts a w) }
+{
+    let mut m = a;
     for _pass in 0..PASSES {
         let next = merged_again(alloc, &m)?;
         let is_last = is_little(m.states(), next.states());

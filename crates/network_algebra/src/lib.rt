@@ -8,6 +8,7 @@
 //!   identity.
 //! - [`reduced`]: a smaller network that is the same. Rows are joined by [`concat`] and [`union`], which leave what they
 //!   make as it is, and reduced once; every other operator reduces what it makes.
+//! - [`straight`], [`straightened`]: a transducer with one path for each list of pairs, where few steps make it.
 //! - [`upper`], [`lower`], [`inverse`], [`reverse`], [`cross`]: what turns one kind into the other, or the sides.
 #![tactic(auto)]
 
@@ -22,6 +23,7 @@ mod relations;
 mod renaming;
 mod repeating;
 mod sides;
+mod straight;
 mod words;
 
 pub use joining::{concat, reduced, union};
@@ -31,4 +33,5 @@ pub use operands::{Operands, alike};
 pub use renaming::{Renaming, renamed};
 pub use repeating::{Times, repeat};
 pub use sides::{cross, inverse, lower, reverse, upper};
+pub use straight::{a_little_more, straight, straightened};
 pub use words::word;

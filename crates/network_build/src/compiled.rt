@@ -7,11 +7,10 @@ ghost use Rattle.lookup.specs.Nets.{NetRelates};
 ghost use Rattle.network_algebra.specs.Networks.{IsNetwork, PairsOf, UsesSymbols};
 ghost use Rattle.word_relations.specs.Relations.{AreSame};
 
-use crate::straight::straightened;
 use fsa::Fsa;
 use fsm_base::Pair;
 use lookup::Net;
-use network_algebra::Network;
+use network_algebra::{Network, a_little_more, straightened};
 use std::alloc::{AllocError, Global};
 use std::marker::Model;
 use thiserror::Error;
@@ -79,7 +78,8 @@ impl Compiled {
         ensures relation { IfOk result (λ c. AreSame (NetRelates c.net) (IsRelated transducer)) }
         ensures alphabet { (alphabet : List (Sym × List ℕ)) → UsesSymbols (symbols_of alphabet) transducer → IfOk result (λ c. IsOverAlphabet alphabet c.net) }
     {
-        let straight = straightened(alloc, transducer)?;
+        let edges = a_little_more(transducer.edges().len());
+        let straight = straightened(alloc, transducer, edges)?;
         let net = Net::of(alloc, &straight)?;
         Ok(Compiled { net })
     }

@@ -12,7 +12,6 @@ mod compiled;
 mod leaf_symbols;
 mod listing;
 mod network;
-mod straight;
 mod symbol_list;
 mod symbols;
 

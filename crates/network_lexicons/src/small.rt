@@ -7,6 +7,7 @@ use fsa::Fsa;
 use fsa_reduce::{ends_merged, reduced};
 use fsa_subset::determine_within;
 use fsm_base::Pair;
+use network_algebra::{a_little_more, straight};
 use std::alloc::{AllocError, Global};
 
 /// How many steps may be taken for each edge of the automaton, so that the work stays in proportion to its size. A lexicon
@@ -15,9 +16,6 @@ const STEPS_FOR_AN_EDGE: usize = 16;
 
 /// How many steps may be taken at least, so that each small automaton is made deterministic.
 const STEPS: usize = 65_536;
-
-/// How many edges more than twice as many a straightened transducer may have.
-const EDGES_MORE: usize = 1_024;
 
 /// A smaller automaton of the same tapes, its flags being letters as the others are: common ends of entries become one path, then common
 /// beginnings, as far as that takes few steps, and what goes on alike behind that. Resolved flags multiply states, so they are made few
@@ -36,20 +34,16 @@ pub fn small(alloc: Global, tapes: Fsa<Tape>) -> Result<Fsa<Tape>, AllocError>
     Ok(small)
 }
 
-/// A transducer that accepts the same lists of pairs, each on one path, so that states which go on alike are found at once. Where that
-/// takes many steps or more than twice as many edges, the same one.
+/// A transducer that accepts the same lists of pairs, each on one path, so that states which go on alike are found at once. Where it does
+/// so already, or that takes many steps or more than twice as many edges, the same one.
 pub fn straightened(alloc: Global, a: Fsa<Pair>) -> Result<Fsa<Pair>, AllocError>
     ensures letters { IfOk result (λ m. (x : Pair) → UsesLetter m x → UsesLetter a x) }
     ensures language { IfOk result (λ m. (w : List Pair) → Accepts m w ↔ Accepts a w) }
 {
-    let edges = a.edges().len();
-    let Some(straight) = determine_within(alloc, &a, steps_for(edges))? else {
-        return Ok(a);
-    };
-    if straight.edges().len() > edges.saturating_mul(2).saturating_add(EDGES_MORE) {
-        return Ok(a);
+    match straight(alloc, &a, a_little_more(a.edges().len()))? {
+        Some(straight) => Ok(straight),
+        None => Ok(a),
     }
-    Ok(straight)
 }
 
 /// How many steps may be taken for so many edges.

@@ -1,4 +1,4 @@
-use Rattle.std.proofs.Common.{◌<◌, length, get_or}
+use Rattle.std.proofs.Common.{get_or}
 use Rattle.std.proofs.lemmas.Option.{slice_get-get_or}
 use Rattle.fsa_reduce.proofs.Owned.{states_none, states_more, states_all}
 use Rattle.fsa_reduce.proofs.merging.states_of.Goals as goal
