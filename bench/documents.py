@@ -45,7 +45,8 @@ def write(path, text):
 def copy_examples():
     """Copies the projects of examples/ without their scripts, and removes those that are there no more."""
     source, target = os.path.join(ROOT, 'examples'), os.path.join(CRATE, 'data', 'examples')
-    projects = {name for name in os.listdir(source) if os.path.isdir(os.path.join(source, name))}
+    # (embed has programs, and no project)
+    projects = {name for name in os.listdir(source) if os.path.isdir(os.path.join(source, name))} - {'embed'}
     for name in set(os.listdir(target)) - projects:
         if os.path.isdir(os.path.join(target, name)):
             shutil.rmtree(os.path.join(target, name))

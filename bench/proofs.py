@@ -30,7 +30,7 @@ def crates():
         if line.startswith('## '):
             groups.append((line[3:], []))
         elif line and not line.startswith('#'):
-            groups[-1][1].append(line.partition(':')[0])
+            groups[-1][1].append(line.split(':')[0].split()[0])
     return groups
 
 
@@ -57,7 +57,7 @@ def handed_on(folder, root):
 
 def call(source, name):
     """Whether a call has an `ensures`, and whether its body does nothing but prove."""
-    found = re.search(r'^pub (?:const |unsafe )*fn %s\b' % name, source, re.M)
+    found = re.search(r'^pub (?:const |unsafe |extern "C" )*fn %s\b' % name, source, re.M)
     if not found:
         raise SystemExit('the file that hands %s on has no such call' % name)
     text = source[found.start():]

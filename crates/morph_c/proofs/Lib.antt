@@ -1,0 +1,5 @@
+pub mod Values
+pub mod Slots
+pub mod Telling
+pub mod Becoming
+pub mod Crossing

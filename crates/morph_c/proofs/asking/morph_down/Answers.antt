@@ -1,0 +1,13 @@
+use Rattle.std.proofs.Common.{sym, ◌∙◌}
+use Rattle.lookup_answers.specs.declared.direction.Direction.TheVariants.{Down}
+use Rattle.morph_c.specs.Asking.{IsLookedUp, IsNoLook}
+use Rattle.morph_c.proofs.Telling.{tells_by}
+use Rattle.morph_c.proofs.asking.morph_down.Goals as goal
+
+pub returns-clause-told : goal.returns-clause-told
+returns-clause-told c =
+    tells_by _ _ _ _ (λ h. IsLookedUp h Down c.args.net.now c.args.word.now) (λ h. IsNoLook h c.args.net.now c.args.word.now) _ _ c.taken-held.ensures.taken c.looked_up-answer.result
+    c.looked_up-answer.ensures.reply c.looked_up-answer.ensures.trouble c.tell.ensures.told c.tell.ensures.reply c.tell.ensures.trouble c.tell.ensures.place c.tell.ensures.kept
+
+pub returns-clause-kept : goal.returns-clause-kept
+returns-clause-kept c = c.put_back.ensures ∙ sym c.taken-held.ensures.taken

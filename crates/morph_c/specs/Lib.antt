@@ -1,0 +1,5 @@
+pub mod Slots
+pub mod Statuses
+pub mod Tells
+pub mod Asking
+pub mod Filling
