@@ -1,4 +1,4 @@
-ghost use Rattle.std.specs.Prelude.{◌≡◌, ◌↔◌, IfOk, List};
+ghost use Rattle.std.specs.Prelude.{◌≡◌, ◌↔◌, IfOk, IfSome, List};
 ghost use Rattle.fsa.specs.Automaton.{UsesLetter};
 ghost use Rattle.fsa.specs.Language.{Accepts};
 
@@ -53,22 +53,40 @@ fn merged_often<L: Letter>(alloc: Global, a: &Fsa<L>) -> Result<Fsa<L>, AllocErr
     ensures letters { IfOk result (λ m. (x : L) → UsesLetter m x → UsesLetter a.now x) }
     ensures language { IfOk result (λ m. (w : List L) → Accepts m w ↔ Accepts a.now w) }
 {
+    if has_stay(a.edges()) {
+        if let Some(few) = merged_in_few_passes(alloc, a)? {
+            return Ok(few);
+        }
+    }
     let m = merged(alloc, a, true)?;
     if lead_on(m.edges()) {
         // There is no loop, so that all common ends were found at once.
         return Ok(m);
     }
-    let passes = passes_over(m.edges().len());
-    match wholly_merged(alloc, &m, passes)? {
+    match merged_in_few_passes(alloc, &m)? {
         Some(few) => Ok(few),
         None => merged_in_turns(alloc, m),
     }
 }
 
-/// How many passes over so many edges may look for the fewest classes.
-fn passes_over(edges: usize) -> usize {
-    let passes = STEPS / edges.saturating_add(1);
-    if passes < FEW { 0 } else { passes }
+/// Whether an edge leads to the state that it leaves.
+fn has_stay<L>(edges: &[Edge<L>]) -> bool {
+    edges.iter().any(|edge| edge.from == edge.to)
+}
+
+/// Merges all states that go on alike, or None where there are so many edges, or the states are told apart so far behind, that it takes long.
+fn merged_in_few_passes<L: Letter>(
+    alloc: Global,
+    a: &Fsa<L>,
+) -> Result<Option<Fsa<L>>, AllocError>
+    ensures letters { IfOk result (λ found. IfSome found (λ m. (x : L) → UsesLetter m x → UsesLetter a.now x)) }
+    ensures language { IfOk result (λ found. IfSome found (λ m. (w : List L) → Accepts m w ↔ Accepts a.now w)) }
+{
+    let passes = STEPS / a.edges().len().saturating_add(1);
+    if passes < FEW {
+        return Ok(None);
+    }
+    wholly_merged(alloc, a, passes)
 }
 
 /// Merges states again and again, as long as that takes away more than a sixteenth of them.

@@ -37,11 +37,7 @@ pub fn straightened(alloc: Global, a: Fsa<Pair>, edges: usize) -> Result<Fsa<Pai
 
 /// A transducer that accepts the same lists of pairs, each on one path, with at most so many edges. None where the given one is like that
 /// already, and where few steps don't make one.
-pub fn straight(
-    alloc: Global,
-    a: &Fsa<Pair>,
-    edges: usize,
-) -> Result<Option<Fsa<Pair>>, AllocError>
+pub fn straight(alloc: Global, a: &Fsa<Pair>, edges: usize) -> Result<Option<Fsa<Pair>>, AllocError>
     ensures letters { IfOk result (λ found. IfSome found (λ m. (x : Pair) → UsesLetter m x → UsesLetter a.now x)) }
     ensures language { IfOk result (λ found. IfSome found (λ m. (w : List Pair) → Accepts m w ↔ Accepts a.now w)) }
 {
