@@ -23,7 +23,7 @@ mod relations;
 mod renaming;
 mod repeating;
 mod sides;
-mod straight;
+mod straightening;
 mod words;
 
 pub use joining::{concat, reduced, union};
@@ -33,5 +33,5 @@ pub use operands::{Operands, alike};
 pub use renaming::{Renaming, renamed};
 pub use repeating::{Times, repeat};
 pub use sides::{cross, inverse, lower, reverse, upper};
-pub use straight::{a_little_more, straight, straightened};
+pub use straightening::{a_little_more, straight, straightened};
 pub use words::word;
