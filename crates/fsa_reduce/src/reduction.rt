@@ -75,10 +75,7 @@ fn has_stay<L>(edges: &[Edge<L>]) -> bool {
 }
 
 /// Merges all states that go on alike, or None where there are so many edges, or the states are told apart so far behind, that it takes long.
-fn merged_in_few_passes<L: Letter>(
-    alloc: Global,
-    a: &Fsa<L>,
-) -> Result<Option<Fsa<L>>, AllocError>
+fn merged_in_few_passes<L: Letter>(alloc: Global, a: &Fsa<L>) -> Result<Option<Fsa<L>>, AllocError>
     ensures letters { IfOk result (λ found. IfSome found (λ m. (x : L) → UsesLetter m x → UsesLetter a.now x)) }
     ensures language { IfOk result (λ found. IfSome found (λ m. (w : List L) → Accepts m w ↔ Accepts a.now w)) }
 {
