@@ -79,7 +79,7 @@ def watch(gate):
 def keeps():
     """Whether the kit's `rt ci` keeps what it proved, and so has a word for a run from nothing."""
     said = subprocess.run(['rt', 'help'], stdout=subprocess.PIPE, stderr=subprocess.STDOUT, text=True).stdout
-    return 'rt ci --anew' in said or '[--anew]' in said
+    return '--anew' in said
 
 
 def stands_on():
