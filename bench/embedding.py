@@ -1,6 +1,7 @@
 #!/usr/bin/env python3
 """Looks up a million words of a lexicon of 2,000 stems through the C library, through the module for Python, and, where they are installed, through libfoma and
-through libhfst's module for Python, in networks of the same expression. Prints processor seconds, what opening takes left out.
+through libhfst's module for Python, in networks of the same expression; through the first two in one thread and in four of the caller's. Prints seconds by the clock, what
+opening takes left out.
 
 usage: bench/embedding.py [WORDS]
 It needs out/libmorph.a and out/libmorph.so (docs/EMBEDDING.md).
@@ -17,6 +18,7 @@ from measure import has_foma, saved_by_foma, write_project
 
 ROOT = Path(__file__).resolve().parent.parent
 DISTINCT = 10_000
+THREADS = (1, 4)
 
 
 def compiled(source, target, *flags):
@@ -34,14 +36,14 @@ def by_python(folder, words, rounds):
     from morph import NoSymbol, Project
     answers = 0
     with Project(folder) as project:
-        before = time.process_time()
+        before = time.perf_counter()
         for _ in range(rounds):
             for word in words:
                 try:
                     answers += len(project.up('Word', word))
                 except NoSymbol:
                     pass
-        return f'{rounds * len(words)} {answers} {time.process_time() - before}'
+        return f'{rounds * len(words)} {answers} {time.perf_counter() - before}'
 
 
 def by_hfst(att, words, rounds):
@@ -50,11 +52,11 @@ def by_hfst(att, words, rounds):
         net = hfst.read_att_transducer(file)
     net.invert()
     net.convert(hfst.ImplementationType.HFST_OLW_TYPE)
-    before, answers = time.process_time(), 0
+    before, answers = time.perf_counter(), 0
     for _ in range(rounds):
         for word in words:
             answers += len(net.lookup(word))
-    return f'{rounds * len(words)} {answers} {time.process_time() - before}'
+    return f'{rounds * len(words)} {answers} {time.perf_counter() - before}'
 
 
 def main():
@@ -74,14 +76,16 @@ def main():
     with tempfile.TemporaryDirectory() as folder:
         write_project(folder, f'define Word {expression} ;\n')
         Path(folder, 'words').write_text(''.join(word + '\n' for word in words))
-        ours = compiled('embedding_words.c', f'{folder}/ours', f'{ROOT}/out/libmorph.a')
-        shown('morph.h', subprocess.run([ours, folder, 'Word', folder, str(rounds)], check=True, capture_output=True, text=True).stdout)
+        ours = compiled('embedding_words.c', f'{folder}/ours', f'{ROOT}/out/libmorph.a', '-lpthread')
+        for threads in THREADS:
+            shown(f'morph.h, {threads}', subprocess.run([ours, folder, 'Word', folder, str(rounds), str(threads)], check=True, capture_output=True, text=True).stdout)
         shown('morph (Python)', by_python(folder, words, rounds))
         if has_foma():
             saved = saved_by_foma(folder, expression)
             try:
-                foma = compiled('embedding_foma.c', f'{folder}/foma', '-lfoma', '-lz')
-                shown('libfoma', subprocess.run([foma, saved, folder, str(rounds)], check=True, capture_output=True, text=True).stdout)
+                foma = compiled('embedding_foma.c', f'{folder}/foma', '-lfoma', '-lz', '-lpthread')
+                for threads in THREADS:
+                    shown(f'libfoma, {threads}', subprocess.run([foma, saved, folder, str(rounds), str(threads)], check=True, capture_output=True, text=True).stdout)
             except (subprocess.CalledProcessError, OSError) as error:
                 print('libfoma:', error)
         try:
