@@ -1,8 +1,9 @@
 ghost use Rattle.std.specs.Prelude.{◌≡◌, ◌≤◌, count_by, drop, length, IfErr, IfOk};
 ghost use Rattle.morph_c.specs.Statuses.{status_of};
-ghost use Rattle.morph_c.specs.Tells.{IsReply, IsTold, is_newline, place_of};
+ghost use Rattle.morph_c.specs.Tells.{IsReply, IsSecondLine, IsTold, is_newline, no_reply, place_of};
 
 use crate::trouble::{NO_ROOM, OK, Trouble, number_of};
+use memchr::memchr;
 
 /// How many bytes a reply has, and what they are.
 #[repr(C)]
@@ -20,11 +21,12 @@ pub struct MorphReply {
 
 /// Where the second line of these bytes begins.
 fn second_line(bytes: &[u8]) -> usize
-    ensures { result ≤ length bytes.now }
+    ensures place { IsSecondLine bytes.now result }
+    ensures within { result ≤ length bytes.now }
 {
-    match bytes.iter().position(|byte| *byte == b'\n') {
-        Some(place) if place < bytes.len() => place + 1,
-        _ => bytes.len(),
+    match memchr(b'\n', bytes) {
+        Some(newline) => newline + 1,
+        None => bytes.len(),
     }
 }
 
@@ -65,7 +67,7 @@ pub(crate) fn tell(answer: Result<Vec<u8>, Trouble>, out: &mut [u8], reply: &mut
     ensures told { IfOk answer (λ bytes. IsTold bytes.items out.old out.new result) }
     ensures reply { IfOk answer (λ bytes. IsReply bytes.items reply.new) }
     ensures trouble { IfErr answer (λ trouble. result ≡ status_of trouble) }
-    ensures place { IfErr answer (λ trouble. reply.new ≡ record { len = 0; at = 0; count = 0; place = place_of trouble }) }
+    ensures place { IfErr answer (λ trouble. reply.new ≡ no_reply trouble) }
     ensures kept { IfErr answer (λ trouble. out.new ≡ out.old) }
 {
     match answer {
