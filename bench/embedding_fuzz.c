@@ -1,4 +1,4 @@
-/* Random calls of the library in lawful order: projects that are filled, opened, shared, asked and closed, with good and bad bytes, unknown names, and buffers
+/* Random calls of the library in lawful order: projects and AT&T texts that are filled, opened, shared, asked and closed, with good and bad bytes, unknown names, and buffers
  * that are too short. It tests what a caller can see: that no byte behind a reply is written, that a reply which found no room comes whole when it has the
  * room that was asked for, and that a status is one of those of the header. An address sanitizer or valgrind tests the rest.
  *
@@ -35,7 +35,16 @@ static const char *const sources[] = {
 };
 static const char *const lexicons[] = { "LEXICON Root\ncat # ;\ndog Number ;\nLEXICON Number\ns # ;\n", "LEXICON Root\ncat Missing ;\n" };
 static const char *const glosses[] = { "cat\tKatze\n+N\t\n", "cat Katze\n" };
-static const char *const names[] = { "project", "a.xfst", "b.lexc", "c.gloss", "missing.xfst", "", "\xC0", "a\nb" };
+static const char *const saved[] = {
+    "0\t1\tc\tc\n1\t2\ta\ta\n2\t3\tt\tt\n3\t4\t+N\t@0@\n4\t5\t+Pl\ts\n4\t5\t+Sg\t@0@\n5\n",
+    "0\t0\ta\n0\t0\tb\n0\n",
+    "0\t1\tc\n1\t1\tx\t@0@\n1\n",
+    "0\t1\t\xC3\xA9\n1\t2\tt\n2\t3\te\xCC\x81\n3\n",
+    "",
+    "0\t1\ta\n1\tb\n",
+    "\xFF\n",
+};
+static const char *const names[] = { "project", "a.xfst", "b.lexc", "c.gloss", "missing.xfst", "", "\xC0", "a\nb", "d.att" };
 static const char *const nets[] = { "Noun", "Lexicon", "Verb", "", "\xFF", "No\nun", "N\xC3\xB6un" };
 static const char *const words[] = { "cat", "cats", "dogs", "c", "ab", "aab", "", "x", "\xC3\xA9t\xC3\xA9", "e\xCC\x81t", "\xE2\x82", "cat\n", "cat+N+Pl", "cat dogs, cat", "\xF0\x9F\x90\x88" };
 
@@ -68,6 +77,7 @@ static uint32_t ask(uint32_t which, morph_project *p, const uint8_t *net, size_t
     case 2: return morph_gloss(p, net, net_len, word, word_len, out, room, reply);
     case 3: return morph_cut(p, word, word_len, out, room, reply);
     case 4: return morph_names(p, out, room, reply);
+    case 5: return morph_att_up(p, word, word_len, out, room, reply);
     default: return morph_fault(p, out, room, reply);
     }
 }
@@ -83,20 +93,23 @@ int main(int argc, char **argv)
         uint32_t kind = pick(100), status;
         if (kind < 4) {
             static const struct { const char *name; const char *const *all; uint32_t count; } files[] = {
-                { "project", manifests, 6 }, { "a.xfst", sources, 9 }, { "b.lexc", lexicons, 2 }, { "c.gloss", glosses, 2 },
+                { "project", manifests, 6 }, { "a.xfst", sources, 9 }, { "b.lexc", lexicons, 2 }, { "c.gloss", glosses, 2 }, { "d.att", saved, 7 },
             };
-            uint32_t f = pick(4);
+            uint32_t f = pick(5);
             const char *content = files[f].all[pick(files[f].count)];
-            const char *name = pick(8) ? files[f].name : names[pick(8)];
+            const char *name = pick(8) ? files[f].name : names[pick(9)];
             status = morph_put(p, BYTES(name), BYTES(content));
         } else if (kind < 6) {
             status = morph_open(p);
         } else if (kind < 7) {
+            const char *name = names[pick(4) ? 8 : pick(9)];
+            status = morph_open_att(p, BYTES(name));
+        } else if (kind < 8) {
             morph_project *other = p;
             while (other == p)
                 other = &projects[pick(PROJECTS)];
             status = morph_share(p, other);
-        } else if (kind < 8) {
+        } else if (kind < 9) {
             morph_close(p);
             status = MORPH_OK;
             if (pick(2))
@@ -106,7 +119,7 @@ int main(int argc, char **argv)
             size_t len = word_of(word), room = pick(3) ? ROOM : pick(64);
             uint8_t *in = malloc(len ? len : 1), *out = malloc(room ? room : 1);
             morph_reply reply = { 7, 7, 7, 7 };
-            uint32_t which = pick(6);
+            uint32_t which = pick(7);
             memcpy(in, word, len);
             memset(out, 0xA5, room ? room : 1);
             status = ask(which, p, BYTES(net), in, len, out, room, &reply);

@@ -1,4 +1,4 @@
-/* morph.h - look-ups in projects of finite-state morphology, for programs in C and C++.
+/* morph.h - look-ups in projects of finite-state morphology, and in networks saved as AT&T text, for programs in C and C++.
  *
  * The library is crates/morph_c/out/libmorph_c.a, which `rt lib` makes in crates/morph_c. It prints nothing, stops at no input and
  * starts no thread. Each call answers with one of the numbers of `enum morph_status`, except morph_close. docs/EMBEDDING.md says how a
@@ -77,7 +77,12 @@ uint32_t morph_put(morph_project *project, const uint8_t *name, size_t name_len,
  * MORPH_REFUSED: the project has the first fault of its files then, which morph_fault tells. MORPH_STATE: no file was put, or it has been opened. */
 uint32_t morph_open(morph_project *project);
 
-/* Makes `other` an owner of the same open project. Nothing is copied. What `other` had is let go.
+/* Opens the one of the files that has this name as an AT&T text, a network that is saved, in place of what morph_open does. The project is asked by
+ * morph_att_up alone then, and no other file is read. The text's symbols are those that its arcs name.
+ * MORPH_REFUSED: there is no such file, or it has a fault, which morph_fault tells. MORPH_STATE: no file was put, or the project has been opened. */
+uint32_t morph_open_att(morph_project *project, const uint8_t *name, size_t name_len);
+
+/* Makes `other` an owner of the same open project or AT&T text. Nothing is copied. What `other` had is let go.
  * MORPH_STATE: the project isn't open. */
 uint32_t morph_share(morph_project *project, morph_project *other);
 
@@ -95,6 +100,10 @@ uint32_t morph_up(morph_project *project, const uint8_t *net, size_t net_len, co
 /* The lower words of a word in a name, which are its forms, in the same way. */
 uint32_t morph_down(morph_project *project, const uint8_t *net, size_t net_len, const uint8_t *word, size_t word_len, uint8_t *out, size_t out_len, morph_reply *reply);
 
+/* The upper words of a word in the AT&T text that is open, in the same way; a text has no names.
+ * MORPH_STATE: no AT&T text is open. */
+uint32_t morph_att_up(morph_project *project, const uint8_t *word, size_t word_len, uint8_t *out, size_t out_len, morph_reply *reply);
+
 /* The words of a line of text in columns, above their analyses and glosses: "1 gloss N" and three lines; or "1 net NAME".
  * MORPH_STATE: the project isn't open. */
 uint32_t morph_gloss(morph_project *project, const uint8_t *net, size_t net_len, const uint8_t *text, size_t text_len, uint8_t *out, size_t out_len, morph_reply *reply);
@@ -107,8 +116,8 @@ uint32_t morph_cut(morph_project *project, const uint8_t *word, size_t word_len,
  * MORPH_STATE: the project isn't open. */
 uint32_t morph_names(morph_project *project, uint8_t *out, size_t out_len, morph_reply *reply);
 
-/* The first fault of the files: the line "refused FILE LINE REASON".
- * MORPH_STATE: morph_open didn't answer MORPH_REFUSED. */
+/* The first fault of the files, or of the file that was to be an AT&T text: the line "refused FILE LINE REASON".
+ * MORPH_STATE: neither morph_open nor morph_open_att answered MORPH_REFUSED. */
 uint32_t morph_fault(morph_project *project, uint8_t *out, size_t out_len, morph_reply *reply);
 
 #ifdef __cplusplus

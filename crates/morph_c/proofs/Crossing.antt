@@ -20,8 +20,12 @@ use Rattle.regex_ast.specs.contracts.lexc.Lexicon as lexicon
 use Rattle.regex_ast.specs.contracts.twolc.Grammar as grammar
 use Rattle.regex_ast.specs.contracts.twolc.PairAtom as pair
 use Rattle.regex_ast.specs.contracts.twolc.PairPart as part
+use Rattle.saved_networks.proofs.network.SavedNetwork.TheSendSync as network
+use Rattle.saved_networks.specs.contracts.faults.SavedWhy as saved_why
 use Rattle.morph_c.specs.contracts.held.Held as held
 use Rattle.morph_c.specs.contracts.held.Opened as opened
+use Rattle.morph_c.specs.contracts.held.SavedOwner as owner
+use Rattle.morph_c.specs.contracts.held.SavedRefusal as refusal
 
 expr_send : IsSend (expr.the_field atom.the_row).row
 expr_send = search (sendable, crosses, knot.send-Expr) depth 40
@@ -86,5 +90,14 @@ why_send = search sendable depth 200
 fault_send : IsSend fault.the_field.row
 fault_send = let w = why_send in search (sendable, crosses, text.the_send) depth 20
 
+owner_send : IsSend owner.the_row
+owner_send = search (sendable, crosses, network.the_send, network.the_sync) depth 20
+
+saved_why_send : IsSend saved_why.the_field.row
+saved_why_send = search sendable depth 200
+
+refusal_send : IsSend refusal.the_field.row
+refusal_send = let w = saved_why_send in search (sendable, crosses, text.the_send) depth 20
+
 pub held_send : IsSend held.the_field.row
-held_send = let o = opened_send in let f = fault_send in search (sendable, crosses, sources.the_send) depth 40
+held_send = let o = opened_send in let f = fault_send in let n = owner_send in let r = refusal_send in search (sendable, crosses, sources.the_send) depth 40

@@ -1,10 +1,10 @@
 ghost use Rattle.std.specs.Prelude.{◌≡◌};
 ghost use Rattle.lookup_answers.specs.declared.direction.Direction.TheVariants.{Down, Up};
-ghost use Rattle.morph_c.specs.Asking.{AreListed, IsCut, IsFault, IsGlossed, IsLookedUp, IsNoCut, IsNoFault, IsNoLook, IsWhyNone};
+ghost use Rattle.morph_c.specs.Asking.{AreListed, IsCut, IsFault, IsGlossed, IsLookedUp, IsLookedUpInSaved, IsNoCut, IsNoFault, IsNoLook, IsNoLookInSaved, IsWhyNone};
 ghost use Rattle.morph_c.specs.Tells.{Tells};
 
 use crate::project::{MorphProject, put_back, taken};
-use crate::replies::{cut_up, fault_in, glossed, looked_up, names_in};
+use crate::replies::{cut_up, fault_in, glossed, looked_up, looked_up_in_saved, names_in};
 use crate::told::{MorphReply, tell};
 use lookup_answers::Direction;
 use std::alloc::Global;
@@ -101,7 +101,25 @@ pub extern "C" fn morph_names(
     tell(answer, out, reply)
 }
 
-/// The first fault of the files.
+/// The reply to a word that is looked up in an AT&T text: its upper words.
+#[unsafe(no_mangle)]
+pub extern "C" fn morph_att_up(
+    alloc: Global,
+    project: &mut MorphProject,
+    word: &[u8],
+    out: &mut [u8],
+    reply: &mut MorphReply,
+) -> u32
+    ensures told { Tells (IsLookedUpInSaved project.old.slot.value word.now) (IsNoLookInSaved project.old.slot.value word.now) out.old out.new reply.new result }
+    ensures kept { project.new.slot.value ≡ project.old.slot.value }
+{
+    let held = taken(alloc, project);
+    let answer = looked_up_in_saved(alloc, &held, word);
+    put_back(alloc, project, held);
+    tell(answer, out, reply)
+}
+
+/// The first fault of the files, or of the one that was to be an AT&T text.
 #[unsafe(no_mangle)]
 pub extern "C" fn morph_fault(
     alloc: Global,

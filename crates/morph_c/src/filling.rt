@@ -1,18 +1,22 @@
 ghost use Rattle.std.specs.Prelude.{◌≡◌, ◌⊎◌, [], Err, IfErr, IfOk, None, Ok, Some};
 ghost use Rattle.std.specs.Option.{option_map};
+ghost use Rattle.fsm_io.specs.Folders.{file_of};
 ghost use Rattle.project_store.specs.Projects.{IsWhyNot};
-ghost use Rattle.morph_c.specs.Filling.{AreGathered, Becomes, IsFirstOf, IsLate, IsNoPut, IsNotOpened, IsNotShared, IsOpenedFrom, IsSameOpen, IsWithFile, status_in};
+ghost use Rattle.saved_networks.specs.Faults.{IsWhyRefused, file_fault};
+ghost use Rattle.morph_c.specs.Filling.{AreGathered, Becomes, IsFirstOf, IsLate, IsNoPut, HasSaved, IsNotOpened, IsNotShared, IsOpenedFrom, IsSameOpen, IsSavedIn, IsSavedNotOpened, IsSavedOpenedFrom, IsWithFile, status_in};
 ghost use Rattle.morph_c.specs.Statuses.{status_of};
 ghost use Rattle.morph_c.specs.declared.held.Held.TheVariants.{Gathered};
 ghost use Rattle.morph_c.specs.declared.trouble.Trouble.TheVariants.{Memory, State};
 
-use crate::held::{Held, Opened};
+use crate::held::{Held, Opened, SavedOwner, SavedRefusal};
 use crate::project::{MorphProject, put_back, taken};
-use crate::replies::{line_of, opened};
+use crate::replies::line_of;
 use crate::trouble::{OK, Trouble, number_of};
+use fsm_base::Text;
 use project_sources::Sources;
 use project_store::{StoreError, read};
 use project_versions::load;
+use saved_networks::{SavedError, SavedWhy, open};
 use std::alloc::Global;
 
 /// The files that were put so far, none before the first. Their contents are shared.
@@ -28,7 +32,9 @@ fn files_in(alloc: Global, held: &Option<Box<Held>>) -> Result<Sources, Trouble>
             let files = sources.clone()?;
             Ok(files)
         }
-        Held::Faulty(_) | Held::Open(_) => Err(Trouble::State),
+        Held::Faulty(_) | Held::Open(_) | Held::Saved(_) | Held::Unreadable(_) => {
+            Err(Trouble::State)
+        }
     }
 }
 
@@ -75,18 +81,81 @@ fn opened_from(alloc: Global, held: &Option<Box<Held>>) -> Result<Held, Trouble>
             Err(StoreError::Refused(fault)) => Ok(Held::Faulty(fault)),
             Err(StoreError::Memory(_)) => Err(Trouble::Memory),
         },
-        Held::Faulty(_) | Held::Open(_) => Err(Trouble::State),
+        Held::Faulty(_) | Held::Open(_) | Held::Saved(_) | Held::Unreadable(_) => {
+            Err(Trouble::State)
+        }
     }
 }
 
-/// One more owner of the version that is open.
+/// The network of a file that is an AT&T text, or why it is none.
+fn network_in(alloc: Global, files: &Sources, name: &str) -> Result<SavedOwner, SavedError>
+    ensures network { IfOk result (HasSaved files.now name.now) }
+    ensures error { IfErr result (IsWhyRefused (file_fault (file_of name.now files.now))) }
+{
+    let Some(bytes) = files.get(name) else {
+        return Err(SavedError::Refused {
+            line: 0,
+            why: SavedWhy::NoFile,
+        });
+    };
+    let network = open(alloc, bytes)?;
+    let owner = SavedOwner::of(alloc, network)?;
+    Ok(owner)
+}
+
+/// The network of a file that is an AT&T text, or its first fault.
+fn saved_in(alloc: Global, files: &Sources, name: &str) -> Result<Held, Trouble>
+    ensures next { IfOk result (IsSavedIn files.now name.now) }
+    ensures trouble { IfErr result (λ why. why ≡ Memory) }
+{
+    match network_in(alloc, files, name) {
+        Ok(owner) => Ok(Held::Saved(owner)),
+        Err(SavedError::Refused { line, why }) => {
+            let file = Text::of(alloc, name)?;
+            Ok(Held::Unreadable(SavedRefusal { file, line, why }))
+        }
+        Err(SavedError::Memory(_)) => Err(Trouble::Memory),
+    }
+}
+
+/// The network of a file that was put and is an AT&T text, or its first fault.
+fn saved_from(alloc: Global, held: &Option<Box<Held>>, name: &[u8]) -> Result<Held, Trouble>
+    ensures next { IfOk result (IsSavedOpenedFrom (option_map (λ b. b.value) held.now) name.now) }
+    ensures trouble { IfErr result (IsSavedNotOpened (option_map (λ b. b.value) held.now) name.now) }
+{
+    let Some(held) = held else {
+        return Err(Trouble::State);
+    };
+    match held.as_ref() {
+        Held::Gathered(files) => {
+            let name = line_of(name)?;
+            saved_in(alloc, files, name)
+        }
+        Held::Faulty(_) | Held::Open(_) | Held::Saved(_) | Held::Unreadable(_) => {
+            Err(Trouble::State)
+        }
+    }
+}
+
+/// One more owner of what is open.
 fn shared(held: &Option<Box<Held>>) -> Result<Held, Trouble>
     ensures next { IfOk result (IsSameOpen (option_map (λ b. b.value) held.now)) }
     ensures trouble { IfErr result (IsNotShared (option_map (λ b. b.value) held.now)) }
 {
-    let opened = opened(held)?;
-    let other = opened.share()?;
-    Ok(Held::Open(other))
+    let Some(held) = held else {
+        return Err(Trouble::State);
+    };
+    match held.as_ref() {
+        Held::Open(opened) => {
+            let other = opened.share()?;
+            Ok(Held::Open(other))
+        }
+        Held::Saved(owner) => {
+            let other = owner.share()?;
+            Ok(Held::Saved(other))
+        }
+        Held::Gathered(_) | Held::Faulty(_) | Held::Unreadable(_) => Err(Trouble::State),
+    }
 }
 
 /// The number that tells what a project has become.
@@ -94,8 +163,8 @@ fn number_in(held: &Held) -> u32
     ensures { result ≡ status_in held.now }
 {
     match held {
-        Held::Faulty(_) => number_of(&Trouble::Refused),
-        Held::Gathered(_) | Held::Open(_) => OK,
+        Held::Faulty(_) | Held::Unreadable(_) => number_of(&Trouble::Refused),
+        Held::Gathered(_) | Held::Open(_) | Held::Saved(_) => OK,
     }
 }
 
@@ -164,7 +233,18 @@ pub extern "C" fn morph_open(alloc: Global, project: &mut MorphProject) -> u32
     become_next(alloc, project, held, next)
 }
 
-/// Gives another owner the version that is open. What the other has is let go.
+/// Opens the file of this name, of those that were put, as an AT&T text, or keeps its first fault.
+#[unsafe(no_mangle)]
+pub extern "C" fn morph_open_att(alloc: Global, project: &mut MorphProject, name: &[u8]) -> u32
+    ensures { Becomes (IsSavedOpenedFrom project.old.slot.value name.now) (IsSavedNotOpened project.old.slot.value name.now) project.old.slot.value project.new.slot.value result }
+{
+    let held = taken(alloc, project);
+    let next = saved_from(alloc, &held, name);
+    let next = boxed(alloc, next);
+    become_next(alloc, project, held, next)
+}
+
+/// Gives another owner what is open. What the other has is let go.
 #[unsafe(no_mangle)]
 pub extern "C" fn morph_share(
     alloc: Global,

@@ -2,10 +2,12 @@ ghost use Rattle.std.specs.Prelude.{◌≡◌, IfOk};
 ghost use Rattle.std.specs.Arc.{arc_value};
 ghost use Rattle.project_store.specs.Projects.{IsRead};
 
+use fsm_base::Text;
 use project_sources::Sources;
 use project_store::Project;
 use project_versions::Version;
 use regex_ast::Fault;
+use saved_networks::{SavedNetwork, SavedWhy};
 use std::alloc::{AllocError, Global};
 use std::marker::Model;
 use std::sync::Arc;
@@ -19,6 +21,10 @@ pub enum Held {
     Faulty(Fault),
     /// The project that they say.
     Open(Opened),
+    /// The network of an AT&T text, which one of them was.
+    Saved(SavedOwner),
+    /// The first fault of the one that was to be an AT&T text.
+    Unreadable(SavedRefusal),
 }
 
 /// A project that is open. It may have several owners, which share it. Contracts see its version.
@@ -85,6 +91,58 @@ impl Opened {
         let project = Arc::try_clone(&self.project)?;
         Ok(Opened { version, project })
     }
+}
+
+/// The network of an AT&T text that is open. It may have several owners, which share it. Contracts see the network.
+#[derive(Drop)]
+pub struct SavedOwner {
+    /// The network.
+    network: Arc<SavedNetwork>,
+}
+
+impl Model for SavedOwner {
+    ghost use Rattle.std.specs.Arc.{arc_value};
+    ghost use Rattle.saved_networks.specs.Networks.{SavedView};
+
+    ghost Value = { SavedView };
+
+    ghost view = { λ o. arc_value o.network };
+}
+
+impl SavedOwner {
+    /// The first owner of a network.
+    pub(crate) fn of(alloc: Global, network: SavedNetwork) -> Result<SavedOwner, AllocError>
+        ensures { IfOk result (λ owner. owner ≡ network) }
+    {
+        let network = Arc::new(alloc, network)?;
+        Ok(SavedOwner { network })
+    }
+
+    /// The network.
+    pub(crate) fn network(&self) -> &SavedNetwork
+        ensures { result.now ≡ self.now }
+    {
+        &self.network
+    }
+
+    /// One more owner of the same. Nothing is copied.
+    pub(crate) fn share(&self) -> Result<SavedOwner, AllocError>
+        ensures { IfOk result (λ owner. owner ≡ self.now) }
+    {
+        let network = Arc::try_clone(&self.network)?;
+        Ok(SavedOwner { network })
+    }
+}
+
+/// What is wrong with a file that was to be an AT&T text, and where.
+#[derive(Debug, Drop)]
+pub struct SavedRefusal {
+    /// The file.
+    pub file: Text,
+    /// The line, counted from 1; 0 is the file as a whole.
+    pub line: u32,
+    /// The reason.
+    pub why: SavedWhy,
 }
 
 /// Takes what may go to another thread. It does nothing when it runs.

@@ -3,10 +3,10 @@ ghost use Rattle.std.specs.Option.{option_map};
 ghost use Rattle.word_relations.specs.Words.{IsOver};
 ghost use Rattle.fsm_base.specs.Alphabet.{spelled, symbols_of};
 ghost use Rattle.fsm_io.specs.Lines.{most_line};
-ghost use Rattle.morph_c.specs.Asking.{AreListed, IsCut, IsFault, IsGlossed, IsLookedUp, IsNoCut, IsNoFault, IsNoLine, IsNoLook, IsNotOpen, IsOpen, IsWhyNone, listed};
+ghost use Rattle.morph_c.specs.Asking.{AreListed, IsCut, IsFault, IsGlossed, IsLookedUp, IsLookedUpInSaved, IsNoCut, IsNoFault, IsNoLine, IsNoLook, IsNoLookInSaved, IsNotOpen, IsNotSaved, IsOpen, IsSaved, IsWhyNone, listed};
 ghost use Rattle.morph_c.specs.declared.trouble.Trouble.TheVariants.{State};
 
-use crate::held::{Held, Opened};
+use crate::held::{Held, Opened, SavedOwner};
 use crate::trouble::Trouble;
 use fsm_base::{Alphabet, Sym, Text, TokensError, nfc};
 use lookup_answers::Direction;
@@ -17,6 +17,9 @@ use std::str;
 
 /// The most bytes of a name, a word or a text.
 const MOST_BYTES: usize = 4_096;
+
+/// The number of the version of an AT&T text, which has no later one.
+const FIRST_VERSION: u64 = 1;
 
 /// The text that bytes are, on one line.
 pub(crate) fn line_of(bytes: &[u8]) -> Result<&str, Trouble>
@@ -46,7 +49,25 @@ pub(crate) fn opened(held: &Option<Box<Held>>) -> Result<&Opened, Trouble>
     };
     match held.as_ref() {
         Held::Open(opened) => Ok(opened),
-        Held::Gathered(_) | Held::Faulty(_) => Err(Trouble::State),
+        Held::Gathered(_) | Held::Faulty(_) | Held::Saved(_) | Held::Unreadable(_) => {
+            Err(Trouble::State)
+        }
+    }
+}
+
+/// The network of the AT&T text that is open.
+fn saved_in(held: &Option<Box<Held>>) -> Result<&SavedOwner, Trouble>
+    ensures saved { IfOk result (λ owner. IsSaved (option_map (λ b. b.value) held.now) owner.now) }
+    ensures trouble { IfErr result (λ why. (why ≡ State) × IsNotSaved (option_map (λ b. b.value) held.now)) }
+{
+    let Some(held) = held else {
+        return Err(Trouble::State);
+    };
+    match held.as_ref() {
+        Held::Saved(owner) => Ok(owner),
+        Held::Gathered(_) | Held::Faulty(_) | Held::Open(_) | Held::Unreadable(_) => {
+            Err(Trouble::State)
+        }
     }
 }
 
@@ -65,6 +86,24 @@ pub(crate) fn looked_up(
     let net = line_of(net)?;
     let word = line_of(word)?;
     let bytes = reply_to_word(alloc, opened.version(), direction, net, word)?;
+    Ok(bytes)
+}
+
+/// The reply to a word that is looked up in an AT&T text.
+pub(crate) fn looked_up_in_saved(
+    alloc: Global,
+    held: &Option<Box<Held>>,
+    word: &[u8],
+) -> Result<Vec<u8>, Trouble>
+    ensures reply { IfOk result (λ bytes. IsLookedUpInSaved (option_map (λ b. b.value) held.now) word.now bytes.items) }
+    ensures trouble { IfErr result (IsNoLookInSaved (option_map (λ b. b.value) held.now) word.now) }
+{
+    let owner = saved_in(held)?;
+    let word = line_of(word)?;
+    let word = nfc(alloc, word)?;
+    let bytes = owner
+        .network()
+        .reply_to(alloc, FIRST_VERSION, word.as_str())?;
     Ok(bytes)
 }
 
@@ -160,6 +199,11 @@ pub(crate) fn fault_in(alloc: Global, held: &Option<Box<Held>>) -> Result<Vec<u8
             let bytes = refused(alloc, fault)?;
             Ok(bytes)
         }
-        Held::Gathered(_) | Held::Open(_) => Err(Trouble::State),
+        Held::Unreadable(refusal) => {
+            let file = refusal.file.as_str();
+            let bytes = saved_networks::refused(alloc, file, refusal.line, refusal.why)?;
+            Ok(bytes)
+        }
+        Held::Gathered(_) | Held::Open(_) | Held::Saved(_) => Err(Trouble::State),
     }
 }

@@ -7,10 +7,11 @@
         for word, analyses in project.analyses("Noun", open("text.txt")):
             print(word, analyses)
 
-`Project` reads a folder and opens the project in it; its methods look words up. What goes wrong is an exception, each with a class of its
-own below `MorphError`. The library is `libmorph.so` beside this file, or what the environment's `MORPH_LIBRARY` names.
+`Project` reads a folder and opens the project in it; its methods look words up. `Saved` opens a network that was saved as AT&T text, and looks
+words up in that. What goes wrong is an exception, each with a class of its own below `MorphError`. The library is `libmorph.so` beside this
+file, or what the environment's `MORPH_LIBRARY` names.
 
-A `Project` is for one thread at a time. `share` gives another thread one of its own, over the same networks.
+A `Project` or a `Saved` is for one thread at a time. `share` gives another thread one of its own, over the same networks.
 """
 
 from __future__ import annotations
@@ -19,10 +20,10 @@ import ctypes
 import os
 import re
 from pathlib import Path
-from typing import Iterable, Iterator, List, Mapping, Optional, Tuple, Union
+from typing import Iterable, Iterator, List, Mapping, Optional, Tuple, TypeVar, Union
 
 __all__ = [
-    "Project", "MorphError", "NoMemory", "WrongState", "BadText", "Refused", "NoSymbol", "NoNet", "TooMany", "Endless",
+    "Project", "Saved", "MorphError", "NoMemory", "WrongState", "BadText", "Refused", "NoSymbol", "NoNet", "TooMany", "Endless",
 ]
 
 OK, NO_ROOM, NO_MEMORY, STATE, NOT_UTF8, LONG, NEWLINE, REFUSED, NO_SYMBOL = range(9)
@@ -37,7 +38,7 @@ class NoMemory(MorphError):
 
 
 class WrongState(MorphError):
-    """The project isn't open, or is closed."""
+    """The project or the network isn't open, or is closed."""
 
 
 class BadText(MorphError):
@@ -53,7 +54,7 @@ class Refused(MorphError):
 
 
 class NoSymbol(MorphError):
-    """No symbol of the project begins at the character `place` of `word`, counted from 1."""
+    """No symbol of the project, or of the text, begins at the character `place` of `word`, counted from 1."""
 
     def __init__(self, word: str, place: int) -> None:
         super().__init__(f"no symbol begins at character {place} of {word!r}")
@@ -95,13 +96,14 @@ def _load() -> ctypes.CDLL:
     text, buffer = [ctypes.c_char_p, size], [ctypes.POINTER(ctypes.c_char), size]
     library.morph_put.argtypes = [handle, *text, *text]
     library.morph_open.argtypes = [handle]
+    library.morph_open_att.argtypes = [handle, *text]
     library.morph_share.argtypes = [handle, handle]
     library.morph_close.argtypes = [handle]
     library.morph_close.restype = None
     library.morph_up.argtypes = library.morph_down.argtypes = library.morph_gloss.argtypes = [handle, *text, *text, *buffer, reply]
-    library.morph_cut.argtypes = [handle, *text, *buffer, reply]
+    library.morph_cut.argtypes = library.morph_att_up.argtypes = [handle, *text, *buffer, reply]
     library.morph_names.argtypes = library.morph_fault.argtypes = [handle, *buffer, reply]
-    for call in ("put", "open", "share", "up", "down", "gloss", "cut", "names", "fault"):
+    for call in ("put", "open", "open_att", "share", "up", "down", "att_up", "gloss", "cut", "names", "fault"):
         getattr(library, f"morph_{call}").restype = ctypes.c_uint32
     return library
 
@@ -124,7 +126,99 @@ def _files(folder: Path) -> Iterator[Tuple[str, bytes]]:
             yield name, (folder / name).read_bytes()
 
 
-class Project:
+_Self = TypeVar("_Self", bound="_Open")
+
+
+class _Open:
+    """What the library holds, with a buffer for its replies."""
+
+    _handle: Optional[_Handle] = None
+
+    def _begin(self) -> None:
+        global _library
+        if _library is None:
+            _library = _load()
+        self._handle = _Handle()
+        self._reply = _Reply()
+        self._buffer = ctypes.create_string_buffer(4096)
+
+    def close(self) -> None:
+        """Lets go of the networks. A second call does nothing."""
+        if _library is not None and self._handle is not None:
+            _library.morph_close(self._handle)
+
+    def __enter__(self: _Self) -> _Self:
+        return self
+
+    def __exit__(self, *what: object) -> None:
+        self.close()
+
+    def __del__(self) -> None:
+        self.close()
+
+    def share(self: _Self) -> _Self:
+        """Another owner of the same networks, for another thread. Nothing is copied."""
+        other = type(self).__new__(type(self))
+        other._begin()
+        self._check(_library.morph_share(self._handle, other._handle))
+        return other
+
+    def _put(self, name: Union[str, bytes], content: Union[str, bytes]) -> None:
+        data = content.encode("utf-8") if isinstance(content, str) else content
+        key = os.fsencode(name)
+        self._check(_library.morph_put(self._handle, key, len(key), data, len(data)))
+
+    def _opened(self, status: int) -> None:
+        if status == REFUSED:
+            raise self._fault()
+        self._check(status)
+
+    def _answers(self, word: str, lines: List[str]) -> List[str]:
+        kind = lines[0].split(" ", 2)[1]
+        if kind == "symbol":
+            raise NoSymbol(word, int(lines[0].split(" ", 3)[2]))
+        if kind == "more":
+            raise TooMany(word)
+        if kind == "loop":
+            raise Endless(word, *lines[1:4])
+        return lines[1:]
+
+    def _lines(self, call, *texts: str) -> List[str]:
+        words: list = []
+        for text in texts:
+            try:
+                data = text.encode("utf-8")
+            except UnicodeEncodeError as error:
+                raise BadText(str(error)) from None
+            words += [data, len(data)]
+        while True:
+            status = call(self._handle, *words, self._buffer, len(self._buffer), self._reply)
+            if status != NO_ROOM:
+                break
+            self._buffer = ctypes.create_string_buffer(self._reply.len)
+        if status == NO_SYMBOL:
+            raise NoSymbol(texts[-1], self._reply.place)
+        self._check(status)
+        return self._buffer[: self._reply.len].decode("utf-8").split("\n")[:-1]
+
+    def _fault(self) -> Refused:
+        line = self._lines(_library.morph_fault)[0]
+        file, number, reason = line[len("refused "):].rsplit(" ", 2)
+        return Refused(file, int(number), reason)
+
+    @staticmethod
+    def _check(status: int) -> None:
+        if status == NO_MEMORY:
+            raise NoMemory()
+        if status == STATE:
+            raise WrongState("it isn't open")
+        if status in (NOT_UTF8, LONG, NEWLINE):
+            raise BadText({NOT_UTF8: "not UTF-8", LONG: "more than 4,096 bytes", NEWLINE: "a newline"}[status])
+        if status != OK:
+            raise MorphError(f"status {status}")
+
+
+class Project(_Open):
     """The project in a folder, or of files in memory, which is opened at once.
 
     :param files: the folder, or the content of each file by its name; one of them is called `project`.
@@ -133,47 +227,15 @@ class Project:
     """
 
     def __init__(self, files: Union[str, "os.PathLike[str]", Mapping[str, Union[str, bytes]]]) -> None:
-        global _library
-        if _library is None:
-            _library = _load()
-        self._handle = _Handle()
-        self._reply = _Reply()
-        self._buffer = ctypes.create_string_buffer(4096)
+        self._begin()
         pairs = files.items() if isinstance(files, Mapping) else _files(Path(files))
         try:
             for name, content in pairs:
-                data = content.encode("utf-8") if isinstance(content, str) else content
-                key = os.fsencode(name)
-                self._check(_library.morph_put(self._handle, key, len(key), data, len(data)))
-            status = _library.morph_open(self._handle)
-            if status == REFUSED:
-                raise self._fault()
-            self._check(status)
+                self._put(name, content)
+            self._opened(_library.morph_open(self._handle))
         except BaseException:
             self.close()
             raise
-
-    def close(self) -> None:
-        """Lets go of the project. A second call does nothing."""
-        if _library is not None:
-            _library.morph_close(self._handle)
-
-    def __enter__(self) -> "Project":
-        return self
-
-    def __exit__(self, *what: object) -> None:
-        self.close()
-
-    def __del__(self) -> None:
-        if getattr(self, "_handle", None) is not None:
-            self.close()
-
-    def share(self) -> "Project":
-        """Another owner of the same project, for another thread. Nothing is copied."""
-        other = Project.__new__(Project)
-        other._handle, other._reply, other._buffer = _Handle(), _Reply(), ctypes.create_string_buffer(4096)
-        self._check(_library.morph_share(self._handle, other._handle))
-        return other
 
     def up(self, net: str, word: str) -> List[str]:
         """The upper words of a word in a name, which are its analyses, in the order of their bytes.
@@ -233,47 +295,40 @@ class Project:
 
     def _words(self, call, net: str, word: str) -> List[str]:
         lines = self._lines(call, net, word)
-        kind = lines[0].split(" ", 2)[1]
-        if kind == "net":
+        if lines[0].split(" ", 2)[1] == "net":
             raise NoNet(net)
-        if kind == "symbol":
-            raise NoSymbol(word, int(lines[0].split(" ", 3)[2]))
-        if kind == "more":
-            raise TooMany(word)
-        if kind == "loop":
-            raise Endless(word, *lines[1:4])
-        return lines[1:]
+        return self._answers(word, lines)
 
-    def _lines(self, call, *texts: str) -> List[str]:
-        words: list = []
-        for text in texts:
-            try:
-                data = text.encode("utf-8")
-            except UnicodeEncodeError as error:
-                raise BadText(str(error)) from None
-            words += [data, len(data)]
-        while True:
-            status = call(self._handle, *words, self._buffer, len(self._buffer), self._reply)
-            if status != NO_ROOM:
-                break
-            self._buffer = ctypes.create_string_buffer(self._reply.len)
-        if status == NO_SYMBOL:
-            raise NoSymbol(texts[-1], self._reply.place)
-        self._check(status)
-        return self._buffer[: self._reply.len].decode("utf-8").split("\n")[:-1]
 
-    def _fault(self) -> Refused:
-        line = self._lines(_library.morph_fault)[0]
-        file, number, reason = line[len("refused "):].rsplit(" ", 2)
-        return Refused(file, int(number), reason)
+class Saved(_Open):
+    """A network that was saved as AT&T text, in a file or in memory, which is opened at once.
 
-    @staticmethod
-    def _check(status: int) -> None:
-        if status == NO_MEMORY:
-            raise NoMemory()
-        if status == STATE:
-            raise WrongState("the project isn't open")
-        if status in (NOT_UTF8, LONG, NEWLINE):
-            raise BadText({NOT_UTF8: "not UTF-8", LONG: "more than 4,096 bytes", NEWLINE: "a newline"}[status])
-        if status != OK:
-            raise MorphError(f"status {status}")
+    :param content_or_path: the text as bytes, or the path of its file.
+    :raises Refused: the text has a fault.
+    :raises OSError: the file can't be read.
+    """
+
+    def __init__(self, content_or_path: Union[bytes, str, "os.PathLike[str]"]) -> None:
+        self._begin()
+        if isinstance(content_or_path, bytes):
+            name, content = "text", content_or_path
+        else:
+            path = Path(content_or_path)
+            name, content = path.name, path.read_bytes()
+        try:
+            self._put(name, content)
+            key = os.fsencode(name)
+            self._opened(_library.morph_open_att(self._handle, key, len(key)))
+        except BaseException:
+            self.close()
+            raise
+
+    def up(self, word: str) -> List[str]:
+        """The upper words of a word, in the order of their bytes.
+
+        :raises NoSymbol: no symbol of the text begins at a character of the word.
+        :raises TooMany: there are more than 4,096.
+        :raises Endless: there are endlessly many.
+        :raises BadText: the word isn't one line of at most 4,096 bytes.
+        """
+        return self._answers(word, self._lines(_library.morph_att_up, word))
