@@ -32,7 +32,7 @@ pub use lines::{LineEvent, Lines, MOST_LINE};
 pub use memory_folder::{MemoryFolder, Request};
 pub use memory_sink::MemorySink;
 pub use memory_source::MemorySource;
-pub use outbox::Outbox;
+pub use outbox::{MOST_GATHERED, Outbox};
 pub use read_source::ReadSource;
 pub use sink::{Sink, write_all};
 pub use source::{Failed, Source};

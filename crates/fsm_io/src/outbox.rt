@@ -1,4 +1,5 @@
-ghost use Rattle.std.specs.Prelude.{◌≡◌, ℕ, ◌↔◌, [], IfOk, IsTrue};
+ghost use Rattle.std.specs.Prelude.{◌≡◌, ◌≤◌, ℕ, ◌↔◌, [], IfOk, IsTrue, length};
+ghost use Rattle.fsm_io.specs.Buffers.{most_gathered};
 ghost use Rattle.fsm_io.specs.Causes.{HasCause};
 ghost use Rattle.fsm_io.specs.Sinks.{Gathers};
 
@@ -7,6 +8,9 @@ use crate::sink::{Sink, write_all};
 use crate::source::Failed;
 use std::alloc::{AllocError, Global};
 use std::marker::Model;
+
+/// The most bytes that an outbox gathers.
+pub const MOST_GATHERED: usize = 65_536;
 
 /// Gathers small pieces before they go to a sink. Contracts see it as the bytes that are gathered and
 /// not yet written.
@@ -17,20 +21,23 @@ pub struct Outbox {
 }
 
 impl Model for Outbox {
-    ghost use Rattle.std.specs.Prelude.{List, ℕ};
+    ghost use Rattle.std.specs.Prelude.{◌≤◌, List, ℕ};
+    ghost use Rattle.fsm_io.specs.Buffers.{most_gathered};
 
     ghost Value = { List ℕ };
 
     ghost view = { λ b. b.gathered.held };
+
+    ghost invariant = { λ b. b.gathered.room ≤ most_gathered };
 }
 
 impl Outbox {
-    /// An empty outbox with memory for `room` bytes. It takes none later.
+    /// An empty outbox with memory for `room` bytes, but no more than [`MOST_GATHERED`]. It takes none later.
     pub fn open(alloc: Global, room: usize) -> Result<Outbox, AllocError>
         ensures { IfOk result (λ outbox. outbox ≡ []) }
     {
         Ok(Outbox {
-            gathered: Buffer::new(alloc, room)?,
+            gathered: Buffer::new(alloc, room.min(MOST_GATHERED))?,
         })
     }
 
@@ -46,6 +53,7 @@ impl Outbox {
     /// a front of all these bytes.
     pub fn put<K: Sink>(&mut self, sink: &mut K, bytes: &[u8]) -> Result<(), Failed>
         ensures bytes { Gathers (K.held sink.old) (K.held sink.new) self.old bytes.now self.new result }
+        ensures few { length self.new ≤ most_gathered }
         ensures cause { HasCause (K.faults sink.old) (K.faults sink.new) result }
     {
         if bytes.len() <= self.gathered.left() {
@@ -74,6 +82,7 @@ impl Outbox {
     fn put_first<K: Sink>(&mut self, sink: &mut K, bytes: &[u8]) -> Result<(), Failed>
         requires { self.old ≡ [] }
         ensures bytes { Gathers (K.held sink.old) (K.held sink.new) [] bytes.now self.new result }
+        ensures few { length self.new ≤ most_gathered }
         ensures cause { HasCause (K.faults sink.old) (K.faults sink.new) result }
     {
         if bytes.len() <= self.gathered.left() {

@@ -183,8 +183,8 @@ answered_seven WriteFailed s e = absurd (omega (arith, s, e))
 answered_seven ReadFailed s e = absurd (omega (arith, s, e))
 answered_seven Spent s e = absurd (omega (arith, s, e))
 
-pub answered_spent : {S : Type 0} {Step : S → Option (List ℕ) → List ℕ → S → Type 0} {first : S} {left0 left held0 held : Option (List ℕ)} {status : ℕ} (ending : Ending) → status ≡ status_of ending
-    → HasAnswered Step first most_taken left0 left held0 held ending → status ≡ 6 → HasSpent left0 left
+pub answered_spent : {S : Type 0} {Step : S → Option (List ℕ) → List ℕ → S → Type 0} {first : S} {gathered : ℕ} {left0 left held0 held : Option (List ℕ)} {status : ℕ} (ending : Ending) → status ≡ status_of ending
+    → HasAnswered Step first most_taken gathered left0 left held0 held ending → status ≡ 6 → HasSpent left0 left
 answered_spent Finished s a e = absurd (omega (arith, s, e))
 answered_spent WriteFailed s a e = absurd (omega (arith, s, e))
 answered_spent ReadFailed s a e = absurd (omega (arith, s, e))

@@ -4,6 +4,7 @@ use Rattle.std.specs.Option.{option_and_then, option_map}
 use Rattle.std.specs.Str.{bytes_eq}
 use Rattle.std.specs.Str.Parse.{digits_value}
 use Rattle.regex_ast.specs.declared.fault.Fault.{Fault}
+use Rattle.fsm_io.specs.Buffers.{most_gathered}
 use Rattle.fsm_io.specs.Folders.{Asked as Read, Files, Told}
 use Rattle.reply_meaning.specs.declared.ending.Ending.{Ending}
 use Rattle.reply_meaning.specs.declared.ending.Ending.TheVariants.{Finished, WriteFailed, ReadFailed, Spent}
@@ -230,7 +231,7 @@ status_of Spent = 6
 -- the lines of the input were answered, and this is the status of how that ended
 abbrev pub IsAnswered : (Option (List ℕ) → List ℕ → Type 0) → Outside → Outside → ℕ → Type 0
 IsAnswered R before after status =
-    (ending : Ending) × (status ≡ status_of ending) × HasAnswered (WithoutState R) tt most_taken before.input after.input before.output after.output ending
+    (ending : Ending) × (status ≡ status_of ending) × HasAnswered (WithoutState R) tt most_taken most_gathered before.input after.input before.output after.output ending
 
 -- what is told of names of a project at once, without a line of the input: an answer, or the line that refuses them
 abbrev pub Tells : ℕ → Asked → Project → Response → Type 0

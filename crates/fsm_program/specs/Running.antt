@@ -2,7 +2,7 @@
 use Rattle.std.specs.Prelude.{◌≡◌, ◌⊎◌, ◌≤◌, ◌++◌, ◌^◌, ℕ, true, false, List, [], length, Option, None, Some, Contains, Result, Ok, Err}
 use Rattle.fsm_io.specs.declared.source.Failed.{Failed}
 use Rattle.std.specs.Io.KnownBytes.{Appends, Consumes}
-use Rattle.fsm_io.specs.Buffers.{most_ahead}
+use Rattle.fsm_io.specs.Buffers.{most_ahead, most_gathered}
 use Rattle.fsm_io.specs.Reading.{LinesView, HasTold}
 use Rattle.reply_meaning.specs.Transcripts.{IsTranscript, HasAnswered}
 use Rattle.reply_meaning.specs.declared.ending.Ending.{Ending}
@@ -16,6 +16,7 @@ pub record Sofar {S : Type 0} (Step : S → Option (List ℕ) → List ℕ → S
   pub told : HasTold left0 left budget reader lines
   pub settled : (reader.begun ≡ []) ⊎ (reader.ahead ≡ [])
   pub few : length reader.ahead ≤ most_ahead
+  pub few_gathered : length gathered ≤ most_gathered
   pub appended : Appends held0 held written
   pub transcript : IsTranscript Step first lines (written ++ gathered) last
 
@@ -23,7 +24,7 @@ pub record Sofar {S : Type 0} (Step : S → Option (List ℕ) → List ℕ → S
 abbrev pub Turns : {S : Type 0} → (S → Option (List ℕ) → List ℕ → S → Type 0) → S → ℕ → Option (List ℕ) → Option (List ℕ) → Option (List ℕ) → Option (List ℕ) → LinesView → List ℕ → Option Ending → Type 0
 Turns Step first budget left0 left held0 held reader gathered None = Sofar Step first budget left0 left held0 held reader gathered
 Turns Step first budget left0 left held0 held reader gathered (Some Finished) = Sofar Step first budget left0 left held0 held reader gathered × (reader.ended ≡ true)
-Turns Step first budget left0 left held0 held reader gathered (Some WriteFailed) = HasAnswered Step first budget left0 left held0 held WriteFailed
+Turns Step first budget left0 left held0 held reader gathered (Some WriteFailed) = HasAnswered Step first budget most_gathered left0 left held0 held WriteFailed
 Turns Step first budget left0 left held0 held reader gathered (Some ReadFailed) = Sofar Step first budget left0 left held0 held reader gathered × (reader.ended ≡ false) × (reader.ahead ≡ [])
 Turns Step first budget left0 left held0 held reader gathered (Some Spent) =
     Sofar Step first budget left0 left held0 held reader gathered × (reader.ended ≡ false) × (reader.ahead ≡ []) × (reader.budget ≡ 0)

@@ -1,5 +1,6 @@
 ghost use Rattle.std.specs.Prelude.{◌≡◌, ◌≢◌, ◌⊎◌, ◌≤◌, ℕ, List, Option, None, Some, Ok, Err, map};
 ghost use Rattle.std.specs.String.{string_bytes};
+ghost use Rattle.fsm_io.specs.Buffers.{most_gathered};
 ghost use Rattle.fsm_io.specs.Causes.{Rose};
 ghost use Rattle.fsm_io.specs.Folders.{Files, IsTold, Told, file_of};
 ghost use Rattle.generated_report.specs.Generated.{most_stems};
@@ -212,18 +213,18 @@ pub fn run_alone<F: Folder, I: Source, O: Sink>(
     ensures checked { (project : Meant) → asked_of (map string_bytes words.now) ≡ Some for_check → IsTold (F.files folder.old) (λ files. Reads files (Ok project)) → ¬ (Rose (F.faults folder.old) (F.faults folder.new))
         → ((names : List (List ℕ)) × AreNames project names × IsSaid (O.held output.old) (O.held output.new) (accepted_line first_version names) 0 result) ⊎ (result ≡ 5) }
     ensures answered { (direction : Direction) (net : List ℕ) (project : Meant) → asked_of (map string_bytes words.now) ≡ Some (for_look (words_in direction net)) → IsTold (F.files folder.old) (λ files. Reads files (Ok project)) → ¬ (Rose (F.faults folder.old) (F.faults folder.new))
-        → ((ending : Ending) × (result ≡ status_of ending) × HasAnswered (WithoutState (Replies project direction first_version net)) tt most_taken (I.left input.old) (I.left input.new) (O.held output.old) (O.held output.new) ending) ⊎ (result ≡ 5) }
+        → ((ending : Ending) × (result ≡ status_of ending) × HasAnswered (WithoutState (Replies project direction first_version net)) tt most_taken most_gathered (I.left input.old) (I.left input.new) (O.held output.old) (O.held output.new) ending) ⊎ (result ≡ 5) }
     ensures glossed { (net : List ℕ) (project : Meant) (table : List Entry) → asked_of (map string_bytes words.now) ≡ Some (for_look (glosses_in net)) → IsTold (F.files folder.old) (λ files. Reads files (Ok project)) → IsTold (F.files folder.old) (λ files. HasTable files table) → ¬ (Rose (F.faults folder.old) (F.faults folder.new))
-        → ((ending : Ending) × (result ≡ status_of ending) × HasAnswered (WithoutState (GlossesLine project table first_version net)) tt most_taken (I.left input.old) (I.left input.new) (O.held output.old) (O.held output.new) ending) ⊎ (result ≡ 5) }
+        → ((ending : Ending) × (result ≡ status_of ending) × HasAnswered (WithoutState (GlossesLine project table first_version net)) tt most_taken most_gathered (I.left input.old) (I.left input.new) (O.held output.old) (O.held output.new) ending) ⊎ (result ≡ 5) }
     ensures att { (net : List ℕ) (project : Meant) → asked_of (map string_bytes words.now) ≡ Some (for_att net) → IsTold (F.files folder.old) (λ files. Reads files (Ok project)) → ¬ (Rose (F.faults folder.old) (F.faults folder.new))
         → ((told : Response) × IsAtt project first_version net told × IsSaid (O.held output.old) (O.held output.new) (response_bytes told) (response_status told) result) ⊎ (result ≡ 5) }
     ensures compared { (question : Question) (first second : List ℕ) (project : Meant) → asked_of (map string_bytes words.now) ≡ Some (for_compared question first second) → IsTold (F.files folder.old) (λ files. Reads files (Ok project)) → ¬ (Rose (F.faults folder.old) (F.faults folder.new))
         → ((told : Response) × IsCompared project first_version question first second told × IsSaid (O.held output.old) (O.held output.new) (response_bytes told) (response_status told) result) ⊎ (result ≡ 5) }
     ensures paired { (net : List ℕ) (project : Meant) → asked_of (map string_bytes words.now) ≡ Some (for_pairs net) → IsTold (F.files folder.old) (λ files. Reads files (Ok project)) → ¬ (Rose (F.faults folder.old) (F.faults folder.new))
-        → ((grammar : Grammar Leaf) × HasGrammar project net grammar × ((ending : Ending) × (result ≡ status_of ending) × HasAnswered (WithoutState (RepliesToPairs project first_version net)) tt most_taken (I.left input.old) (I.left input.new) (O.held output.old) (O.held output.new) ending))
+        → ((grammar : Grammar Leaf) × HasGrammar project net grammar × ((ending : Ending) × (result ≡ status_of ending) × HasAnswered (WithoutState (RepliesToPairs project first_version net)) tt most_taken most_gathered (I.left input.old) (I.left input.new) (O.held output.old) (O.held output.new) ending))
         ⊎ ((line : List ℕ) × RefusesPairs project first_version net line × IsSaid (O.held output.old) (O.held output.new) line 7 result) ⊎ (result ≡ 5) }
     ensures saved { (file : List ℕ) (files : Files) → asked_of (map string_bytes words.now) ≡ Some (for_saved file) → F.files folder.old ≡ Some files → ¬ (Rose (F.faults folder.old) (F.faults folder.new))
-        → ((text : List ℕ) × HasSavedText file text files × ((ending : Ending) × (result ≡ status_of ending) × HasAnswered (WithoutState (RepliesBySaved text first_version)) tt most_taken (I.left input.old) (I.left input.new) (O.held output.old) (O.held output.new) ending))
+        → ((text : List ℕ) × HasSavedText file text files × ((ending : Ending) × (result ≡ status_of ending) × HasAnswered (WithoutState (RepliesBySaved text first_version)) tt most_taken most_gathered (I.left input.old) (I.left input.new) (O.held output.old) (O.held output.new) ending))
         ⊎ ((line : ℕ) × (why : SavedWhy) × IsSavedFault file line why files × IsSaid (O.held output.old) (O.held output.new) (file_refused_line file line why) 2 result) ⊎ (result ≡ 5) }
     ensures declined { result ≡ 7 → (what : Asked) × (project : Meant) × (asked_of (map string_bytes words.now) ≡ Some what) × Told (F.files folder.old) (λ files. Reads files (Ok project)) × Declines what project × ¬ (Rose (F.faults folder.old) (F.faults folder.new)) }
     ensures generated { (stems : ℕ) → asked_of (map string_bytes words.now) ≡ Some (for_gen stems) → ((report : List ℕ) × IsReport stems report × IsSaid (O.held output.old) (O.held output.new) report 0 result) ⊎ (result ≡ 5) }

@@ -1,4 +1,5 @@
 ghost use Rattle.std.specs.Prelude.{◌≡◌, ◌≢◌, ◌⊎◌};
+ghost use Rattle.fsm_io.specs.Buffers.{most_gathered};
 ghost use Rattle.fsm_io.specs.Causes.{Rose};
 ghost use Rattle.reply_meaning.specs.declared.ending.Ending.{Ending};
 ghost use Rattle.reply_meaning.specs.Transcripts.{HasAnswered};
@@ -9,14 +10,11 @@ ghost use Rattle.fsm_program.specs.Steps.{steps};
 use crate::look_up::LookUp;
 use crate::saying::status;
 use crate::session::Session;
-use fsm_io::{Lines, Outbox, Sink, Source};
+use fsm_io::{Lines, MOST_GATHERED, Outbox, Sink, Source};
 use std::alloc::Global;
 
 /// The greatest number of bytes taken from one input.
 pub const MOST_TAKEN: u64 = 1 << 40;
-
-/// How many bytes of replies are gathered before they are written.
-const OUTBOX_ROOM: usize = 65_536;
 
 /// Answers the lines of the input in a session, or finds no memory for one.
 pub fn answered<I: Source, O: Sink>(
@@ -25,7 +23,7 @@ pub fn answered<I: Source, O: Sink>(
     input: &mut I,
     output: &mut O,
 ) -> u8
-    ensures answered { ((ending : Ending) × (result ≡ status_of ending) × HasAnswered (steps look_up) tt most_taken (I.left input.old) (I.left input.new) (O.held output.old) (O.held output.new) ending) ⊎ (result ≡ 5) }
+    ensures answered { ((ending : Ending) × (result ≡ status_of ending) × HasAnswered (steps look_up) tt most_taken most_gathered (I.left input.old) (I.left input.new) (O.held output.old) (O.held output.new) ending) ⊎ (result ≡ 5) }
     ensures none { result ≡ 5 → (input.new ≡ input.old) × (output.new ≡ output.old) }
     ensures status { (result ≢ 1) × (result ≢ 2) × (result ≢ 7) }
     ensures read { result ≡ 3 → Rose (I.faults input.old) (I.faults input.new) }
@@ -34,7 +32,7 @@ pub fn answered<I: Source, O: Sink>(
     let Ok(lines) = Lines::open(alloc, MOST_TAKEN) else {
         return 5;
     };
-    let Ok(outbox) = Outbox::open(alloc, OUTBOX_ROOM) else {
+    let Ok(outbox) = Outbox::open(alloc, MOST_GATHERED) else {
         return 5;
     };
     let session = Session {

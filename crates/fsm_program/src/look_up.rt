@@ -1,5 +1,6 @@
 ghost use Rattle.std.specs.Prelude.{◌<◌, ◌≤◌, ◌-◌, ◌^◌, Some, codes, length, IfOk};
 ghost use Rattle.fsm_base.specs.Normal.{nfc_of};
+ghost use Rattle.fsm_io.specs.Buffers.{most_gathered};
 ghost use Rattle.fsm_io.specs.Causes.{HasCause};
 ghost use Rattle.fsm_io.specs.Lines.{most_line};
 ghost use Rattle.fsm_io.specs.Sinks.{Gathers};
@@ -81,6 +82,7 @@ impl LookUp {
         output: &mut O,
     ) -> Result<(), Failed>
         ensures bytes { Gathers (O.held output.old) (O.held output.new) outbox.old (headed self.now.version (head_word head)) outbox.new result }
+        ensures few { length outbox.new ≤ most_gathered }
         ensures cause { HasCause (O.faults output.old) (O.faults output.new) result }
     {
         let mut buf = [0u8; 64];
@@ -127,6 +129,7 @@ impl LookUp {
     /// Gathers the reply to a long line.
     pub fn reply_long<O: Sink>(&self, outbox: &mut Outbox, output: &mut O) -> Result<(), Failed>
         ensures bytes { Gathers (O.held output.old) (O.held output.new) outbox.old (headed self.now.version (codes "long")) outbox.new result }
+        ensures few { length outbox.new ≤ most_gathered }
         ensures cause { HasCause (O.faults output.old) (O.faults output.new) result }
     {
         self.put_short(Head::Long, outbox, output)

@@ -1,4 +1,5 @@
 ghost use Rattle.std.specs.Prelude.{◌≡◌, ◌<◌, ◌≤◌, ℕ, [], List, Option, Some, None, IfNone, OnOk, is_ok, if◌then◌else◌};
+ghost use Rattle.fsm_io.specs.Buffers.{most_gathered};
 ghost use Rattle.fsm_io.specs.Causes.{HasCause, Rose};
 ghost use Rattle.fsm_io.specs.Reading.{at_start, size_of};
 ghost use Rattle.fsm_io.specs.Sinks.{Gathers};
@@ -131,7 +132,7 @@ impl Session {
     ) -> Ending
         requires start { self.lines ≡ at_start most_taken }
         requires empty { self.outbox ≡ [] }
-        ensures answered { HasAnswered (steps self.look_up) tt most_taken (I.left input.old) (I.left input.new) (O.held output.old) (O.held output.new) result }
+        ensures answered { HasAnswered (steps self.look_up) tt most_taken most_gathered (I.left input.old) (I.left input.new) (O.held output.old) (O.held output.new) result }
         ensures read { result ≡ Ending.ReadFailed → Rose (I.faults input.old) (I.faults input.new) }
         ensures write { result ≡ Ending.WriteFailed → Rose (O.faults output.old) (O.faults output.new) }
         ensures later_input { I.faults input.old ≤ I.faults input.new }

@@ -49,4 +49,4 @@ module _ {V W : Type 0} (P : V → W → Type 0) where
         (h.0, subst (λ (n : ℕ). HasNumber others n h.0) (sym (as_long values others pairs)) h.1, carries value h.0 h.2 line reply lawful)
 
     pub lane_carries : (budget : ℕ) (left0 left held0 held : Option (List ℕ)) (ending : Ending) → HasLane Replies values entered budget left0 left held0 held ending → HasLane Others others entered budget left0 left held0 held ending
-    lane_carries budget left0 left held0 held ending a = answered_by (Answers Replies values entered) (Answers Others others entered) step_carries start budget left0 left held0 held ending a
+    lane_carries budget left0 left held0 held ending a = answered_by (Answers Replies values entered) (Answers Others others entered) step_carries start budget 0 left0 left held0 held ending a

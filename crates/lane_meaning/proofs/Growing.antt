@@ -2,7 +2,7 @@
 -- of them, and where the seat entered more often.
 use Rattle.std.proofs.Common.{◌≡◌, ◌≤◌, ◌+◌, ◌++◌, ◌∷◌, [], ℕ, List, Option, length, sym, ap, subst, ◌∙◌, append_assoc, arith}
 use mathlib.Core.List.{IsPrefix}
-use Rattle.reply_meaning.specs.Transcripts.{HasAnswered, IsTranscript, IsWritten}
+use Rattle.reply_meaning.specs.Transcripts.{HasAnswered, IsTranscript, IsWritten, WantsFew}
 use Rattle.reply_meaning.specs.declared.ending.Ending.{Ending}
 use Rattle.reply_meaning.specs.declared.ending.Ending.TheVariants.{Finished, WriteFailed, ReadFailed, Spent}
 use Rattle.lane_meaning.specs.Lanes.{Answers, AnswersAt, AnswersBeside, HasEnteredFor, HasLane, HasNumber, Place, beside, behind, start}
@@ -14,9 +14,24 @@ module _ {S : Type 0} (A B : S → Option (List ℕ) → List ℕ → S → Type
   transcript_by first last [] bytes t = t
   transcript_by first last (line ∷ lines) bytes (reply, rest, next, is, step, others) = (reply, rest, next, is, more first line reply next step, transcript_by next last lines rest others)
 
-  written_by : (first last : S) (ending : Ending) (left : Option (List ℕ)) (taken written : List ℕ) → IsWritten A first last ending left taken written → IsWritten B first last ending left taken written
-  written_by first last Finished left taken written w = (w.0, transcript_by first last _ written w.1)
-  written_by first last WriteFailed left taken written w = record {
+  wants_by : (first last : S) (gathered : ℕ) (heard : List (Option (List ℕ))) (written rest : List ℕ) → WantsFew A first last gathered heard written rest → WantsFew B first last gathered heard written rest
+  wants_by first last gathered heard written rest w = record {
+    before = w.before;
+    one = w.one;
+    answered = w.answered;
+    reply = w.reply;
+    middle = w.middle;
+    lines_are = w.lines_are;
+    at_most_one = w.at_most_one;
+    bytes_are = w.bytes_are;
+    replies_before = transcript_by first w.middle w.before w.answered w.replies_before;
+    last_reply = transcript_by w.middle last w.one w.reply w.last_reply;
+    few = w.few;
+  }
+
+  written_by : (first last : S) (gathered : ℕ) (ending : Ending) (left : Option (List ℕ)) (taken written : List ℕ) → IsWritten A first last gathered ending left taken written → IsWritten B first last gathered ending left taken written
+  written_by first last gathered Finished left taken written w = (w.0, transcript_by first last _ written w.1)
+  written_by first last gathered WriteFailed left taken written w = record {
     ended = w.ended;
     heard = w.heard;
     ahead = w.ahead;
@@ -24,19 +39,21 @@ module _ {S : Type 0} (A B : S → Option (List ℕ) → List ℕ → S → Type
     last = w.last;
     lines_are = w.lines_are;
     few = w.few;
+    at_end = w.at_end;
     transcript = transcript_by first w.last w.heard (written ++ w.rest) w.transcript;
+    wants = wants_by first w.last gathered w.heard written w.rest w.wants;
   }
-  written_by first last ReadFailed left taken written w = transcript_by first last _ written w
-  written_by first last Spent left taken written w = transcript_by first last _ written w
+  written_by first last gathered ReadFailed left taken written w = transcript_by first last _ written w
+  written_by first last gathered Spent left taken written w = transcript_by first last _ written w
 
-  pub answered_by : (first : S) (budget : ℕ) (left0 left held0 held : Option (List ℕ)) (ending : Ending) → HasAnswered A first budget left0 left held0 held ending → HasAnswered B first budget left0 left held0 held ending
-  answered_by first budget left0 left held0 held ending a = record {
+  pub answered_by : (first : S) (budget gathered : ℕ) (left0 left held0 held : Option (List ℕ)) (ending : Ending) → HasAnswered A first budget gathered left0 left held0 held ending → HasAnswered B first budget gathered left0 left held0 held ending
+  answered_by first budget gathered left0 left held0 held ending a = record {
     taken = a.taken;
     written = a.written;
     last = a.last;
     consumed = a.consumed;
     appended = a.appended;
-    output = written_by first a.last ending left a.taken a.written a.output;
+    output = written_by first a.last gathered ending left a.taken a.written a.output;
     spends = a.spends;
   }
 
@@ -74,8 +91,8 @@ module _ {V : Type 0} (Replies : V → Option (List ℕ) → List ℕ → Type 0
   step_beside_more (beside seen answered) line reply behind a = a
   step_beside_more behind line reply q a = absurd a
 
-  pub lane_more : (budget : ℕ) (left0 left held0 held : Option (List ℕ)) (ending : Ending) → HasAnswered (AnswersBeside Replies values entered) start budget left0 left held0 held ending → HasLane Replies all more budget left0 left held0 held ending
-  lane_more budget left0 left held0 held ending a = answered_by (AnswersBeside Replies values entered) (Answers Replies all more) step_more start budget left0 left held0 held ending a
+  pub lane_more : (budget : ℕ) (left0 left held0 held : Option (List ℕ)) (ending : Ending) → HasAnswered (AnswersBeside Replies values entered) start budget 0 left0 left held0 held ending → HasLane Replies all more budget left0 left held0 held ending
+  lane_more budget left0 left held0 held ending a = answered_by (AnswersBeside Replies values entered) (Answers Replies all more) step_more start budget 0 left0 left held0 held ending a
 
 -- ---- numbers and counts
 

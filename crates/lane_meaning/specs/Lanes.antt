@@ -54,6 +54,7 @@ abbrev pub AnswersBeside : {V : Type 0} → (V → Option (List ℕ) → List �
 AnswersBeside Replies values entered (beside seen answered) line reply place = Answers Replies values entered (beside seen answered) line reply place
 AnswersBeside Replies values entered behind line reply place = ⊥
 
--- what a lane's output got for the bytes that were taken of its input, by how often its seat entered and how the answering ended
+-- what a lane's output got for the bytes that were taken of its input, by how often its seat entered and how the answering ended. Each reply is
+-- written before the next line is answered, so that nothing is gathered
 abbrev pub HasLane : {V : Type 0} → (V → Option (List ℕ) → List ℕ → Type 0) → List V → ℕ → ℕ → Option (List ℕ) → Option (List ℕ) → Option (List ℕ) → Option (List ℕ) → Ending → Type 0
-HasLane Replies values entered budget left0 left held0 held ending = HasAnswered (Answers Replies values entered) start budget left0 left held0 held ending
+HasLane Replies values entered budget left0 left held0 held ending = HasAnswered (Answers Replies values entered) start budget 0 left0 left held0 held ending

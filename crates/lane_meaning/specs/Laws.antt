@@ -9,7 +9,7 @@ use Rattle.lane_meaning.specs.Lanes.{Answers, AnswersBeside, HasEnteredFor, HasL
 abbrev pub LaneGrows : {V : Type 0} → (V → Option (List ℕ) → List ℕ → Type 0) → Type 0
 LaneGrows {V} Replies =
     (values all : List V) (entered budget : ℕ) (left0 left held0 held : Option (List ℕ)) (ending : Ending)
-    → IsPrefix values all → HasAnswered (AnswersBeside Replies values entered) start budget left0 left held0 held ending → HasLane Replies all entered budget left0 left held0 held ending
+    → IsPrefix values all → HasAnswered (AnswersBeside Replies values entered) start budget 0 left0 left held0 held ending → HasLane Replies all entered budget left0 left held0 held ending
 
 -- the numbers of a lane's replies never fall
 abbrev pub NumbersNeverFall : {V : Type 0} → (V → Option (List ℕ) → List ℕ → Type 0) → Type 0

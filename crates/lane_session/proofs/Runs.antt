@@ -55,8 +55,11 @@ module _ (Step : Place → Option (List ℕ) → List ℕ → Place → Type 0) 
       transcript = transcript_more start place next s.lines s.written reply line s.transcript lawful;
     }
 
+    parted : (front rest : List ℕ) → reply ≡ front ++ rest → s.written ++ reply ≡ (s.written ++ front) ++ rest
+    parted front rest is = ap (λ (z : List ℕ). s.written ++ z) is ∙ sym (append_assoc s.written front rest)
+
     -- its reply failed: the output has a front of the replies to what was told
-    pub cut_short : (front rest : List ℕ) → reply ≡ front ++ rest → Appends held1 held front → HasAnswered Step start budget left0 left held0 held WriteFailed
+    pub cut_short : (front rest : List ℕ) → reply ≡ front ++ rest → Appends held1 held front → HasAnswered Step start budget 0 left0 left held0 held WriteFailed
     cut_short front rest is appended = record {
       taken = told.read.taken;
       written = s.written ++ front;
@@ -71,8 +74,21 @@ module _ (Step : Place → Option (List ℕ) → List ℕ → Place → Type 0) 
         last = next;
         lines_are = told_behind left0 left budget new (s.lines ++ line ∷ []) told settled;
         few = few;
-        transcript = subst (λ (z : List ℕ). IsTranscript Step start (s.lines ++ line ∷ []) z next) (ap (λ (z : List ℕ). s.written ++ z) is ∙ sym (append_assoc s.written front rest))
-            (transcript_more start place next s.lines s.written reply line s.transcript lawful);
+        at_end = λ ended. (told.read.ends ended).3;
+        transcript = subst (λ (z : List ℕ). IsTranscript Step start (s.lines ++ line ∷ []) z next) (parted front rest is) (transcript_more start place next s.lines s.written reply line s.transcript lawful);
+        wants = record {
+          before = s.lines;
+          one = line ∷ [];
+          answered = s.written;
+          reply = reply;
+          middle = place;
+          lines_are = refl;
+          at_most_one = omega arith;
+          bytes_are = sym (parted front rest is);
+          replies_before = s.transcript;
+          last_reply = (reply, [], next, sym (append-nil reply), lawful, (refl, refl));
+          few = omega (arith, length-append s.written front);
+        };
       };
       spends = λ (is : WriteFailed ≡ Spent). cc;
     }
@@ -83,7 +99,7 @@ module _ (Step : Place → Option (List ℕ) → List ℕ → Place → Type 0) 
     told_same : HasTold left0 left budget new s.lines
     told_same = subst (λ (z : List (Option (List ℕ))). HasTold left0 left budget new z) (append-nil s.lines) same
 
-    pub answered_to_end : new.ended ≡ true → HasAnswered Step start budget left0 left held0 held Finished
+    pub answered_to_end : new.ended ≡ true → HasAnswered Step start budget 0 left0 left held0 held Finished
     answered_to_end ended =
         let all = told_all left0 left budget new s.lines told_same ended in
         record {
@@ -96,7 +112,7 @@ module _ (Step : Place → Option (List ℕ) → List ℕ → Place → Type 0) 
           spends = λ (is : Finished ≡ Spent). cc;
         }
 
-    pub answered_so_far : new.ended ≡ false → new.ahead ≡ [] → HasAnswered Step start budget left0 left held0 held ReadFailed
+    pub answered_so_far : new.ended ≡ false → new.ahead ≡ [] → HasAnswered Step start budget 0 left0 left held0 held ReadFailed
     answered_so_far ended ahead =
         let all = told_so_far left0 left budget new s.lines told_same ended ahead in
         record {
@@ -109,7 +125,7 @@ module _ (Step : Place → Option (List ℕ) → List ℕ → Place → Type 0) 
           spends = λ (is : ReadFailed ≡ Spent). cc;
         }
 
-    pub answered_within_budget : new.ended ≡ false → new.ahead ≡ [] → new.budget ≡ 0 → HasAnswered Step start budget left0 left held0 held Spent
+    pub answered_within_budget : new.ended ≡ false → new.ahead ≡ [] → new.budget ≡ 0 → HasAnswered Step start budget 0 left0 left held0 held Spent
     answered_within_budget ended ahead spent =
         let all = told_so_far left0 left budget new s.lines told_same ended ahead in
         record {

@@ -40,7 +40,7 @@ IsBehind Replies seat budget left0 left held0 held reader = Sofar (StepsBeside R
 -- what was answered of a lane that stopped beside the publishing
 abbrev pub HasStopped : {V : Type 0} → (V → Option (List ℕ) → List ℕ → Type 0) → Seated V → ℕ → Option (List ℕ) → Option (List ℕ) → Option (List ℕ) → Option (List ℕ) → LinesView → Stop → Type 0
 HasStopped Replies seat budget left0 left held0 held reader Marked = IsBehind Replies seat budget left0 left held0 held reader
-HasStopped Replies seat budget left0 left held0 held reader (Ended ending) = HasAnswered (StepsBeside Replies seat) start budget left0 left held0 held ending
+HasStopped Replies seat budget left0 left held0 held reader (Ended ending) = HasAnswered (StepsBeside Replies seat) start budget 0 left0 left held0 held ending
 
 -- how a turn beside the publishing left things
 abbrev pub TurnsBeside : {V : Type 0} → (V → Option (List ℕ) → List ℕ → Type 0) → Seated V → ℕ → Option (List ℕ) → Option (List ℕ) → Option (List ℕ) → Option (List ℕ) → LinesView → Option Stop → Type 0

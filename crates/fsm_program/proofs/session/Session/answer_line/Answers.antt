@@ -14,7 +14,7 @@ returns-in-Line-clause-turns g c budget left0 held0 sofar =
 pub returns-in-Long-clause-turns : goal.returns-in-Long-clause-turns
 returns-in-Long-clause-turns g c budget left0 held0 sofar =
     turn_sent (steps c.args.self.now.look_up) tt _ _ _ _ _ _ _ _ _ _ _ None _ _ c.ending_of-in-Long.ensures sofar tt (c.in-Long.ensures.told left0 budget sofar.lines sofar.told) (settled_by _ _ _ _ _ c.in-Long.ensures.next) c.in-Long.ensures.few
-    (sends_as _ _ (in_long c.args.self.now.look_up.subject c.args.self.now.look_up.version) refl c.reply_long.ensures.bytes)
+    (sends_as _ _ (in_long c.args.self.now.look_up.subject c.args.self.now.look_up.version) refl c.reply_long.ensures.bytes c.reply_long.ensures.few)
 
 pub returns-in-End-clause-turns : goal.returns-in-End-clause-turns
 returns-in-End-clause-turns g c budget left0 held0 sofar =
