@@ -1,8 +1,10 @@
 -- What contracts see of a board, and which events of the live machine (live_core) its calls are.
-use Rattle.std.specs.Prelude.{◌≡◌, ℕ, ◌+◌, List, [], ◌∷◌, ◌++◌, length}
+use Rattle.std.specs.Prelude.{◌≡◌, ℕ, ◌+◌, ◌≤◌, List, [], ◌∷◌, ◌++◌, length, map}
+use Rattle.live_core.specs.declared.event.Event.{Event}
 use Rattle.live_core.specs.declared.event.Event.TheVariants.{Publish, Enter, Learn}
+use Rattle.live_core.specs.declared.event.Outcome.{Outcome}
 use Rattle.live_core.specs.declared.event.Outcome.TheVariants.{Published, Answered, Learnt}
-use Rattle.live_core.specs.Machine.{Live, after, after_all, outcome, outcomes}
+use Rattle.live_core.specs.Machine.{Live, after_all, number_of, outcomes, value_of}
 use Rattle.publish_board.specs.Published.{Board}
 
 -- the list ends with x
@@ -22,27 +24,40 @@ seated b xs n = record { board = b; values = xs; entered = n }
 abbrev pub state_of : {X : Type 0} → X → List X → List ℕ → ℕ → Live X
 state_of first later seen room = record { first = first; later = later; seen = seen; room = room }
 
--- One Publish of `next` makes the values `before` the values `now`: on the state without readers whose values are `before`, of
--- which so many may be published behind the first.
+-- the same with one reader, which has seen the number of the last value
+abbrev pub up_to_date : {X : Type 0} → X → List X → ℕ → Live X
+up_to_date first later room = state_of first later ((length later + 1) ∷ []) room
+
+-- what comes of publishing these values one after another, the first of which has the number n
+abbrev pub published_from : {X : Type 0} → ℕ → List X → List (Outcome X)
+published_from n [] = []
+published_from n (x ∷ xs) = Published n ∷ published_from (n + 1) xs
+
+-- these events have these outcomes in the state s, and the state afterwards is t
+abbrev pub Comes : {X : Type 0} → Live X → List (Event X) → List (Outcome X) → Live X → Type 0
+Comes s events found t = (outcomes s events ≡ found) × (after_all s events ≡ t)
+
+-- One Publish of `next` makes the values `before` the values `now`: in each state whose values are `before` and that has room for
+-- one more, whatever its readers have seen.
 abbrev pub IsPublish : {X : Type 0} → List X → X → List X → Type 0
 IsPublish [] next now = ⊥
-IsPublish (first ∷ later) next now =
-    let s = state_of first later [] (length later + 1) in
-    (outcome s (Publish next) ≡ Published (length now)) × (((after s (Publish next)).first ∷ (after s (Publish next)).later) ≡ now)
+IsPublish (first ∷ later) next now = (now ≡ (first ∷ later) ++ next ∷ []) × ((seen : List ℕ) (room : ℕ) → length later + 1 ≤ room →
+    Comes (state_of first later seen room) (Publish next ∷ []) (Published (length now) ∷ []) (state_of first (later ++ next ∷ []) seen room))
 
--- One Enter takes a reader from the values `before` to the values `now`: on the state whose values are `now`, and whose one
--- reader has seen the number of the last one of `before`. It is answered with the last one of `now` and its number.
+-- What `now` has behind `before` is published, value by value, and then one Enter takes a reader from `before` to `now`: in each state
+-- whose values are `before`, whose one reader has seen the number of the last one, and that has room for the others. Each Publish is
+-- answered with the next number, and Enter with the last value of `now` and its number.
 abbrev pub IsEnter : {X : Type 0} → List X → List X → Type 0
-IsEnter before [] = ⊥
-IsEnter {X} before (first ∷ later) = (room : ℕ) (last : X) → EndsWith (first ∷ later) last →
-    let s = state_of first later (length before ∷ []) room in
-    (outcome s (Enter 0) ≡ Answered (length later + 1) last) × (after s (Enter 0) ≡ state_of first later ((length later + 1) ∷ []) room)
+IsEnter [] now = ⊥
+IsEnter {X} (first ∷ later) now = (more : List X) × (now ≡ (first ∷ later) ++ more) × ((room : ℕ) → length later + length more ≤ room →
+    let s = up_to_date first later room in
+    let t = up_to_date first (later ++ more) room in
+    Comes s (map Publish more ++ Enter 0 ∷ []) (published_from (number_of s + 1) more ++ Answered (number_of t) (value_of t) ∷ []) t)
 
--- One Learn up to the last one of `now`, and then one Enter, take a reader from the values `before` to the values `now`: on the
--- same state.
+-- The same with one Learn up to the number of the last value of `now` before the Enter.
 abbrev pub IsLearn : {X : Type 0} → List X → List X → Type 0
-IsLearn before [] = ⊥
-IsLearn {X} before (first ∷ later) = (room : ℕ) (last : X) → EndsWith (first ∷ later) last →
-    let s = state_of first later (length before ∷ []) room in
-    let events = Learn 0 (length later + 1) ∷ Enter 0 ∷ [] in
-    (outcomes s events ≡ Learnt ∷ Answered (length later + 1) last ∷ []) × (after_all s events ≡ state_of first later ((length later + 1) ∷ []) room)
+IsLearn [] now = ⊥
+IsLearn {X} (first ∷ later) now = (more : List X) × (now ≡ (first ∷ later) ++ more) × ((room : ℕ) → length later + length more ≤ room →
+    let s = up_to_date first later room in
+    let t = up_to_date first (later ++ more) room in
+    Comes s (map Publish more ++ Learn 0 (number_of t) ∷ Enter 0 ∷ []) (published_from (number_of s + 1) more ++ Learnt ∷ Answered (number_of t) (value_of t) ∷ []) t)

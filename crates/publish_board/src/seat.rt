@@ -92,7 +92,7 @@ impl<V: Release> Seat<V> {
         requires board { note.board ≡ self.old.board }
         ensures values { IsPrefix self.old.values note.entry.values }
         ensures seat { self.new ≡ seated self.old.board note.entry.values self.old.entered }
-        ensures event { IsLearn self.old.values note.entry.values }
+        ensures event { IsLearn self.old.values self.new.values }
     {
         note.whole.begins_with(self.page.upto());
         self.page = again(rt, note.page);
