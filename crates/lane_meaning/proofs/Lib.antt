@@ -1,2 +1,3 @@
+mod AtLast
 pub mod Carrying
 pub mod Growing

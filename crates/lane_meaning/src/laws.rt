@@ -1,4 +1,4 @@
-ghost use Rattle.lane_meaning.specs.Laws.{EntersForEach, LaneGrows, NumbersNeverFall};
+ghost use Rattle.lane_meaning.specs.Laws.{BehindIsLast, BehindIsOneValue, EntersForEach, LaneGrows, NumbersNeverFall};
 
 use crate::replying::Replying;
 
@@ -15,4 +15,10 @@ pub fn numbers_never_fall<V: Replying>()
 /// The seat of a lane entered for each of its lines before the first mark.
 pub fn enters_for_each<V: Replying>()
     ensures { EntersForEach V.replies }
+{}
+
+/// Behind its first mark a lane is answered at the last value.
+pub fn behind_is_last<V: Replying>()
+    ensures line { BehindIsLast V.replies }
+    ensures transcript { BehindIsOneValue V.replies }
 {}

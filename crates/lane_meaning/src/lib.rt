@@ -3,13 +3,13 @@
 //!
 //! - [`Replying`]: what lines are answered at, which says what is a reply.
 //! - [`is_mark`]: whether a line is the mark behind which a lane is answered at the last value.
-//! - [`lane_grows`], [`numbers_never_fall`], [`enters_for_each`]: laws, whose functions do nothing when they run.
+//! - [`lane_grows`], [`numbers_never_fall`], [`enters_for_each`], [`behind_is_last`]: laws, whose functions do nothing when they run.
 #![tactic(auto)]
 
 mod laws;
 mod mark;
 mod replying;
 
-pub use laws::{enters_for_each, lane_grows, numbers_never_fall};
+pub use laws::{behind_is_last, enters_for_each, lane_grows, numbers_never_fall};
 pub use mark::is_mark;
 pub use replying::Replying;

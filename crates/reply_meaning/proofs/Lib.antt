@@ -1,2 +1,3 @@
-mod Replies
+pub mod Replies
 mod Returns
+mod Lines

@@ -8,7 +8,7 @@ use Rattle.lookup_answers.proofs.AnswerKinds.{same_kind}
 use Rattle.lookup_answers.proofs.OneList.{one_list}
 use Rattle.project_meaning.specs.Projects.{Project}
 use Rattle.reply_meaning.specs.Replies.{Replies, RepliesToWord, Related, no_net, no_symbol, answered, no_memory, long, no_word, word, answer_bytes, headed, word_of}
-use Rattle.reply_meaning.specs.OneReply.{IsMemory, AreLoops}
+use Rattle.reply_meaning.specs.OneReply.{MayDiffer}
 use Rattle.lookup_answers.specs.declared.direction.Direction.{Direction}
 
 -- a cut is one
@@ -37,7 +37,7 @@ unfolding is_ok
 apart r x y e f = true≢false (ap is_ok (sym e ∙ f))
 
 abbrev AreOne : ℕ → List ℕ → List ℕ → Type 0
-AreOne version a b = (a ≡ b) ⊎ (IsMemory version a ⊎ IsMemory version b) ⊎ AreLoops version a b
+AreOne version a b = (a ≡ b) ⊎ MayDiffer version a b
 
 -- answers that are both lawful for one set are the same, or both loops
 same_answer : (T : List ℕ → Type 0) (version : ℕ) (w a b : List ℕ) (f g : Found) → Answers T f → Answers T g → a ≡ answer_bytes version w f → b ≡ answer_bytes version w g
@@ -57,7 +57,7 @@ same_answer T version w a b f g p q is_a is_b = by f g p q is_a is_b (same_kind 
     by (loop before round after) more p q is_a is_b same = absurd same
 
 module _ (project : Project) (direction : Direction) (version : ℕ) (net : List ℕ) where
-  word_replies : (w a b : List ℕ) → RepliesToWord project direction version net w a → RepliesToWord project direction version net w b → AreOne version a b
+  pub word_replies : (w a b : List ℕ) → RepliesToWord project direction version net w a → RepliesToWord project direction version net w b → (a ≡ b) ⊎ MayDiffer version a b
   word_replies w a b (no_memory is) q = inr (inl (inl is))
   word_replies w a b p (no_memory is) = inr (inl (inr is))
   word_replies w a b (no_net none is) (no_net none2 is2) = inl (is ∙ sym is2)

@@ -1,3 +1,4 @@
 pub mod Replies
 pub mod OneReply
 pub mod Transcripts
+pub mod OneTranscript

@@ -20,9 +20,13 @@ pub record ShowsLoop (version : ℕ) (word reply : List ℕ) : Type 0 where
 abbrev pub AreLoops : ℕ → List ℕ → List ℕ → Type 0
 AreLoops version a b = (word : List ℕ) × ShowsLoop version word a × ShowsLoop version word b
 
+-- two replies at one version may differ: one of them is for want of memory, or both show a loop
+abbrev pub MayDiffer : ℕ → List ℕ → List ℕ → Type 0
+MayDiffer version a b = (IsMemory version a ⊎ IsMemory version b) ⊎ AreLoops version a b
+
 -- two lawful replies to a line are the same, unless one of them is for want of memory, or both show a loop
 abbrev pub OneReply : Type 0
 OneReply =
     (project : Project) (direction : Direction) (version : ℕ) (net : List ℕ) (line : Option (List ℕ)) (a b : List ℕ)
     → Replies project direction version net line a → Replies project direction version net line b
-    → (a ≡ b) ⊎ (IsMemory version a ⊎ IsMemory version b) ⊎ AreLoops version a b
+    → (a ≡ b) ⊎ MayDiffer version a b
