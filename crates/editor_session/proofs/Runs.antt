@@ -103,6 +103,7 @@ module _ (loaded present : Version) (made : List Version) (kept : Batch) (budget
       heard = s.lines ++ [];
       rest = rest;
       is_heard = subst (λ (l : List (List ℕ)). IsHeard reader.ended s.heard.read.taken l) (sym (append-nil s.lines)) (heard_so left0 left budget reader s.lines s.heard reader.ended refl);
+      at_end = λ ended. (s.heard.read.ends ended).3;
       edits = subst (λ (l : List ℕ). Edits loaded reader.ended (s.lines ++ []) l (loaded ∷ made)) is (edits reader.ended [] (λ closed. (closed, refl)) Rattle.editor_meaning.specs.Orders.none);
       few = few;
     };

@@ -48,12 +48,14 @@ pub data WantsOneReply (loaded : Version) (ended : Bool) (heard : List (List ℕ
   of_last_order : (before more : List (List ℕ)) (order : Order) (answered front : List ℕ) (versions : List Version) → heard ≡ before ++ more → AreOrders ended more (order ∷ [])
       → written ≡ answered ++ front → Edits loaded false before answered versions → WantsOneReply loaded ended heard written
 
--- the bytes are a front of what the output gets for lines that were heard, up to the reply that couldn't be written
-pub record IsCutShort (loaded : Version) (taken written : List ℕ) (versions : List Version) : Type 0 where
+-- the bytes are a front of what the output gets for lines that were heard, up to the reply that couldn't be written. A last piece without newline is
+-- among the lines only where the input is at its end
+pub record IsCutShort (loaded : Version) (left : Option (List ℕ)) (taken written : List ℕ) (versions : List Version) : Type 0 where
   pub ended : Bool
   pub heard : List (List ℕ)
   pub rest : List ℕ
   pub is_heard : IsHeard ended taken heard
+  pub at_end : ended ≡ true → IsAtEnd left
   pub edits : Edits loaded ended heard (written ++ rest) versions
   pub few : WantsOneReply loaded ended heard written
 
@@ -61,7 +63,7 @@ pub record IsCutShort (loaded : Version) (taken written : List ℕ) (versions : 
 -- the input was read to its end, and a command whose lines weren't all read has no reply where it wasn't
 abbrev pub IsWritten : Version → Ending → Option (List ℕ) → List ℕ → List ℕ → List Version → Type 0
 IsWritten loaded Finished left taken written versions = (heard : List (List ℕ)) × HearsAll left taken heard × Edits loaded true heard written versions
-IsWritten loaded WriteFailed left taken written versions = IsCutShort loaded taken written versions
+IsWritten loaded WriteFailed left taken written versions = IsCutShort loaded left taken written versions
 IsWritten loaded ReadFailed left taken written versions = Edits loaded false (raw_lines false taken) written versions
 IsWritten loaded Spent left taken written versions = Edits loaded false (raw_lines false taken) written versions
 
