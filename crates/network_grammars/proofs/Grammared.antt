@@ -38,7 +38,7 @@ use Rattle.network_grammars.specs.PairMeaning.{IsScope, pair_at}
 use Rattle.network_grammars.specs.declared.scope.Scope.{Scope}
 use Rattle.network_grammars.specs.Rules.{IsContextOf, IsLanguageOf, IsRuleOf, Pairwise}
 use Rattle.network_grammars.proofs.Standing.{Agree, IsOn, agree, expression_back, expression_there, letters_apart}
-use Rattle.two_level.specs.Rules.{Holds, IsContextOver, IsRuleOver}
+use Rattle.two_level.specs.Rules.{HasLettersOf, Holds, IsContextOver, IsRuleOver}
 use Rattle.two_level.specs.Spelled.{IsRuleFor, StandsFor, StandsIn}
 use Rattle.two_level.specs.declared.rule.LangRule.{LangRule}
 use Rattle.two_level.specs.declared.rule.PairContext.{PairContext}
@@ -94,7 +94,10 @@ begun g (d ∷ above) scope (old, m, before, words, more) =
 -- the rules are about feasible pairs, with contexts over them
 module _ (g : GrammarOf Atom) (scope : Scope) (built : IsBuilt g (reverse (map definition_of g.definitions.items)) scope) (rules : List LangRule) (ruled : Pairwise (IsRuleOf scope) g.rules.items rules) where
   context_over : (c : Context (PairPart Atom)) (context : PairContext) → IsContextOf scope c context → IsContextOver scope.pairs context
-  context_over c context is = (is.left.over, is.right.over)
+  context_over c context is = (among context.left is.left.over, among context.right is.right.over)
+    where
+      among : (lang : Complete (Bound Pair)) → lang.letters ≡ all_letters scope.pairs → HasLettersOf scope.pairs lang
+      among lang over x h = subst (λ (z : List (Bound Pair)). Contains z x) over h
 
   pub rule_over : (rule : LangRule) → Contains rules rule → IsRuleOver scope.pairs rule
   rule_over rule among =

@@ -172,8 +172,8 @@ module _ (keys : List Pair) where
 pub within_from : (keys pairs : List Pair) → ((x : Pair) → Contains pairs x → Contains keys x) → (r : LangRule) → IsRuleOver pairs r → (c : PairContext) → Contains r.contexts.items c → IsWithin (placed_letters keys) c
 within_from keys pairs all r over c among =
     let is = over.1 c among in (
-      λ x h. placed_among keys pairs all x (subst (λ (z : List (Bound Pair)). Contains z x) is.0 h),
-      λ x h. placed_among keys pairs all x (subst (λ (z : List (Bound Pair)). Contains z x) is.1 h),
+      λ x h. placed_among keys pairs all x (is.0 x h),
+      λ x h. placed_among keys pairs all x (is.1 x h),
     )
 
 pub over_letters : (letters : List (Bound Pair)) (rules : List LangRule) (tests : List RuleTest) → Pairwise (IsRuleTest letters) rules tests → (t : RuleTest) → Contains tests t → (c : ContextTest) → Contains t.contexts.items c

@@ -15,7 +15,7 @@ use Rattle.expr_meaning.specs.Operators.{inner, HasSuffix, HasPrefix}
 use Rattle.network_algebra.specs.Networks.{all_letters, UsesOnly}
 use Rattle.network_sets.proofs.Inside.{over_left, over_right}
 use Rattle.two_level.specs.Marks.{marked, IsMarked, place_between, IsPlaceWhere, marked_letters}
-use Rattle.two_level.specs.Rules.{Holds}
+use Rattle.two_level.specs.Rules.{HasLettersOf, Holds}
 use Rattle.two_level.specs.declared.rule.PairContext.{PairContext}
 use Rattle.two_level.specs.declared.marks.MarkedLetter.{MarkedLetter}
 use Rattle.two_level.proofs.Letters.{inner_over, over_inner, edge_before, edge_behind, inside_all}
@@ -31,8 +31,8 @@ edge_only pairs m only x used =
 pub inner_only : (pairs : List Pair) (m : Automaton (Bound Pair)) → UsesOnly (inner pairs) m → UsesOnly (all_letters pairs) m
 inner_only pairs m only x used = inside_all pairs x (only x used)
 
-pub lang_only : (pairs : List Pair) (lang : complete.Complete (Bound Pair)) (m : Automaton (Bound Pair)) → lang.letters ≡ all_letters pairs → ((x : Bound Pair) → UsesLetter m x → Contains lang.letters x) → UsesOnly (all_letters pairs) m
-lang_only pairs lang m over used x h = subst (λ (z : List (Bound Pair)). Contains z x) over (used x h)
+pub lang_only : (pairs : List Pair) (lang : complete.Complete (Bound Pair)) (m : Automaton (Bound Pair)) → HasLettersOf pairs lang → ((x : Bound Pair) → UsesLetter m x → Contains lang.letters x) → UsesOnly (all_letters pairs) m
+lang_only pairs lang m over used x h = over x (used x h)
 
 module _ (pairs : List Pair) where
   -- every place

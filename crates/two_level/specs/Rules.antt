@@ -3,8 +3,9 @@ use Rattle.std.specs.Prelude.{◌≡◌, ◌≢◌, List, ◌++◌, Contains, Op
 use Rattle.std.specs.Option.{option_to_list}
 use Rattle.fsm_base.specs.declared.letters.Sym.{Sym}
 use Rattle.fsm_base.specs.declared.letters.Pair.{Pair}
+use Rattle.fsm_base.specs.declared.letters.Bound.{Bound}
 use Rattle.word_relations.specs.Words.{IsOver}
-use Rattle.fsa.specs.Complete.{Accepts}
+use Rattle.fsa.specs.Complete.{Complete, Accepts}
 use Rattle.fst_algebra.specs.Relation.{uppers, lowers}
 use Rattle.regex_ast.specs.declared.twolc.RuleKind.{RuleKind}
 use Rattle.expr_meaning.specs.Operators.{inner, HoldsLeft, HoldsRight}
@@ -13,9 +14,13 @@ use Rattle.project_meaning.specs.TwoLevel.{KeepsBy}
 use Rattle.two_level.specs.declared.rule.PairContext.{PairContext}
 use Rattle.two_level.specs.declared.rule.LangRule.{LangRule}
 
+-- the letters of a language are among the edge and these pairs
+abbrev pub HasLettersOf : List Pair → Complete (Bound Pair) → Type 0
+HasLettersOf pairs lang = (x : Bound Pair) → Contains lang.letters x → Contains (all_letters pairs) x
+
 -- a context is over the edge and these pairs
 abbrev pub IsContextOver : List Pair → PairContext → Type 0
-IsContextOver pairs c = (c.left.letters ≡ all_letters pairs) × (c.right.letters ≡ all_letters pairs)
+IsContextOver pairs c = HasLettersOf pairs c.left × HasLettersOf pairs c.right
 
 -- a rule is about one of these pairs, with contexts over them
 abbrev pub IsRuleOver : List Pair → LangRule → Type 0

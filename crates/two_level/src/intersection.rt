@@ -18,7 +18,8 @@ use lang_algebra::Lang;
 use std::alloc::{AllocError, Global};
 
 /// The transducer of a grammar over its feasible pairs. Its strings of pairs are those that keep each rule, so that it relates
-/// the two sides of each, without zeros. The rules are taken one after another, and what is left is made small after each.
+/// the two sides of each, without zeros. The letters of the rules' contexts are some or all of [`every_letter`](crate::every_letter)
+/// of the pairs. The rules are taken one after another, and what is left is made small after each.
 pub fn grammar(alloc: Global, pairs: &[Pair], rules: &[LangRule]) -> Result<Fsa<Pair>, AllocError>
     requires distinct { IsDistinct pairs.now }
     requires rules { (r : LangRule) → Contains rules.now r → IsRuleOver pairs.now r }
