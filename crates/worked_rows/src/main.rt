@@ -5,7 +5,8 @@
 //! `fails FOLDER INPUT OUTPUT` (which call of each fails, counted from 1, where 0 is none) and `sizes READ WRITE ROOM`
 //! (how many bytes the input gives and the output takes at once, and how many the output takes at all) describe it;
 //! `run STATUS TEXT` runs it and says which status and what output is wanted, as `row_texts` shows it, `last STATUS TEXT` the same
-//! with the last line of the output alone, and `loop` runs one whose answer must be a lawful loop.
+//! with the last line of the output alone, `loop` runs one whose answer must be a lawful loop, and `spoiled TIMES` one that checks its project, so many
+//! times with a front of each file in its place, and as many with a byte of it changed: each answer must accept the project or refuse it for a fault.
 //!
 //! `lane TEXT` adds a lane with this input. Behind it `gets TEXT` says what its output is to get, one such line for each lawful outcome, and nothing where there is
 //! none; `enters N` how often its seat enters at least; `lane_fails INPUT OUTPUT` and `lane_sizes READ WRITE ROOM` are as for the row. A text has the
@@ -30,12 +31,14 @@ mod row;
 mod sign;
 mod sink;
 mod source;
+mod spoiled;
 mod trials;
 
 use crate::commands::answer_to;
 use crate::documents::{Shown, shown_in};
 use crate::groups::said_of_trials;
 use crate::lane::RowLane;
+use crate::numbers::{numbers, size};
 use crate::row::Row;
 use crate::trials::waited;
 use row_texts::shown;
@@ -124,6 +127,10 @@ fn obey<R: Threads + Wait + Sync>(
         "lane" => row.add_lane(alloc, value)?,
         "run" => return count.judge(alloc, row, row.outcome(rt, alloc)?.as_str(), value),
         "last" => return count.judge(alloc, row, row.last_outcome(rt, alloc)?.as_str(), value),
+        "spoiled" => {
+            let outcome = row.spoiled_outcome(rt, alloc, size(numbers(value)[0]))?;
+            return count.judge(alloc, row, outcome.as_str(), "");
+        }
         "loop" => return count.judge(alloc, row, row.loop_outcome(rt, alloc)?, ""),
         _ => return told_of_lane(alloc, row, field, value),
     }

@@ -2,6 +2,7 @@ ghost use Rattle.std.specs.Prelude.{◌≤◌, IfOk, vec_len};
 
 use crate::lane::{MemoryLane, RowLane};
 use crate::numbers::{WHOLE, numbers, size};
+use crate::spoiled::{Spoiled, Way, spoiled};
 use fsm_base::Text;
 use fsm_io::{MemoryFolder, MemorySink, MemorySource};
 use fsm_program::run;
@@ -103,11 +104,15 @@ impl Row {
         self.lanes.last_mut()
     }
 
-    /// The folder of the row's files.
-    fn folder(&self, alloc: Global) -> Result<MemoryFolder, AllocError> {
+    /// The folder of the row's files, where one of them may have another content.
+    fn folder(&self, alloc: Global, spoiled: Option<&Spoiled>) -> Result<MemoryFolder, AllocError> {
         let mut files = Vec::new(alloc);
-        for (name, bytes) in self.files.iter() {
-            files.push((name.clone()?, Vec::from_slice(alloc, bytes)?))?;
+        for (number, (name, bytes)) in self.files.iter().enumerate() {
+            let content = match spoiled {
+                Some(spoiled) if spoiled.file == number => spoiled.content.as_slice(),
+                _ => bytes.as_slice(),
+            };
+            files.push((name.clone()?, Vec::from_slice(alloc, content)?))?;
         }
         let fails = Vec::from_slice(alloc, &[self.fails[0]])?;
         Ok(MemoryFolder::new(files, fails))
@@ -132,7 +137,18 @@ impl Row {
         words: &[String],
         input: &[u8],
     ) -> Result<Answer, AllocError> {
-        let mut folder = self.folder(alloc)?;
+        self.answer_in(rt, alloc, self.folder(alloc, None)?, words, input)
+    }
+
+    /// What comes of these words and this input in a folder.
+    fn answer_in<R: Threads + Wait + Sync>(
+        &self,
+        rt: &R,
+        alloc: Global,
+        mut folder: MemoryFolder,
+        words: &[String],
+        input: &[u8],
+    ) -> Result<Answer, AllocError> {
         let mut source = MemorySource::new(
             Vec::from_slice(alloc, input)?,
             self.sizes[0].max(1),
@@ -234,6 +250,47 @@ impl Row {
         let wanted = each_with(alloc, &words, &self.input)?;
         let is_lawful = reply.starts_with(b"1 loop ") && goes_round(&reply) && lower == wanted;
         Ok(if is_lawful { "" } else { "no lawful loop" })
+    }
+
+    /// Whether the answer is lawful where one of the row's files is spoiled: the project is accepted, or refused for a fault.
+    fn is_lawful<R: Threads + Wait + Sync>(
+        &self,
+        rt: &R,
+        alloc: Global,
+        spoiled: &Spoiled,
+    ) -> Result<bool, AllocError> {
+        let folder = self.folder(alloc, Some(spoiled))?;
+        let answer = self.answer_in(rt, alloc, folder, &self.words, &self.input)?;
+        Ok(match answer.status {
+            0 => answer.written.starts_with(b"ok 1 "),
+            2 => answer.written.starts_with(b"refused "),
+            _ => false,
+        })
+    }
+
+    /// Runs the row, which checks its project, with so many fronts of each file in its place, and as many times with a byte of it changed: nothing where each
+    /// answer is lawful, and else how many aren't.
+    pub fn spoiled_outcome<R: Threads + Wait + Sync>(
+        &self,
+        rt: &R,
+        alloc: Global,
+        times: usize,
+    ) -> Result<String, AllocError> {
+        let mut unlawful = 0u64;
+        'files: for (number, (_, content)) in self.files.iter().enumerate() {
+            'times: for time in 0..times {
+                for way in [Way::Front, Way::Change] {
+                    let spoiled = spoiled(alloc, number, content, way, time, times)?;
+                    if !self.is_lawful(rt, alloc, &spoiled)? {
+                        unlawful = unlawful.saturating_add(1);
+                    }
+                }
+            }
+        }
+        match unlawful {
+            0 => Ok(String::new(alloc)),
+            _ => format!(in alloc; "{unlawful} answers aren't lawful"),
+        }
     }
 }
 
