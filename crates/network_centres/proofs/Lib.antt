@@ -4,3 +4,5 @@ pub mod Filled
 pub mod Mapped
 pub mod Seen
 pub mod Within
+mod EmptyCentres
+mod Insertions

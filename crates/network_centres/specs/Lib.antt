@@ -1,1 +1,3 @@
 pub mod Centres
+pub mod EmptyCentres
+pub mod Insertions
