@@ -2,7 +2,7 @@ ghost use Rattle.std.specs.Prelude.{◌≤◌, IfOk, vec_len};
 
 use crate::lane::{MemoryLane, RowLane};
 use crate::numbers::{WHOLE, numbers, size};
-use crate::spoiled::{Spoiled, Way, spoiled};
+use crate::spoiled::{Spoiled, Way, spoil};
 use fsm_base::Text;
 use fsm_io::{MemoryFolder, MemorySink, MemorySource};
 use fsm_program::run;
@@ -280,7 +280,7 @@ impl Row {
         'files: for (number, (_, content)) in self.files.iter().enumerate() {
             'times: for time in 0..times {
                 for way in [Way::Front, Way::Change] {
-                    let spoiled = spoiled(alloc, number, content, way, time, times)?;
+                    let spoiled = spoil(alloc, number, content, way, time, times)?;
                     if !self.is_lawful(rt, alloc, &spoiled)? {
                         unlawful = unlawful.saturating_add(1);
                     }

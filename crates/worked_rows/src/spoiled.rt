@@ -22,7 +22,7 @@ pub enum Way {
 }
 
 /// A file with a spoiled content. Places are spread evenly over the content, as many as there are times.
-pub fn spoiled(
+pub fn spoil(
     alloc: Global,
     file: usize,
     content: &[u8],
