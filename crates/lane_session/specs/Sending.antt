@@ -6,8 +6,17 @@ use Rattle.fsm_io.specs.Sinks.{WritesAll}
 use Rattle.publish_board.specs.Boards.{Seated}
 use Rattle.reply_meaning.specs.declared.ending.Ending.TheVariants.{Finished, WriteFailed, ReadFailed, Spent}
 use Rattle.lane_meaning.specs.Lanes.{HasNumber, IsMark}
+use Rattle.reply_meaning.specs.Replies.{headed}
+use Rattle.reply_text.specs.Heads.{head_word}
+use Rattle.lane_session.specs.declared.answers.Reply.{Reply}
+use Rattle.lane_session.specs.declared.answers.Reply.TheVariants.{Bytes, Short}
 use Rattle.lane_session.specs.declared.session.Stop.{Stop}
 use Rattle.lane_session.specs.declared.session.Stop.TheVariants.{Marked, Ended}
+
+-- the bytes of a reply at the value with this number
+abbrev pub bytes_of : ℕ → Reply → List ℕ
+bytes_of number (Bytes bytes) = bytes.items
+bytes_of number (Short head) = headed number (head_word head)
 
 -- a reply that is lawful was written, or a front of it where the output failed
 pub record Sends {T E : Type 0} (R : List ℕ → Type 0) (held0 held : Option (List ℕ)) (result : Result T E) : Type 0 where

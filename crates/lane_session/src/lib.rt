@@ -2,7 +2,7 @@
 //! `specs/Running.antt` for one lane, and `specs/Lanes.antt` for lanes that are answered each in a thread of its own, while another
 //! thread publishes values.
 //!
-//! - [`Answers`]: a value that lines are answered at.
+//! - [`Answers`]: a value that lines are answered at, each with a [`Reply`].
 //! - [`LaneSession`]: a lane's seat and its lines. [`LaneSession::answer_beside`] answers the lines up to the mark, each at the
 //!   value that the seat takes up for it, and [`LaneSession::answer_rest`] those behind it.
 //! - [`Stop`]: why a lane stopped.
@@ -17,7 +17,7 @@ mod sending;
 mod session;
 mod work;
 
-pub use answers::Answers;
+pub use answers::{Answers, Reply};
 pub use lane::Lane;
 pub use lanes::{answer_beside, answer_rest, learn_all};
 pub use session::{LaneSession, Stop};

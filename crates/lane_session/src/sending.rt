@@ -6,7 +6,7 @@ ghost use Rattle.reply_meaning.specs.Replies.{headed};
 ghost use Rattle.reply_text.specs.Heads.{head_word};
 ghost use Rattle.lane_session.specs.Sending.{Sends};
 
-use crate::answers::Answers;
+use crate::answers::{Answers, Reply};
 use fsm_io::{Failed, Sink, write_all};
 use reply_text::{Head, short};
 use std::alloc::Global;
@@ -33,8 +33,8 @@ pub fn send_reply<V: Answers, K: Sink>(
     ensures cause { HasCause (K.faults sink.old) (K.faults sink.new) result }
 {
     match value.answer(alloc, line) {
-        Ok(bytes) => write_all(sink, &bytes),
-        Err(_) => send_short(value.number(), Head::Memory, sink),
+        Reply::Bytes(bytes) => write_all(sink, &bytes),
+        Reply::Short(head) => send_short(value.number(), head, sink),
     }
 }
 

@@ -2,6 +2,7 @@ pub mod Accepting
 pub mod HandedOn
 pub mod Looking
 pub mod Naming
+pub mod OneReply
 pub mod Readying
 pub mod Replying
 pub mod Serving

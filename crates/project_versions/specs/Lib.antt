@@ -4,3 +4,4 @@ pub mod Versions
 pub mod Errors
 pub mod Rebuilt
 pub mod Looks
+pub mod Laws

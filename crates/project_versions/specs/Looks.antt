@@ -13,7 +13,8 @@ use Rattle.project_store.specs.Projects.{HasTable}
 use Rattle.project_versions.specs.Versions.{Stands, VersionView}
 use Rattle.reply_meaning.specs.Replies.{RepliesToWord, headed}
 
--- the reply to what a line asks for, where texts have these glosses. A mark behind the first one is in no form
+-- the reply to what a line asks for, where texts have these glosses: that there was no memory only where it asks for words or glosses.
+-- A mark behind the first one is in no form
 abbrev pub RepliesToAsked : Version → List Entry → Look → List ℕ → Type 0
 RepliesToAsked version table (looks.Up net word) bytes = RepliesToWord version.project Up version.number (nfc_of net) (nfc_of word) bytes
 RepliesToAsked version table (looks.Down net word) bytes = RepliesToWord version.project Down version.number (nfc_of net) (nfc_of word) bytes
@@ -25,8 +26,6 @@ pub data RepliesToLook (version : Version) : Option (List ℕ) → List ℕ → 
   long : {bytes : List ℕ} → bytes ≡ headed version.number (codes "long") → RepliesToLook version None bytes
   no_look : {line bytes : List ℕ} → ((look : Look) → IsLook line look → ⊥) → bytes ≡ headed version.number (codes "line") → RepliesToLook version (Some line) bytes
   asked : {line bytes : List ℕ} (look : Look) (table : List Entry) → IsLook line look → HasTable version.files table → RepliesToAsked version table look bytes → RepliesToLook version (Some line) bytes
-  -- want of memory is answered for the line alone
-  no_memory : {line bytes : List ℕ} → bytes ≡ headed version.number (codes "memory") → RepliesToLook version (Some line) bytes
 
 -- the same at a version as contracts see it: it is a reply at each version that this one stands for
 abbrev pub RepliesAt : VersionView → Option (List ℕ) → List ℕ → Type 0

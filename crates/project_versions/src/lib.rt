@@ -4,6 +4,7 @@
 //! - [`Version`]: its number, its files, its names with the kind and the definition of each, and the replies to words and texts in
 //!   Normalization Form C. A lane is answered at it (`specs/Looks.antt`).
 //! - [`reply_to_word`]: the reply to a word as it is written.
+//! - [`one_reply_to_look`]: the law that a lane's line has one reply at a version.
 //! - [`edit`]: the next version, which a list of edits makes, and the names that are rebuilt, as [`Edited`]; or why there is none,
 //!   an [`EditError`].
 //!
@@ -14,6 +15,7 @@
 mod edit_error;
 mod editing;
 mod keeping;
+mod laws;
 mod looks;
 mod networks;
 mod rebuilt;
@@ -21,5 +23,6 @@ mod version;
 
 pub use edit_error::EditError;
 pub use editing::{Edited, edit, load};
+pub use laws::one_reply_to_look;
 pub use looks::reply_to_word;
 pub use version::Version;

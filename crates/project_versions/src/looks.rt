@@ -1,23 +1,23 @@
-ghost use Rattle.std.specs.Prelude.{◌≡◌, ◌≤◌, IfOk, List, length};
+ghost use Rattle.std.specs.Prelude.{◌≡◌, ◌≤◌, IfOk, List, MatchResult, length};
 ghost use Rattle.fsm_base.specs.Normal.{nfc_of};
 ghost use Rattle.fsm_io.specs.Lines.{most_line};
 ghost use Rattle.interlinear.specs.Glosses.{Entry};
 ghost use Rattle.interlinear.specs.Replies.{GlossesText};
+ghost use Rattle.lane_session.specs.Sending.{bytes_of};
 ghost use Rattle.project_sources.specs.Edits.{Version as Meant};
 ghost use Rattle.project_store.specs.Projects.{HasTable};
 ghost use Rattle.project_versions.specs.Looks.{IsShort, RepliesToAsked};
 ghost use Rattle.project_versions.specs.Versions.{Stands};
 ghost use Rattle.reply_meaning.specs.Replies.{RepliesToWord, headed};
-ghost use Rattle.reply_text.specs.Heads.{head_word};
 
 use crate::version::Version;
 use edit_script::{CommandError, Look, read_look};
 use fsm_base::nfc;
 use lane_meaning::Replying;
-use lane_session::Answers;
+use lane_session::{Answers, Reply};
 use lookup_answers::Direction;
 use publish_board::Release;
-use reply_text::{Head, short};
+use reply_text::Head;
 use std::alloc::{AllocError, Global};
 
 impl Release for Version {
@@ -32,17 +32,6 @@ impl Replying for Version {
     ghost use Rattle.project_versions.specs.Looks.{RepliesAt};
 
     ghost replies = { RepliesAt };
-}
-
-/// The reply of one word, at the version of this number.
-fn short_reply(alloc: Global, number: u64, head: Head) -> Result<Vec<u8>, AllocError>
-    ensures { IfOk result (λ bytes. bytes.items ≡ headed number (head_word head)) }
-{
-    let mut buf = [0u8; 64];
-    let end = short(number, head, &mut buf);
-    let mut bytes = Vec::new(alloc);
-    bytes.extend_from_slice(&buf[..end])?;
-    Ok(bytes)
 }
 
 /// The reply to a word that is looked up in a name. Both are put into Normalization Form C first.
@@ -77,37 +66,55 @@ fn reply_to_text(
     version.gloss(alloc, net.as_str(), text.as_str())
 }
 
+/// The reply that was made, or that there was no memory for it.
+fn made(found: Result<Vec<u8>, AllocError>) -> Reply
+    ensures { MatchResult found (λ bytes. result ≡ Reply.Bytes bytes) (λ refused. result ≡ Reply.Short Head.Memory) }
+{
+    match found {
+        Ok(bytes) => Reply::Bytes(bytes),
+        Err(_) => Reply::Short(Head::Memory),
+    }
+}
+
 /// The reply to what a line asks for.
-fn reply_to_look(alloc: Global, version: &Version, look: &Look) -> Result<Vec<u8>, AllocError>
+fn reply_to_look(alloc: Global, version: &Version, look: &Look) -> Reply
     requires { IsShort look.now }
-    ensures { (meant : Meant) (table : List Entry) → Stands version.now meant → HasTable meant.files table → IfOk result (λ bytes. RepliesToAsked meant table look.now bytes.items) }
+    ensures { (meant : Meant) (table : List Entry) → Stands version.now meant → HasTable meant.files table → RepliesToAsked meant table look.now (bytes_of version.now.number result) }
 {
     match look {
-        Look::Up { net, word } => {
-            reply_to_word(alloc, version, Direction::Up, net.as_str(), word.as_str())
+        Look::Up { net, word } => made(reply_to_word(
+            alloc,
+            version,
+            Direction::Up,
+            net.as_str(),
+            word.as_str(),
+        )),
+        Look::Down { net, word } => made(reply_to_word(
+            alloc,
+            version,
+            Direction::Down,
+            net.as_str(),
+            word.as_str(),
+        )),
+        Look::Gloss { net, text } => {
+            made(reply_to_text(alloc, version, net.as_str(), text.as_str()))
         }
-        Look::Down { net, word } => {
-            reply_to_word(alloc, version, Direction::Down, net.as_str(), word.as_str())
-        }
-        Look::Gloss { net, text } => reply_to_text(alloc, version, net.as_str(), text.as_str()),
-        Look::Rest => short_reply(alloc, version.number(), Head::Line),
+        Look::Rest => Reply::Short(Head::Line),
     }
 }
 
 impl Answers for Version {
     ghost use Rattle.std.specs.Prelude.{codes};
     ghost use Rattle.std.proofs.Common.{ap};
-    ghost use Rattle.project_versions.specs.Looks.{long, no_memory};
+    ghost use Rattle.project_versions.specs.Looks.{long};
 
     ghost long_is_reply = { λ value version stands. long (ap (λ number. headed number (codes "long")) stands.number) };
 
-    ghost memory_is_reply = { λ value line version stands. no_memory (ap (λ number. headed number (codes "memory")) stands.number) };
-
-    fn answer(&self, alloc: Global, line: &[u8]) -> Result<Vec<u8>, AllocError> {
+    fn answer(&self, alloc: Global, line: &[u8]) -> Reply {
         match read_look(alloc, line) {
             Ok(look) => reply_to_look(alloc, self, &look),
-            Err(CommandError::Bad) => short_reply(alloc, self.number(), Head::Line),
-            Err(CommandError::Memory(error)) => Err(error),
+            Err(CommandError::Bad) => Reply::Short(Head::Line),
+            Err(CommandError::Memory(_)) => Reply::Short(Head::Memory),
         }
     }
 }
