@@ -1,5 +1,5 @@
 -- How a run ends beside lanes, by what it did, and what follows of its status.
-use Rattle.std.proofs.Common.{◌≡◌, ◌≢◌, ◌⊎◌, ◌<◌, ℕ, zero, suc, List, [], ◌∷◌, Option, None, Some, Ok, Err, length, slice_get, refl, sym, ap, ◌∙◌, inl, inr, arith}
+use Rattle.std.proofs.Common.{◌≡◌, ◌≢◌, ◌⊎◌, ◌<◌, ◌≤◌, ℕ, zero, suc, List, [], ◌∷◌, Option, None, Some, Ok, Err, length, slice_get, refl, sym, ap, ◌∙◌, inl, inr, arith}
 use Rattle.fsm_io.specs.Causes.{Rose}
 use Rattle.fsm_io.specs.Folders.{Files, Told, IsTold, file_of}
 use Rattle.generated_report.specs.Reports.{IsReport}
@@ -37,6 +37,7 @@ use Rattle.fsm_program.specs.Saved.{HasSavedText, IsSavedFault}
 use Rattle.fsm_program.specs.Outside.{FolderFailed, Outside, ReadNothing, Wrote, WroteNothing}
 use Rattle.fsm_program.specs.Running.{HasSpent, most_taken}
 use Rattle.fsm_program.specs.Serving.{IsFirstVersion}
+use Rattle.fsm_program.proofs.Endings.{same_count}
 use Rattle.fsm_program.proofs.Outcomes.{att, check, compare, completes, completes_saved, declined_cause, fault_cause, gloss, help, look, look_saved, make, pair, refusal, spent_cause, unsaid, unserved, usage_cause}
 use Rattle.fsm_program.proofs.Unique.{answered_other, answered_seven, asks_none, check_serve, look_serve, no_fault, no_help, no_load, one_told, same_asked, same_project}
 
@@ -133,13 +134,13 @@ module _ {loaded : Version} {left0 left held0 held : Option (List ℕ)} {reads0 
 
 -- the commands were served, or there was no memory for the first line
 pub ends_served : (version : ℕ) (before after : Outside) (old new : Lanes) (status : ℕ) (loaded : Version) → Told before.files (λ fs. Reads fs (Ok loaded.project)) × Told before.files (IsFirstVersion loaded) → ¬ FolderFailed before after
-    → (status ≡ 5 → ReadNothing before after × WroteNothing before after × (new ≡ old))
+    → before.folder_faults ≤ after.folder_faults → (status ≡ 5 → ReadNothing before after × WroteNothing before after × (new ≡ old))
     → ((ending : Ending) × (endings : List Ending) × (status ≡ status_of (worst (ending ∷ endings))) × IsLive loaded most_taken before.input after.input before.output after.output ending old new endings
     × HasCauses before.input_faults after.input_faults before.output_faults after.output_faults ending) ⊎ (status ≡ 5) → EndsBeside version (Some for_serve) before after old new status
-ends_served version before after old new status loaded told whole nothing either =
+ends_served version before after old new status loaded told whole later nothing either =
     elim either as (λ _. EndsBeside version (Some for_serve) before after old new status) [
       | inl serves ↦ served loaded refl whole told.0 (told.1, serves)
-      | inr is ↦ let none = nothing is in alone (no_memory for_serve refl tt none.0 none.1 is) none.2
+      | inr is ↦ let none = nothing is in alone (no_memory for_serve refl tt (same_count before.folder_faults after.folder_faults later whole) none.0 none.1 is) none.2
     ]
 
 module _ {version : ℕ} {asked : Option Asked} {before after : Outside} {old new : Lanes} {status : ℕ} where

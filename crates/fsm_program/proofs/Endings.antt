@@ -1,5 +1,6 @@
 -- How a run ends that answers one input alone, by what it did.
-use Rattle.std.proofs.Common.{◌≡◌, ◌≢◌, ◌⊎◌, ℕ, List, Option, Some, None, Ok, Err, IfOk, Result, refl, sym, ap, subst, ◌∙◌, inl, inr, arith}
+use Rattle.std.proofs.Common.{◌≡◌, ◌≢◌, ◌⊎◌, ◌≤◌, ℕ, List, Option, Some, None, Ok, Err, IfOk, Result, refl, sym, ap, subst, ◌∙◌, inl, inr, arith}
+use Rattle.fsm_io.specs.Causes.{Rose}
 use Rattle.fsm_io.specs.Folders.{Files, Told, IsTold, file_of}
 use Rattle.fsm_io.specs.Reading.{LinesView, at_start}
 use Rattle.regex_ast.specs.declared.fault.Fault.{Fault}
@@ -36,7 +37,7 @@ use Rattle.saved_networks.specs.declared.faults.SavedError.{SavedError}
 use Rattle.saved_networks.specs.declared.faults.SavedError.TheVariants as unsaved
 use Rattle.saved_networks.specs.declared.faults.SavedWhy.{SavedWhy}
 use Rattle.fsm_program.specs.Ends.{Ends, Asked, Declines, HaveFault, IsOfNames, ReadsFolder, ReadsInput, Tells, for_att, for_check, for_compared, for_gen, for_look, for_help, for_pairs, for_saved, Loads, Query, TakesMemory, no_words, helped, refused, folder_failed, generated, no_memory, checked, answered, file_refused, paired, responded, response_bytes, response_status, saved, IsAnswered, IsNotLoaded, IsWhyUnread, usage_text, status_of, glosses_in, words_in, for_serve}
-use Rattle.fsm_program.specs.Outside.{Outside, ReadNothing, WroteNothing, Wrote, FolderFailed, IsSaid}
+use Rattle.fsm_program.specs.Outside.{Outside, ReadNothing, WroteNothing, Wrote, FolderFailed, FolderKept, IsSaid}
 use Rattle.fsm_program.specs.Files.{IsLoaded, IsLoadError, most_read}
 use Rattle.project_store.specs.Projects.{HasTable, Reads}
 use Rattle.project_sources.specs.Limits.{most_bytes}
@@ -101,37 +102,41 @@ names_take (for_pairs net) named = tt
 names_take (for_compared question first second) named = tt
 names_take for_help named = absurd named
 
+-- a count that is no lower and didn't rise is as it was
+pub same_count : (before now : ℕ) → before ≤ now → ¬ (Rose before now) → now ≡ before
+same_count before now later still = omega (arith, later, still)
+
 module _ (version : ℕ) (what : Asked) (loads : Loads what) (before after : Outside) where
-  pub ends_unloaded : (status : ℕ) (error : LoadError) → IsLoadError error before.files before.folder_faults after.folder_faults → ReadNothing before after → IsNotLoaded error before.output after.output status
+  pub ends_unloaded : (status : ℕ) (error : LoadError) → IsLoadError error before.files before.folder_faults after.folder_faults → before.folder_faults ≤ after.folder_faults → ReadNothing before after → IsNotLoaded error before.output after.output status
       → Ends version (Some what) before after status
-  ends_unloaded status Failed rose unread (same, is) = folder_failed what refl (loads_reads what loads) rose unread same is
-  ends_unloaded status (Memory a) u unread (same, is) = no_memory what refl (loads_takes what loads) unread same is
-  ends_unloaded status (Refused fault) (told, whole) unread either =
+  ends_unloaded status Failed rose later unread (same, is) = folder_failed what refl (loads_reads what loads) rose unread same is
+  ends_unloaded status (Memory a) whole later unread (same, is) = no_memory what refl (loads_takes what loads) (same_count before.folder_faults after.folder_faults later whole) unread same is
+  ends_unloaded status (Refused fault) (told, whole) later unread either =
       elim either as (λ _. Ends version (Some what) before after status) [
         | inl said ↦ refused what fault refl loads told whole unread said
-        | inr (same, is) ↦ no_memory what refl (loads_takes what loads) unread same is
+        | inr (same, is) ↦ no_memory what refl (loads_takes what loads) (same_count before.folder_faults after.folder_faults later whole) unread same is
       ]
 
 -- words that ask for nothing, or for the name in which there was no memory
-pub ends_unread : (version : ℕ) (asked : Option Asked) (error : WordsError) (before after : Outside) (status : ℕ) → IsWhyUnread asked error → ReadNothing before after
+pub ends_unread : (version : ℕ) (asked : Option Asked) (error : WordsError) (before after : Outside) (status : ℕ) → IsWhyUnread asked error → FolderKept before after → ReadNothing before after
     → (error ≡ Usage → Wrote before after usage_text 1 status) → (error ≢ Usage → (status ≡ 5) × WroteNothing before after) → Ends version asked before after status
-ends_unread version asked Usage before after status why unread said none = no_words why unread (said refl)
-ends_unread version asked (unread.Memory memory) before after status (named, is, of_names) nothing said none =
-    let other = none (λ (e : unread.Memory memory ≡ Usage). cc) in no_memory named is (names_take named of_names) nothing other.1 other.0
+ends_unread version asked Usage before after status why kept unread said none = no_words why unread (said refl)
+ends_unread version asked (unread.Memory memory) before after status (named, is, of_names) kept nothing said none =
+    let other = none (λ (e : unread.Memory memory ≡ Usage). cc) in no_memory named is (names_take named of_names) kept nothing other.1 other.0
 
 -- the names of a project were written, or there was no memory for them
-pub ends_checked : (version : ℕ) (before after : Outside) (status : ℕ) (loaded : LoadedView) → IsLoaded loaded before.files → ReadNothing before after → (status ≡ 5 → WroteNothing before after)
+pub ends_checked : (version : ℕ) (before after : Outside) (status : ℕ) (loaded : LoadedView) → IsLoaded loaded before.files → ¬ FolderFailed before after → before.folder_faults ≤ after.folder_faults → ReadNothing before after → (status ≡ 5 → WroteNothing before after)
     → ((said : Said) → IsLoadedFrom said loaded → ((names : List (List ℕ)) × AreNames (project_in said) names × Wrote before after (accepted_line version names) 0 status) ⊎ (status ≡ 5)) → Ends version (Some for_check) before after status
-ends_checked version before after status loaded (said, from, told, glosses) unread unwritten written =
+ends_checked version before after status loaded (said, from, told, glosses) whole later unread unwritten written =
     elim (written said from) as (λ _. Ends version (Some for_check) before after status) [
-      | inl (names, are, line) ↦ checked (project_in said) names refl told are unread line
-      | inr is ↦ no_memory for_check refl tt unread (unwritten is) is
+      | inl (names, are, line) ↦ checked (project_in said) names refl told whole are unread line
+      | inr is ↦ no_memory for_check refl tt (same_count before.folder_faults after.folder_faults later whole) unread (unwritten is) is
     ]
 
 -- the lines were answered in what they are looked up in, or there was no memory for that
-module _ (version : ℕ) (before after : Outside) (status : ℕ) (nothing : status ≡ 5 → ReadNothing before after × WroteNothing before after) where
+module _ (version : ℕ) (before after : Outside) (status : ℕ) (whole : ¬ FolderFailed before after) (later : before.folder_faults ≤ after.folder_faults) (nothing : status ≡ 5 → ReadNothing before after × WroteNothing before after) where
   ends_without : (what : Asked) → TakesMemory what → status ≡ 5 → Ends version (Some what) before after status
-  ends_without what takes is = let none = nothing is in no_memory what refl takes none.0 none.1 is
+  ends_without what takes is = let none = nothing is in no_memory what refl takes (same_count before.folder_faults after.folder_faults later whole) none.0 none.1 is
 
   pub ends_answered : (loaded : LoadedView) (query : Query) (network : NetworkView) → IsLoaded loaded before.files → network.name ≡ query.net → network.glosses ≡ loaded.glosses
       → ((said : Said) → IsLoadedFrom said loaded → Shows network (project_in said)) → IsAnswered (RepliesToLineIn (subjects.Named network query.task) version) before after status ⊎ (status ≡ 5) → Ends version (Some (for_look query)) before after status
@@ -140,7 +145,7 @@ module _ (version : ℕ) (before after : Outside) (status : ℕ) (nothing : stat
         | inl (ending, s, h) ↦
             let project = project_in meant in
             let lawful = answered_so (RepliesToLineIn (subjects.Named network query.task) version) (RepliesToLine query.task project network.glosses version network.name) (λ line reply replies. replies project (shows meant from)) h in
-            answered query project loaded.glosses refl told glosses
+            answered query project loaded.glosses refl told glosses whole
             (subst (λ (t : List Entry). IsAnswered (RepliesToLine query.task project t version query.net) before after status) table
             (subst (λ (n : List ℕ). IsAnswered (RepliesToLine query.task project network.glosses version n) before after status) name (ending, s, lawful)))
         | inr is ↦ ends_without (for_look query) tt is
@@ -154,7 +159,7 @@ module _ (version : ℕ) (before after : Outside) (status : ℕ) (nothing : stat
             let project = project_in meant in
             let shown = shows meant from in
             let lawful = answered_so (RepliesToLineIn (subjects.Rules rules) version) (RepliesToPairs project version rules.name) (λ line reply replies. replies project shown.1) h in
-            paired net project shown.1.0 refl told (subst (λ (n : List ℕ). HasGrammar project n shown.1.0) shown.0 shown.1.1)
+            paired net project shown.1.0 refl told whole (subst (λ (n : List ℕ). HasGrammar project n shown.1.0) shown.0 shown.1.1)
             (subst (λ (n : List ℕ). IsAnswered (RepliesToPairs project version n) before after status) shown.0 (ending, s, lawful))
         | inr is ↦ ends_without (for_pairs net) tt is
       ]
@@ -163,7 +168,7 @@ module _ (version : ℕ) (before after : Outside) (status : ℕ) (nothing : stat
       → IsAnswered (RepliesToLineIn (subjects.Saved network) version) before after status ⊎ (status ≡ 5) → Ends version (Some (for_saved file)) before after status
   ends_saved file network text there is_saved either =
       elim either as (λ _. Ends version (Some (for_saved file)) before after status) [
-        | inl (ending, s, h) ↦ saved file text refl there (ending, s, answered_so (RepliesToLineIn (subjects.Saved network) version) (RepliesBySaved text version) (λ line reply replies. replies text is_saved) h)
+        | inl (ending, s, h) ↦ saved file text refl there whole (ending, s, answered_so (RepliesToLineIn (subjects.Saved network) version) (RepliesBySaved text version) (λ line reply replies. replies text is_saved) h)
         | inr is ↦ ends_without (for_saved file) tt is
       ]
 
@@ -174,19 +179,19 @@ ends_told version what before after status loaded response (meant, from, told, g
 
 -- the file was refused, or there was no memory for that
 pub ends_unsaved : (version : ℕ) (file : List ℕ) (before after : Outside) (status : ℕ) (error : SavedError) → ((line : ℕ) (why : SavedWhy) → error ≡ unsaved.Refused line why → Told before.files (IsSavedFault file line why)) → ¬ FolderFailed before after
-    → ReadNothing before after → IsNotOpened error file before.output after.output status → Ends version (Some (for_saved file)) before after status
-ends_unsaved version file before after status (unsaved.Refused line why) faulty whole unread either =
+    → before.folder_faults ≤ after.folder_faults → ReadNothing before after → IsNotOpened error file before.output after.output status → Ends version (Some (for_saved file)) before after status
+ends_unsaved version file before after status (unsaved.Refused line why) faulty whole later unread either =
     elim either as (λ _. Ends version (Some (for_saved file)) before after status) [
       | inl said ↦ file_refused file line why refl (faulty line why refl) whole unread said
-      | inr (same, is) ↦ no_memory (for_saved file) refl tt unread same is
+      | inr (same, is) ↦ no_memory (for_saved file) refl tt (same_count before.folder_faults after.folder_faults later whole) unread same is
     ]
-ends_unsaved version file before after status (unsaved.Memory memory) faulty whole unread (same, is) = no_memory (for_saved file) refl tt unread same is
+ends_unsaved version file before after status (unsaved.Memory memory) faulty whole later unread (same, is) = no_memory (for_saved file) refl tt (same_count before.folder_faults after.folder_faults later whole) unread same is
 
 -- the report was written, or there was no memory for it
-pub ends_generated : (version stems : ℕ) (before after : Outside) (status : ℕ) → ReadNothing before after → (status ≡ 5 → WroteNothing before after)
+pub ends_generated : (version stems : ℕ) (before after : Outside) (status : ℕ) → FolderKept before after → ReadNothing before after → (status ≡ 5 → WroteNothing before after)
     → ((report : List ℕ) × IsReport stems report × Wrote before after report 0 status) ⊎ (status ≡ 5) → Ends version (Some (for_gen stems)) before after status
-ends_generated version stems before after status unread unwritten either =
+ends_generated version stems before after status kept unread unwritten either =
     elim either as (λ _. Ends version (Some (for_gen stems)) before after status) [
       | inl (report, is, said) ↦ generated stems report refl is unread said
-      | inr is ↦ no_memory (for_gen stems) refl tt unread (unwritten is) is
+      | inr is ↦ no_memory (for_gen stems) refl tt kept unread (unwritten is) is
     ]

@@ -333,7 +333,7 @@ loaded_from sources files loaded told (said, from, reads, table) = (
 )
 
 pub why_from : (sources : Files) (files : Option Files) (before now : ℕ) (error : StoreError) → Told files (IsGathered sources) → ¬ (Rose before now) → IsWhyNot sources error → IsLoadError (load_error error) files before now
-why_from sources files before now (store.Memory refused) told held why = tt
+why_from sources files before now (store.Memory refused) told held why = held
 why_from sources files before now (store.Refused fault) told held why = (told_so (IsGathered sources) (λ fs. Reads fs (Err fault)) files (λ fs gathered. gathered_says sources fs gathered (Err fault) why) told, held)
 
 -- the version of the sources is that of the folder's files

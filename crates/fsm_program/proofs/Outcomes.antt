@@ -59,13 +59,13 @@ module _ {version : ℕ} {asked : Option Asked} {before after : Outside} {status
   unsaid (helped is l said) e = asks_none asked for_help e is
   unsaid (refused what fault is loads told held l said) e = asks_none asked what e is
   unsaid (folder_failed what is loads rose l h s) e = asks_none asked what e is
-  unsaid (no_memory what is loads l h s) e = asks_none asked what e is
-  unsaid (checked project names is told are l said) e = asks_none asked for_check e is
-  unsaid (answered query project table is told glosses answers) e = asks_none asked (for_look query) e is
+  unsaid (no_memory what is loads kept l h s) e = asks_none asked what e is
+  unsaid (checked project names is told whole are l said) e = asks_none asked for_check e is
+  unsaid (answered query project table is told glosses whole answers) e = asks_none asked (for_look query) e is
   unsaid (responded what project response is told whole tells l said) e = asks_none asked what e is
-  unsaid (paired net project grammar is told has answers) e = asks_none asked (for_pairs net) e is
+  unsaid (paired net project grammar is told whole has answers) e = asks_none asked (for_pairs net) e is
   unsaid (file_refused file line why is faulty whole l said) e = asks_none asked (for_saved file) e is
-  unsaid (saved file text is there answers) e = asks_none asked (for_saved file) e is
+  unsaid (saved file text is there whole answers) e = asks_none asked (for_saved file) e is
   unsaid (generated stems report is reports l said) e = asks_none asked (for_gen stems) e is
 
   -- help
@@ -74,13 +74,13 @@ module _ {version : ℕ} {asked : Option Asked} {before after : Outside} {status
   help (helped is l said) e = said
   help (refused what fault is loads told held l said) e = no_help asked what e is loads
   help (folder_failed what is reads rose l h s) e = absurd (moved ReadsFolder what for_help is e reads)
-  help (no_memory what is takes l h s) e = no_help_takes asked what e is takes
-  help (checked project names is told are l said) e = no_help asked for_check e is tt
-  help (answered query project table is told glosses answers) e = no_help asked (for_look query) e is tt
+  help (no_memory what is takes kept l h s) e = no_help_takes asked what e is takes
+  help (checked project names is told whole are l said) e = no_help asked for_check e is tt
+  help (answered query project table is told glosses whole answers) e = no_help asked (for_look query) e is tt
   help (responded what project response is told whole tells l said) e = absurd (moved (λ (w : Asked). Tells version w project response) what for_help is e tells)
-  help (paired net project grammar is told has answers) e = no_help_takes asked (for_pairs net) e is tt
+  help (paired net project grammar is told whole has answers) e = no_help_takes asked (for_pairs net) e is tt
   help (file_refused file line why is faulty whole l said) e = no_help_takes asked (for_saved file) e is tt
-  help (saved file text is there answers) e = no_help_takes asked (for_saved file) e is tt
+  help (saved file text is there whole answers) e = no_help_takes asked (for_saved file) e is tt
   help (generated stems report is reports l said) e = no_help_takes asked (for_gen stems) e is tt
 
   -- a project with a fault
@@ -91,13 +91,13 @@ module _ {version : ℕ} {asked : Option Asked} {before after : Outside} {status
   refusal (refused what' fault' is loads' told' held l said) what fault e loads told whole =
       inl (subst (λ (f : Fault). Wrote before after (refused_line f) 2 status) (sym (same_fault fault fault' (one_told before.files (Err fault) (Err fault') told told'))) said)
   refusal (folder_failed what' is loads' rose l h s) what fault e loads told whole = absurd (whole rose)
-  refusal (no_memory what' is loads' l h s) what fault e loads told whole = inr s
-  refusal (checked project names is told' are l said) what fault e loads told whole = no_fault fault project (one_told before.files (Err fault) (Ok project) told told')
-  refusal (answered query project table is told' glosses answers) what fault e loads told whole = no_fault fault project (one_told before.files (Err fault) (Ok project) told told')
+  refusal (no_memory what' is loads' kept l h s) what fault e loads told whole = inr s
+  refusal (checked project names is told' whole' are l said) what fault e loads told whole = no_fault fault project (one_told before.files (Err fault) (Ok project) told told')
+  refusal (answered query project table is told' glosses whole' answers) what fault e loads told whole = no_fault fault project (one_told before.files (Err fault) (Ok project) told told')
   refusal (responded what' project response is told' whole' tells l said) what fault e loads told whole = no_fault fault project (one_told before.files (Err fault) (Ok project) told told')
-  refusal (paired net project grammar is told' has answers) what fault e loads told whole = no_fault fault project (one_told before.files (Err fault) (Ok project) told told')
+  refusal (paired net project grammar is told' whole' has answers) what fault e loads told whole = no_fault fault project (one_told before.files (Err fault) (Ok project) told told')
   refusal (file_refused file line why is faulty whole' l said) what fault e loads told whole = absurd (moved Loads what (for_saved file) e is loads)
-  refusal (saved file text is there answers) what fault e loads told whole = absurd (moved Loads what (for_saved file) e is loads)
+  refusal (saved file text is there whole' answers) what fault e loads told whole = absurd (moved Loads what (for_saved file) e is loads)
   refusal (generated stems report is reports l said) what fault e loads told whole = no_load asked what stems is e loads
 
   -- a project without, of which the names were asked for
@@ -107,14 +107,14 @@ module _ {version : ℕ} {asked : Option Asked} {before after : Outside} {status
   check (helped is l said) project e told whole = no_help asked for_check is e tt
   check (refused what' fault' is loads' told' held l said) project e told whole = no_fault fault' project (sym (one_told before.files (Ok project) (Err fault') told told'))
   check (folder_failed what' is loads' rose l h s) project e told whole = absurd (whole rose)
-  check (no_memory what' is loads' l h s) project e told whole = inr s
-  check (checked project' names is told' are l said) project e told whole =
+  check (no_memory what' is loads' kept l h s) project e told whole = inr s
+  check (checked project' names is told' whole' are l said) project e told whole =
       inl (names, subst (λ (p : Project). AreNames p names) (sym (same_project project project' (one_told before.files (Ok project) (Ok project') told told'))) are, said)
-  check (answered query project' table is told' glosses answers) project e told whole = check_look asked query e is
+  check (answered query project' table is told' glosses whole' answers) project e told whole = check_look asked query e is
   check (responded what project' response is told' whole' tells l said) project e told whole = absurd (moved (λ (w : Asked). Tells version w project' response) what for_check is e tells)
-  check (paired net project' grammar is told' has answers) project e told whole = absurd (moved ReadsInput (for_pairs net) for_check is e tt)
+  check (paired net project' grammar is told' whole' has answers) project e told whole = absurd (moved ReadsInput (for_pairs net) for_check is e tt)
   check (file_refused file line why is faulty whole' l said) project e told whole = absurd (moved ReadsInput (for_saved file) for_check is e tt)
-  check (saved file text is there answers) project e told whole = absurd (moved ReadsInput (for_saved file) for_check is e tt)
+  check (saved file text is there whole' answers) project e told whole = absurd (moved ReadsInput (for_saved file) for_check is e tt)
   check (generated stems report is reports l said) project e told whole = no_load asked for_check stems is e tt
 
   -- a project without, in which lines were looked up
@@ -124,16 +124,16 @@ module _ {version : ℕ} {asked : Option Asked} {before after : Outside} {status
   answer (helped is l said) query project table e told glosses whole = no_help asked (for_look query) is e tt
   answer (refused what' fault' is loads' told' held l said) query project table e told glosses whole = no_fault fault' project (sym (one_told before.files (Ok project) (Err fault') told told'))
   answer (folder_failed what' is loads' rose l h s) query project table e told glosses whole = absurd (whole rose)
-  answer (no_memory what' is loads' l h s) query project table e told glosses whole = inr s
-  answer (checked project' names is told' are l said) query project table e told glosses whole = check_look asked query is e
-  answer (answered query' project' table' is told' glosses' answers) query project table e told glosses whole =
+  answer (no_memory what' is loads' kept l h s) query project table e told glosses whole = inr s
+  answer (checked project' names is told' whole' are l said) query project table e told glosses whole = check_look asked query is e
+  answer (answered query' project' table' is told' glosses' whole' answers) query project table e told glosses whole =
       inl (subst (λ (p : Project). IsAnswered (RepliesToLine query.task p table version query.net) before after status) (sym (same_project project project' (one_told before.files (Ok project) (Ok project') told told')))
       (subst (λ (t : List Entry). IsAnswered (RepliesToLine query.task project' t version query.net) before after status) (sym (one_table_told before.files table table' glosses glosses'))
       (subst (λ (q : Query). IsAnswered (RepliesToLine q.task project' table' version q.net) before after status) (same_query asked query' query is e) answers)))
   answer (responded what project' response is told' whole' tells l said) query project table e told glosses whole = absurd (moved (λ (w : Asked). Tells version w project' response) what (for_look query) is e tells)
-  answer (paired net project' grammar is told' has answers) query project table e told glosses whole = look_pairs asked query net e is
+  answer (paired net project' grammar is told' whole' has answers) query project table e told glosses whole = look_pairs asked query net e is
   answer (file_refused file line why is faulty whole' l said) query project table e told glosses whole = absurd (moved Loads (for_look query) (for_saved file) e is tt)
-  answer (saved file text is there answers) query project table e told glosses whole = absurd (moved Loads (for_look query) (for_saved file) e is tt)
+  answer (saved file text is there whole' answers) query project table e told glosses whole = absurd (moved Loads (for_look query) (for_saved file) e is tt)
   answer (generated stems report is reports l said) query project table e told glosses whole = no_load asked (for_look query) stems is e tt
 
   -- the two tasks of look-ups
@@ -151,13 +151,13 @@ module _ {version : ℕ} {asked : Option Asked} {before after : Outside} {status
   unserved (helped is l said) project e told whole = no_help asked for_serve is e tt
   unserved (refused what' fault' is loads' told' held l said) project e told whole = no_fault fault' project (sym (one_told before.files (Ok project) (Err fault') told told'))
   unserved (folder_failed what' is loads' rose l h s) project e told whole = absurd (whole rose)
-  unserved (no_memory what' is takes l h s) project e told whole = s
-  unserved (checked project' names is told' are l said) project e told whole = check_serve asked is e
-  unserved (answered query project' table is told' glosses answers) project e told whole = look_serve asked query is e
+  unserved (no_memory what' is takes kept l h s) project e told whole = s
+  unserved (checked project' names is told' whole' are l said) project e told whole = check_serve asked is e
+  unserved (answered query project' table is told' glosses whole' answers) project e told whole = look_serve asked query is e
   unserved (responded what project' response is told' whole' tells l said) project e told whole = absurd (moved (λ (w : Asked). Tells version w project' response) what for_serve is e tells)
-  unserved (paired net project' grammar is told' has answers) project e told whole = serve_pairs asked net e is
+  unserved (paired net project' grammar is told' whole' has answers) project e told whole = serve_pairs asked net e is
   unserved (file_refused file line why is faulty whole' l said) project e told whole = absurd (moved Loads for_serve (for_saved file) e is tt)
-  unserved (saved file text is there answers) project e told whole = absurd (moved Loads for_serve (for_saved file) e is tt)
+  unserved (saved file text is there whole' answers) project e told whole = absurd (moved Loads for_serve (for_saved file) e is tt)
   unserved (generated stems report is reports l said) project e told whole = no_load asked for_serve stems is e tt
 
   -- a project that was made
@@ -166,13 +166,13 @@ module _ {version : ℕ} {asked : Option Asked} {before after : Outside} {status
   make (helped is l said) stems e = no_help_takes asked (for_gen stems) is e tt
   make (refused what fault is loads told held l said) stems e = no_load asked what stems e is loads
   make (folder_failed what is reads rose l h s) stems e = absurd (moved ReadsFolder what (for_gen stems) is e reads)
-  make (no_memory what is takes l h s) stems e = inr s
-  make (checked project names is told are l said) stems e = no_load asked for_check stems e is tt
-  make (answered query project table is told glosses answers) stems e = no_load asked (for_look query) stems e is tt
+  make (no_memory what is takes kept l h s) stems e = inr s
+  make (checked project names is told whole are l said) stems e = no_load asked for_check stems e is tt
+  make (answered query project table is told glosses whole answers) stems e = no_load asked (for_look query) stems e is tt
   make (responded what project response is told whole tells l said) stems e = absurd (moved (λ (w : Asked). Tells version w project response) what (for_gen stems) is e tells)
-  make (paired net project grammar is told has answers) stems e = no_load asked (for_pairs net) stems e is tt
+  make (paired net project grammar is told whole has answers) stems e = no_load asked (for_pairs net) stems e is tt
   make (file_refused file line why is faulty whole l said) stems e = absurd (moved ReadsFolder (for_saved file) (for_gen stems) is e tt)
-  make (saved file text is there answers) stems e = absurd (moved ReadsFolder (for_saved file) (for_gen stems) is e tt)
+  make (saved file text is there whole answers) stems e = absurd (moved ReadsFolder (for_saved file) (for_gen stems) is e tt)
   make (generated stems' report is reports l said) stems e = inl (report, subst (λ (n : ℕ). IsReport n report) (same_stems asked stems' stems is e) reports, said)
 
   -- a project without, of whose names something was asked that is told at once
@@ -182,9 +182,9 @@ module _ {version : ℕ} {asked : Option Asked} {before after : Outside} {status
   tell (helped is l said) what project all e told whole = absurd (moved TellsAll what for_help e is all)
   tell (refused what' fault' is loads' told' held l said) what project all e told whole = no_fault fault' project (sym (one_told before.files (Ok project) (Err fault') told told'))
   tell (folder_failed what' is reads rose l h s) what project all e told whole = absurd (whole rose)
-  tell (no_memory what' is takes l h s) what project all e told whole = inr s
-  tell (checked project' names is told' are l said) what project all e told whole = absurd (moved TellsAll what for_check e is all)
-  tell (answered query project' table is told' glosses answers) what project all e told whole = absurd (moved TellsAll what (for_look query) e is all)
+  tell (no_memory what' is takes kept l h s) what project all e told whole = inr s
+  tell (checked project' names is told' whole' are l said) what project all e told whole = absurd (moved TellsAll what for_check e is all)
+  tell (answered query project' table is told' glosses whole' answers) what project all e told whole = absurd (moved TellsAll what (for_look query) e is all)
   tell (responded what' project' response is told' whole' tells l said) what project all e told whole =
       inl (
         response,
@@ -192,9 +192,9 @@ module _ {version : ℕ} {asked : Option Asked} {before after : Outside} {status
             (subst (λ (p : Project). Tells version what' p response) (sym (same_project project project' (one_told before.files (Ok project) (Ok project') told told'))) tells),
         said,
       )
-  tell (paired net project' grammar is told' has answers) what project all e told whole = absurd (moved TellsAll what (for_pairs net) e is all)
+  tell (paired net project' grammar is told' whole' has answers) what project all e told whole = absurd (moved TellsAll what (for_pairs net) e is all)
   tell (file_refused file line why is faulty whole' l said) what project all e told whole = absurd (moved TellsAll what (for_saved file) e is all)
-  tell (saved file text is there answers) what project all e told whole = absurd (moved TellsAll what (for_saved file) e is all)
+  tell (saved file text is there whole' answers) what project all e told whole = absurd (moved TellsAll what (for_saved file) e is all)
   tell (generated stems report is reports l said) what project all e told whole = absurd (moved TellsAll what (for_gen stems) e is all)
 
   pub att : Ends version asked before after status → (net : List ℕ) (project : Project) → asked ≡ Some (for_att net) → IsTold before.files (λ fs. Reads fs (Ok project)) → (FolderFailed before after → ⊥)
@@ -213,9 +213,9 @@ module _ {version : ℕ} {asked : Option Asked} {before after : Outside} {status
   pair (helped is l said) net project e told whole = no_help asked (for_pairs net) is e tt
   pair (refused what' fault' is loads' told' held l said) net project e told whole = no_fault fault' project (sym (one_told before.files (Ok project) (Err fault') told told'))
   pair (folder_failed what' is reads rose l h s) net project e told whole = absurd (whole rose)
-  pair (no_memory what' is takes l h s) net project e told whole = inr (inr s)
-  pair (checked project' names is told' are l said) net project e told whole = absurd (moved ReadsInput (for_pairs net) for_check e is tt)
-  pair (answered query project' table is told' glosses answers) net project e told whole = look_pairs asked query net is e
+  pair (no_memory what' is takes kept l h s) net project e told whole = inr (inr s)
+  pair (checked project' names is told' whole' are l said) net project e told whole = absurd (moved ReadsInput (for_pairs net) for_check e is tt)
+  pair (answered query project' table is told' glosses whole' answers) net project e told whole = look_pairs asked query net is e
   pair (responded what' project' response is told' whole' tells l said) net project e told whole =
       let (line, same, refuses) = moved (λ (w : Asked). Tells version w project' response) what' (for_pairs net) is e tells in
       inr (inl (
@@ -223,7 +223,7 @@ module _ {version : ℕ} {asked : Option Asked} {before after : Outside} {status
         subst (λ (p : Project). RefusesPairs p version net line) (sym (same_project project project' (one_told before.files (Ok project) (Ok project') told told'))) refuses,
         subst (λ (r : Response). Wrote before after (response_bytes r) (response_status r) status) same said,
       ))
-  pair (paired net' project' grammar is told' has answers) net project e told whole =
+  pair (paired net' project' grammar is told' whole' has answers) net project e told whole =
       let of_net = same_net asked net' net is e in
       let of_project = sym (same_project project project' (one_told before.files (Ok project) (Ok project') told told')) in
       inl (
@@ -232,7 +232,7 @@ module _ {version : ℕ} {asked : Option Asked} {before after : Outside} {status
         subst (λ (p : Project). IsAnswered (RepliesToPairs p version net) before after status) of_project (subst (λ (n : List ℕ). IsAnswered (RepliesToPairs project' version n) before after status) of_net answers),
       )
   pair (file_refused file line why is faulty whole' l said) net project e told whole = absurd (moved Loads (for_pairs net) (for_saved file) e is tt)
-  pair (saved file text is there answers) net project e told whole = absurd (moved Loads (for_pairs net) (for_saved file) e is tt)
+  pair (saved file text is there whole' answers) net project e told whole = absurd (moved Loads (for_pairs net) (for_saved file) e is tt)
   pair (generated stems report is reports l said) net project e told whole = no_load asked (for_pairs net) stems is e tt
 
   -- a file in which lines were looked up
@@ -243,16 +243,16 @@ module _ {version : ℕ} {asked : Option Asked} {before after : Outside} {status
   look_saved (helped is l said) file files e held whole = no_help_takes asked (for_saved file) is e tt
   look_saved (refused what fault is loads told held' l said) file files e held whole = absurd (moved Loads what (for_saved file) is e loads)
   look_saved (folder_failed what is reads rose l h s) file files e held whole = absurd (whole rose)
-  look_saved (no_memory what is takes l h s) file files e held whole = inr (inr s)
-  look_saved (checked project names is told are l said) file files e held whole = absurd (moved ReadsInput (for_saved file) for_check e is tt)
-  look_saved (answered query project table is told glosses answers) file files e held whole = absurd (moved Loads (for_look query) (for_saved file) is e tt)
+  look_saved (no_memory what is takes kept l h s) file files e held whole = inr (inr s)
+  look_saved (checked project names is told whole' are l said) file files e held whole = absurd (moved ReadsInput (for_saved file) for_check e is tt)
+  look_saved (answered query project table is told glosses whole' answers) file files e held whole = absurd (moved Loads (for_look query) (for_saved file) is e tt)
   look_saved (responded what project response is told whole' tells l said) file files e held whole = absurd (moved (λ (w : Asked). Tells version w project response) what (for_saved file) is e tells)
-  look_saved (paired net project grammar is told has answers) file files e held whole = absurd (moved Loads (for_pairs net) (for_saved file) is e tt)
+  look_saved (paired net project grammar is told whole' has answers) file files e held whole = absurd (moved Loads (for_pairs net) (for_saved file) is e tt)
   look_saved (file_refused file' line why is faulty whole' l said) file files e held whole =
       let same = same_file asked file' file is e in
       let there : IsSavedFault file' line why files = subst (λ (o : Option Files). Told o (IsSavedFault file' line why)) held faulty in
       inr (inl (line, why, subst (λ (f : List ℕ). IsSavedFault f line why files) same there, subst (λ (f : List ℕ). Wrote before after (file_refused_line f line why) 2 status) same said))
-  look_saved (saved file' text is there answers) file files e held whole =
+  look_saved (saved file' text is there whole' answers) file files e held whole =
       let same = same_file asked file' file is e in
       let has : HasSavedText file' text files = subst (λ (o : Option Files). Told o (HasSavedText file' text)) held there in
       inl (text, subst (λ (f : List ℕ). HasSavedText f text files) same has, answers)
@@ -322,14 +322,14 @@ module _ {version : ℕ} {asked : Option Asked} {before after : Outside} {status
   usage_cause (helped is l said) e = said_other before.output after.output said e (λ z. omega (arith, z)) (λ z. omega (arith, z))
   usage_cause (refused what fault is loads told held l said) e = said_other before.output after.output said e (λ z. omega (arith, z)) (λ z. omega (arith, z))
   usage_cause (folder_failed what is loads rose l h s) e = absurd (omega (arith, s, e))
-  usage_cause (no_memory what is loads l h s) e = absurd (omega (arith, s, e))
-  usage_cause (checked project names is told are l said) e = said_other before.output after.output said e (λ z. omega (arith, z)) (λ z. omega (arith, z))
-  usage_cause (answered query project table is told glosses (ending, s, a)) e = answered_other ending 1 s e (inl refl)
+  usage_cause (no_memory what is loads kept l h s) e = absurd (omega (arith, s, e))
+  usage_cause (checked project names is told whole are l said) e = said_other before.output after.output said e (λ z. omega (arith, z)) (λ z. omega (arith, z))
+  usage_cause (answered query project table is told glosses whole (ending, s, a)) e = answered_other ending 1 s e (inl refl)
   usage_cause (responded what project (answer_of bytes) is told whole tells l said) e = said_other before.output after.output said e (λ z. omega (arith, z)) (λ z. omega (arith, z))
   usage_cause (responded what project (refusal_of bytes) is told whole tells l said) e = said_other before.output after.output said e (λ z. omega (arith, z)) (λ z. omega (arith, z))
-  usage_cause (paired net project grammar is told has (ending, s, a)) e = answered_other ending 1 s e (inl refl)
+  usage_cause (paired net project grammar is told whole has (ending, s, a)) e = answered_other ending 1 s e (inl refl)
   usage_cause (file_refused file line why is faulty whole l said) e = said_other before.output after.output said e (λ z. omega (arith, z)) (λ z. omega (arith, z))
-  usage_cause (saved file text is there (ending, s, a)) e = answered_other ending 1 s e (inl refl)
+  usage_cause (saved file text is there whole (ending, s, a)) e = answered_other ending 1 s e (inl refl)
   usage_cause (generated stems report is reports l said) e = said_other before.output after.output said e (λ z. omega (arith, z)) (λ z. omega (arith, z))
 
   -- 2 for files with a fault
@@ -338,14 +338,14 @@ module _ {version : ℕ} {asked : Option Asked} {before after : Outside} {status
   fault_cause (helped is l said) e = said_other before.output after.output said e (λ z. omega (arith, z)) (λ z. omega (arith, z))
   fault_cause (refused what fault is loads told held l said) e = (inl (what, fault, is, loads, told), held)
   fault_cause (folder_failed what is loads rose l h s) e = absurd (omega (arith, s, e))
-  fault_cause (no_memory what is loads l h s) e = absurd (omega (arith, s, e))
-  fault_cause (checked project names is told are l said) e = said_other before.output after.output said e (λ z. omega (arith, z)) (λ z. omega (arith, z))
-  fault_cause (answered query project table is told glosses (ending, s, a)) e = answered_other ending 2 s e (inr refl)
+  fault_cause (no_memory what is loads kept l h s) e = absurd (omega (arith, s, e))
+  fault_cause (checked project names is told whole are l said) e = said_other before.output after.output said e (λ z. omega (arith, z)) (λ z. omega (arith, z))
+  fault_cause (answered query project table is told glosses whole (ending, s, a)) e = answered_other ending 2 s e (inr refl)
   fault_cause (responded what project (answer_of bytes) is told whole tells l said) e = said_other before.output after.output said e (λ z. omega (arith, z)) (λ z. omega (arith, z))
   fault_cause (responded what project (refusal_of bytes) is told whole tells l said) e = said_other before.output after.output said e (λ z. omega (arith, z)) (λ z. omega (arith, z))
-  fault_cause (paired net project grammar is told has (ending, s, a)) e = answered_other ending 2 s e (inr refl)
+  fault_cause (paired net project grammar is told whole has (ending, s, a)) e = answered_other ending 2 s e (inr refl)
   fault_cause (file_refused file line why is faulty whole l said) e = (inr (file, line, why, is, faulty), whole)
-  fault_cause (saved file text is there (ending, s, a)) e = answered_other ending 2 s e (inr refl)
+  fault_cause (saved file text is there whole (ending, s, a)) e = answered_other ending 2 s e (inr refl)
   fault_cause (generated stems report is reports l said) e = said_other before.output after.output said e (λ z. omega (arith, z)) (λ z. omega (arith, z))
 
   -- and 6 where so many bytes were taken
@@ -354,14 +354,14 @@ module _ {version : ℕ} {asked : Option Asked} {before after : Outside} {status
   spent_cause (helped is l said) e = said_other before.output after.output said e (λ z. omega (arith, z)) (λ z. omega (arith, z))
   spent_cause (refused what fault is loads told held l said) e = said_other before.output after.output said e (λ z. omega (arith, z)) (λ z. omega (arith, z))
   spent_cause (folder_failed what is loads rose l h s) e = absurd (omega (arith, s, e))
-  spent_cause (no_memory what is loads l h s) e = absurd (omega (arith, s, e))
-  spent_cause (checked project names is told are l said) e = said_other before.output after.output said e (λ z. omega (arith, z)) (λ z. omega (arith, z))
-  spent_cause (answered query project table is told glosses (ending, s, a)) e = answered_spent ending s a e
+  spent_cause (no_memory what is loads kept l h s) e = absurd (omega (arith, s, e))
+  spent_cause (checked project names is told whole are l said) e = said_other before.output after.output said e (λ z. omega (arith, z)) (λ z. omega (arith, z))
+  spent_cause (answered query project table is told glosses whole (ending, s, a)) e = answered_spent ending s a e
   spent_cause (responded what project (answer_of bytes) is told whole tells l said) e = said_other before.output after.output said e (λ z. omega (arith, z)) (λ z. omega (arith, z))
   spent_cause (responded what project (refusal_of bytes) is told whole tells l said) e = said_other before.output after.output said e (λ z. omega (arith, z)) (λ z. omega (arith, z))
-  spent_cause (paired net project grammar is told has (ending, s, a)) e = answered_spent ending s a e
+  spent_cause (paired net project grammar is told whole has (ending, s, a)) e = answered_spent ending s a e
   spent_cause (file_refused file line why is faulty whole l said) e = said_other before.output after.output said e (λ z. omega (arith, z)) (λ z. omega (arith, z))
-  spent_cause (saved file text is there (ending, s, a)) e = answered_spent ending s a e
+  spent_cause (saved file text is there whole (ending, s, a)) e = answered_spent ending s a e
   spent_cause (generated stems report is reports l said) e = said_other before.output after.output said e (λ z. omega (arith, z)) (λ z. omega (arith, z))
 
   -- and 7 where what was asked of names was declined
@@ -370,12 +370,12 @@ module _ {version : ℕ} {asked : Option Asked} {before after : Outside} {status
   declined_cause (helped is l said) e = said_other before.output after.output said e (λ z. omega (arith, z)) (λ z. omega (arith, z))
   declined_cause (refused what fault is loads told held l said) e = said_other before.output after.output said e (λ z. omega (arith, z)) (λ z. omega (arith, z))
   declined_cause (folder_failed what is reads rose l h s) e = absurd (omega (arith, s, e))
-  declined_cause (no_memory what is takes l h s) e = absurd (omega (arith, s, e))
-  declined_cause (checked project names is told are l said) e = said_other before.output after.output said e (λ z. omega (arith, z)) (λ z. omega (arith, z))
-  declined_cause (answered query project table is told glosses (ending, s, a)) e = answered_seven ending s e
+  declined_cause (no_memory what is takes kept l h s) e = absurd (omega (arith, s, e))
+  declined_cause (checked project names is told whole are l said) e = said_other before.output after.output said e (λ z. omega (arith, z)) (λ z. omega (arith, z))
+  declined_cause (answered query project table is told glosses whole (ending, s, a)) e = answered_seven ending s e
   declined_cause (responded what project (answer_of bytes) is told whole tells l said) e = said_other before.output after.output said e (λ z. omega (arith, z)) (λ z. omega (arith, z))
   declined_cause (responded what project (refusal_of bytes) is told whole tells l said) e = (what, project, is, told, declines version what project bytes tells, whole)
-  declined_cause (paired net project grammar is told has (ending, s, a)) e = answered_seven ending s e
+  declined_cause (paired net project grammar is told whole has (ending, s, a)) e = answered_seven ending s e
   declined_cause (file_refused file line why is faulty whole l said) e = said_other before.output after.output said e (λ z. omega (arith, z)) (λ z. omega (arith, z))
-  declined_cause (saved file text is there (ending, s, a)) e = answered_seven ending s e
+  declined_cause (saved file text is there whole (ending, s, a)) e = answered_seven ending s e
   declined_cause (generated stems report is reports l said) e = said_other before.output after.output said e (λ z. omega (arith, z)) (λ z. omega (arith, z))

@@ -34,7 +34,7 @@ use Rattle.saved_networks.specs.declared.faults.SavedWhy.{SavedWhy}
 use Rattle.fsm_program.specs.FileNames.{is_file_name}
 use Rattle.fsm_program.specs.Files.{AskedForFiles}
 use Rattle.fsm_program.specs.Saved.{AskedForSaved, HasSavedText, IsSavedFault}
-use Rattle.fsm_program.specs.Outside.{Outside, ReadNothing, WroteNothing, Wrote, FolderFailed, IsSaid}
+use Rattle.fsm_program.specs.Outside.{Outside, ReadNothing, WroteNothing, Wrote, FolderFailed, FolderKept, IsSaid}
 use Rattle.fsm_program.specs.Tasks.{RepliesToLine}
 use Rattle.fsm_program.specs.declared.load.LoadError.{LoadError}
 use Rattle.fsm_program.specs.declared.load.LoadError.TheVariants.{Failed, Memory, Refused}
@@ -276,25 +276,26 @@ HaveFault asked files = ((what : Asked) × (fault : Fault) × (asked ≡ Some wh
     ⊎ ((file : List ℕ) × (line : ℕ) × (why : SavedWhy) × (asked ≡ Some (for_saved file)) × Told files (IsSavedFault file line why))
 
 -- Every way to end where no commands are served. `asked` is what the words ask for, `version` the number that the replies name, and
--- `before` and `after` are what stands outside. The folder didn't fail where its project is refused, or a file, or what is asked of names.
+-- `before` and `after` are what stands outside. The folder didn't fail where what it holds is answered or refused, nor did its count of faults
+-- change where there was no memory: names may find none before the folder is read, and a count at its last value counts as risen.
 pub data Ends (version : ℕ) (asked : Option Asked) (before after : Outside) (status : ℕ) : Type 0 where
   no_words : asked ≡ None → ReadNothing before after → Wrote before after usage_text 1 status → Ends version asked before after status
   helped : asked ≡ Some for_help → ReadNothing before after → Wrote before after usage_text 0 status → Ends version asked before after status
   refused : (what : Asked) (fault : Fault) → asked ≡ Some what → Loads what → Told before.files (λ files. Reads files (Err fault)) → ¬ FolderFailed before after → ReadNothing before after
       → Wrote before after (refused_line fault) 2 status → Ends version asked before after status
   folder_failed : (what : Asked) → asked ≡ Some what → ReadsFolder what → FolderFailed before after → ReadNothing before after → WroteNothing before after → status ≡ 3 → Ends version asked before after status
-  no_memory : (what : Asked) → asked ≡ Some what → TakesMemory what → ReadNothing before after → WroteNothing before after → status ≡ 5 → Ends version asked before after status
-  checked : (project : Project) (names : List (List ℕ)) → asked ≡ Some for_check → Told before.files (λ files. Reads files (Ok project)) → AreNames project names → ReadNothing before after
+  no_memory : (what : Asked) → asked ≡ Some what → TakesMemory what → FolderKept before after → ReadNothing before after → WroteNothing before after → status ≡ 5 → Ends version asked before after status
+  checked : (project : Project) (names : List (List ℕ)) → asked ≡ Some for_check → Told before.files (λ files. Reads files (Ok project)) → ¬ FolderFailed before after → AreNames project names → ReadNothing before after
       → Wrote before after (accepted_line version names) 0 status → Ends version asked before after status
   answered : (query : Query) (project : Project) (table : List Entry) → asked ≡ Some (for_look query) → Told before.files (λ files. Reads files (Ok project)) → Told before.files (λ files. HasTable files table)
-      → IsAnswered (RepliesToLine query.task project table version query.net) before after status → Ends version asked before after status
+      → ¬ FolderFailed before after → IsAnswered (RepliesToLine query.task project table version query.net) before after status → Ends version asked before after status
   responded : (what : Asked) (project : Project) (response : Response) → asked ≡ Some what → Told before.files (λ files. Reads files (Ok project)) → ¬ FolderFailed before after → Tells version what project response → ReadNothing before after
       → Wrote before after (response_bytes response) (response_status response) status → Ends version asked before after status
-  paired : (net : List ℕ) (project : Project) (grammar : Grammar Leaf) → asked ≡ Some (for_pairs net) → Told before.files (λ files. Reads files (Ok project)) → HasGrammar project net grammar
+  paired : (net : List ℕ) (project : Project) (grammar : Grammar Leaf) → asked ≡ Some (for_pairs net) → Told before.files (λ files. Reads files (Ok project)) → ¬ FolderFailed before after → HasGrammar project net grammar
       → IsAnswered (RepliesToPairs project version net) before after status → Ends version asked before after status
   file_refused : (file : List ℕ) (line : ℕ) (why : SavedWhy) → asked ≡ Some (for_saved file) → Told before.files (IsSavedFault file line why) → ¬ FolderFailed before after → ReadNothing before after
       → Wrote before after (file_refused_line file line why) 2 status → Ends version asked before after status
-  saved : (file text : List ℕ) → asked ≡ Some (for_saved file) → Told before.files (HasSavedText file text) → IsAnswered (RepliesBySaved text version) before after status → Ends version asked before after status
+  saved : (file text : List ℕ) → asked ≡ Some (for_saved file) → Told before.files (HasSavedText file text) → ¬ FolderFailed before after → IsAnswered (RepliesBySaved text version) before after status → Ends version asked before after status
   generated : (stems : ℕ) (report : List ℕ) → asked ≡ Some (for_gen stems) → IsReport stems report → ReadNothing before after → Wrote before after report 0 status → Ends version asked before after status
 
 -- how a run ends whose project isn't loaded

@@ -49,10 +49,10 @@ IsReadError Failed before now = Rose before now
 IsReadError (Memory refused) before now = Unit {0}
 IsReadError (Refused fault) before now = ⊥
 
--- why a project couldn't be loaded: its folder failed, want of memory, or its first fault
+-- why a project couldn't be loaded: its folder failed, or else want of memory, or its first fault
 abbrev pub IsLoadError : LoadError → Option Files → ℕ → ℕ → Type 0
 IsLoadError Failed files before now = Rose before now
-IsLoadError (Memory refused) files before now = Unit {0}
+IsLoadError (Memory refused) files before now = ¬ (Rose before now)
 IsLoadError (Refused fault) files before now = Told files (λ files. Reads files (Err fault)) × ¬ (Rose before now)
 
 -- why a project isn't loaded whose sources have none

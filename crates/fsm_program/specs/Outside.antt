@@ -33,6 +33,10 @@ WroteNothing before after = after.output ≡ before.output
 abbrev pub FolderFailed : Outside → Outside → Type 0
 FolderFailed before after = Rose before.folder_faults after.folder_faults
 
+-- its count of faults is as it was
+abbrev pub FolderKept : Outside → Outside → Type 0
+FolderKept before after = after.folder_faults ≡ before.folder_faults
+
 abbrev pub InputFailed : Outside → Outside → Type 0
 InputFailed before after = Rose before.input_faults after.input_faults
 

@@ -1,7 +1,10 @@
 -- A file of the folder that was saved as AT&T text, and what was found of it.
 use Rattle.std.specs.Prelude.{◌≡◌, ◌⊎◌, ◌+◌, ◌∷◌, ℕ, List, [], Option, None, Some, Ok}
 use Rattle.fsm_base.specs.Normal.{source_text}
+use Rattle.fsm_io.specs.Causes.{Rose}
 use Rattle.fsm_io.specs.Folders.{Asked, AsksFor, Files, file_of}
+use Rattle.fsm_io.specs.declared.folder.FolderError.{FolderError}
+use Rattle.fsm_io.specs.declared.folder.FolderError.TheVariants.{Failed, Memory as NoMemory}
 use Rattle.fsm_io.specs.declared.folder.Found.{Found}
 use Rattle.fsm_io.specs.declared.folder.Found.TheVariants.{Bytes, Missing}
 use Rattle.saved_networks.specs.Faults.{file_fault, most_bytes}
@@ -30,6 +33,11 @@ pub record HasSavedText (file text : List ℕ) (files : Files) : Type 0 where
 abbrev pub content_of : Found → Option (List ℕ)
 content_of (Bytes bytes) = Some bytes.items
 content_of Missing = None
+
+-- why it couldn't be read: the folder failed, or else want of memory
+abbrev pub IsFindError : FolderError → ℕ → ℕ → Type 0
+IsFindError Failed before now = Rose before now
+IsFindError (NoMemory refused) before now = ¬ (Rose before now)
 
 -- the folder was asked for this file alone, as far as it is read, or not at all
 abbrev pub AskedForSaved : List ℕ → Option (List Asked) → Option (List Asked) → Type 0

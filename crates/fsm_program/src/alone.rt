@@ -1,4 +1,4 @@
-ghost use Rattle.std.specs.Prelude.{◌≡◌, ◌≢◌, ◌⊎◌, ◌≤◌, ℕ, List, Option, None, Some, Ok, Err, map};
+ghost use Rattle.std.specs.Prelude.{◌≡◌, ◌≢◌, ◌⊎◌, ◌<◌, ◌≤◌, ℕ, List, Option, None, Some, Ok, Err, map};
 ghost use Rattle.std.specs.String.{string_bytes};
 ghost use Rattle.fsm_io.specs.Buffers.{most_gathered};
 ghost use Rattle.fsm_io.specs.Causes.{Rose};
@@ -54,6 +54,7 @@ const FIRST_VERSION: u64 = 1;
 fn check<F: Folder, O: Sink>(alloc: Global, version: u64, folder: &mut F, output: &mut O) -> u8
     ensures ends { (left : Option (List ℕ)) (input_faults : ℕ) → Ends version (Some for_check) (outside (F.files folder.old) (F.faults folder.old) left input_faults (O.held output.old) (O.faults output.old)) (outside (F.files folder.new) (F.faults folder.new) left input_faults (O.held output.new) (O.faults output.new)) result }
     ensures unwritten { result ≡ 5 → output.new ≡ output.old }
+    ensures folder_failed { Rose (F.faults folder.old) (F.faults folder.new) → (result ≡ 3) × (output.new ≡ output.old) }
     ensures read { result ≡ 3 → Rose (F.faults folder.old) (F.faults folder.new) }
     ensures write { result ≡ 4 → Rose (O.faults output.old) (O.faults output.new) }
     ensures asked { AskedForFiles (F.files folder.old) (F.asked folder.old) (F.asked folder.new) }
@@ -78,6 +79,7 @@ fn look_up<F: Folder, I: Source, O: Sink>(
     ensures unread { (result ≡ 1) ⊎ (result ≡ 2) ⊎ (result ≡ 5) → input.new ≡ input.old }
     ensures unread_declined { result ≡ 7 → input.new ≡ input.old }
     ensures unwritten { result ≡ 5 → output.new ≡ output.old }
+    ensures folder_failed { Rose (F.faults folder.old) (F.faults folder.new) → (result ≡ 3) × (input.new ≡ input.old) × (output.new ≡ output.old) }
     ensures read { result ≡ 3 → Rose (F.faults folder.old) (F.faults folder.new) ⊎ Rose (I.faults input.old) (I.faults input.new) }
     ensures write { result ≡ 4 → Rose (O.faults output.old) (O.faults output.new) }
     ensures asked { AskedForFiles (F.files folder.old) (F.asked folder.old) (F.asked folder.new) }
@@ -130,6 +132,7 @@ fn obey<F: Folder, I: Source, O: Sink>(
     ensures unread_declined { result ≡ 7 → input.new ≡ input.old }
     ensures lines_read { ¬ (ReadsInput (asked_by command)) → input.new ≡ input.old }
     ensures unwritten { result ≡ 5 → output.new ≡ output.old }
+    ensures folder_failed { F.faults folder.old < F.faults folder.new → (result ≡ 3) × (input.new ≡ input.old) × (output.new ≡ output.old) }
     ensures unasked { ¬ (ReadsFolder (asked_by command)) → folder.new ≡ folder.old }
     ensures read { result ≡ 3 → Rose (F.faults folder.old) (F.faults folder.new) ⊎ Rose (I.faults input.old) (I.faults input.new) }
     ensures write { result ≡ 4 → Rose (O.faults output.old) (O.faults output.new) }
@@ -183,6 +186,7 @@ fn ended<F: Folder, I: Source, O: Sink>(
     ensures unread_declined { result ≡ 7 → input.new ≡ input.old }
     ensures lines_read { ((what : Asked) → asked_of (map string_bytes words.now) ≡ Some what → ¬ (ReadsInput what)) → input.new ≡ input.old }
     ensures unwritten { result ≡ 5 → output.new ≡ output.old }
+    ensures folder_failed { F.faults folder.old < F.faults folder.new → (result ≡ 3) × (input.new ≡ input.old) × (output.new ≡ output.old) }
     ensures unasked { ((what : Asked) → asked_of (map string_bytes words.now) ≡ Some what → ¬ (ReadsFolder what)) → folder.new ≡ folder.old }
     ensures read { result ≡ 3 → Rose (F.faults folder.old) (F.faults folder.new) ⊎ Rose (I.faults input.old) (I.faults input.new) }
     ensures write { result ≡ 4 → Rose (O.faults output.old) (O.faults output.new) }
@@ -237,6 +241,7 @@ pub fn run_alone<F: Folder, I: Source, O: Sink>(
     ensures unread_declined { result ≡ 7 → input.new ≡ input.old }
     ensures lines_read { ((what : Asked) → asked_of (map string_bytes words.now) ≡ Some what → ¬ (ReadsInput what)) → input.new ≡ input.old }
     ensures unwritten { result ≡ 5 → output.new ≡ output.old }
+    ensures folder_failed { F.faults folder.old < F.faults folder.new → (result ≡ 3) × (input.new ≡ input.old) × (output.new ≡ output.old) }
     ensures unasked { ((what : Asked) → asked_of (map string_bytes words.now) ≡ Some what → ¬ (ReadsFolder what)) → folder.new ≡ folder.old }
     ensures read { result ≡ 3 → Rose (F.faults folder.old) (F.faults folder.new) ⊎ Rose (I.faults input.old) (I.faults input.new) }
     ensures write { result ≡ 4 → Rose (O.faults output.old) (O.faults output.new) }

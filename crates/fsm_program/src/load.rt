@@ -171,8 +171,28 @@ fn gather<F: Folder>(alloc: Global, folder: &mut F, most: usize) -> Result<Sourc
     }
 }
 
-/// Loads the project of a folder, which has failed too where its count of faults rose and a read went well. At most `most`
-/// bytes of each of its files are read.
+/// The sources of a folder's project. It has failed too where its count of faults rose and they were read, or there was no memory.
+fn whole_sources<F: Folder>(
+    alloc: Global,
+    folder: &mut F,
+    most: usize,
+) -> Result<Sources, LoadError>
+    requires { most ≡ most_read }
+    ensures gathered { IfOk result (λ sources. Told (F.files folder.old) (IsGathered sources)) }
+    ensures whole { OnOk result (¬ (Rose (F.faults folder.old) (F.faults folder.new))) }
+    ensures error { IfErr result (λ error. IsLoadError error (F.files folder.old) (F.faults folder.old) (F.faults folder.new)) }
+    ensures asked { AskedForFiles (F.files folder.old) (F.asked folder.old) (F.asked folder.new) }
+    ensures later { F.faults folder.old ≤ F.faults folder.new }
+{
+    let before = folder.faults();
+    let sources = gather(alloc, folder, most);
+    if rose(before, folder.faults()) {
+        return Err(LoadError::Failed);
+    }
+    sources
+}
+
+/// Loads the project of a folder. At most `most` bytes of each of its files are read.
 pub fn load<F: Folder>(alloc: Global, folder: &mut F, most: usize) -> Result<Ready, LoadError>
     requires { most ≡ most_read }
     ensures loaded { IfOk result (λ project. IsLoaded project (F.files folder.old)) }
@@ -181,11 +201,7 @@ pub fn load<F: Folder>(alloc: Global, folder: &mut F, most: usize) -> Result<Rea
     ensures asked { AskedForFiles (F.files folder.old) (F.asked folder.old) (F.asked folder.new) }
     ensures later { F.faults folder.old ≤ F.faults folder.new }
 {
-    let before = folder.faults();
-    let sources = gather(alloc, folder, most)?;
-    if rose(before, folder.faults()) {
-        return Err(LoadError::Failed);
-    }
+    let sources = whole_sources(alloc, folder, most)?;
     Ok(project_of(alloc, &sources)?)
 }
 
@@ -203,10 +219,6 @@ pub fn load_version<F: Folder>(
     ensures asked { AskedForFiles (F.files folder.old) (F.asked folder.old) (F.asked folder.new) }
     ensures later { F.faults folder.old ≤ F.faults folder.new }
 {
-    let before = folder.faults();
-    let sources = gather(alloc, folder, most)?;
-    if rose(before, folder.faults()) {
-        return Err(LoadError::Failed);
-    }
+    let sources = whole_sources(alloc, folder, most)?;
     Ok(project_versions::load(alloc, sources)?)
 }

@@ -68,6 +68,7 @@ pub fn tell<F: Folder, O: Sink>(
 ) -> u8
     ensures ends { (left : Option (List ℕ)) (input_faults : ℕ) → Ends version (Some (asked_in request)) (outside (F.files folder.old) (F.faults folder.old) left input_faults (O.held output.old) (O.faults output.old)) (outside (F.files folder.new) (F.faults folder.new) left input_faults (O.held output.new) (O.faults output.new)) result }
     ensures unwritten { result ≡ 5 → output.new ≡ output.old }
+    ensures folder_failed { Rose (F.faults folder.old) (F.faults folder.new) → (result ≡ 3) × (output.new ≡ output.old) }
     ensures read { result ≡ 3 → Rose (F.faults folder.old) (F.faults folder.new) }
     ensures write { result ≡ 4 → Rose (O.faults output.old) (O.faults output.new) }
     ensures asked { AskedForFiles (F.files folder.old) (F.asked folder.old) (F.asked folder.new) }

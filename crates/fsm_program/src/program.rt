@@ -1,4 +1,4 @@
-ghost use Rattle.std.specs.Prelude.{◌≡◌, ◌≢◌, ◌⊎◌, ◌≤◌, ◌∷◌, ℕ, List, None, Some, Ok, Err, length, map};
+ghost use Rattle.std.specs.Prelude.{◌≡◌, ◌≢◌, ◌⊎◌, ◌<◌, ◌≤◌, ◌∷◌, ℕ, List, None, Some, Ok, Err, length, map};
 ghost use Rattle.std.specs.String.{string_bytes};
 ghost use Rattle.fsm_io.specs.Buffers.{most_gathered};
 ghost use Rattle.fsm_io.specs.Causes.{Rose};
@@ -102,6 +102,7 @@ fn serve<
     ensures unread { (result ≡ 1) ⊎ (result ≡ 2) ⊎ (result ≡ 5) → input.new ≡ input.old }
     ensures status { result ≢ 7 }
     ensures unwritten { result ≡ 5 → output.new ≡ output.old }
+    ensures folder_failed { Rose (F.faults folder.old) (F.faults folder.new) → (result ≡ 3) × (input.new ≡ input.old) × (output.new ≡ output.old) }
     ensures untouched { (result ≡ 1) ⊎ (result ≡ 2) ⊎ (result ≡ 5) → lanes.new ≡ lanes.old }
     ensures read { result ≡ 3 → Rose (F.faults folder.old) (F.faults folder.new) ⊎ Rose (I.faults input.old) (I.faults input.new) ⊎ OfSomeLane LaneReadFailed lanes.old lanes.new }
     ensures write { result ≡ 4 → Rose (O.faults output.old) (O.faults output.new) ⊎ OfSomeLane LaneWriteFailed lanes.old lanes.new }
@@ -136,6 +137,7 @@ fn ended<
     ensures unread_declined { result ≡ 7 → input.new ≡ input.old }
     ensures lines_read { ((what : Asked) → asked_of (map string_bytes words.now) ≡ Some what → ¬ (ReadsInput what)) → input.new ≡ input.old }
     ensures unwritten { result ≡ 5 → output.new ≡ output.old }
+    ensures folder_failed { F.faults folder.old < F.faults folder.new → (result ≡ 3) × (input.new ≡ input.old) × (output.new ≡ output.old) }
     ensures unasked { ((what : Asked) → asked_of (map string_bytes words.now) ≡ Some what → ¬ (ReadsFolder what)) → folder.new ≡ folder.old }
     ensures untouched { (result ≡ 1) ⊎ (result ≡ 2) ⊎ (result ≡ 5) → lanes.new ≡ lanes.old }
     ensures read { result ≡ 3 → Rose (F.faults folder.old) (F.faults folder.new) ⊎ Rose (I.faults input.old) (I.faults input.new) ⊎ OfSomeLane LaneReadFailed lanes.old lanes.new }
@@ -181,7 +183,7 @@ fn ended<
 /// - 1: the words are in no form. The forms were written to the output.
 /// - 2: the project has a fault, or the file of `attup`. The first fault was written to the output.
 /// - 3: a file of the folder, the input or the input of a lane couldn't be read. Every line that was read whole has its
-///   reply.
+///   reply. Where it was the folder, nothing was read of the input or a lane, and nothing written.
 /// - 4: the output or the output of a lane couldn't be written. This goes before 3, and 3 before 6.
 /// - 5: there was no memory for the project. Nothing was read of the input or a lane, and nothing written.
 /// - 6: 2^40 bytes were read of an input that hasn't ended. Every line that was read whole has its reply.
@@ -245,6 +247,7 @@ pub fn run<
     ensures unread_declined { result ≡ 7 → input.new ≡ input.old }
     ensures lines_read { ((what : Asked) → asked_of (map string_bytes words.now) ≡ Some what → ¬ (ReadsInput what)) → input.new ≡ input.old }
     ensures unwritten { result ≡ 5 → output.new ≡ output.old }
+    ensures folder_failed { F.faults folder.old < F.faults folder.new → (result ≡ 3) × (input.new ≡ input.old) × (output.new ≡ output.old) }
     ensures unasked { ((what : Asked) → asked_of (map string_bytes words.now) ≡ Some what → ¬ (ReadsFolder what)) → folder.new ≡ folder.old }
     ensures untouched { (result ≡ 1) ⊎ (result ≡ 2) ⊎ (result ≡ 5) → lanes.new ≡ lanes.old }
     ensures unserved { asked_of (map string_bytes words.now) ≢ Some for_serve → lanes.new ≡ lanes.old }

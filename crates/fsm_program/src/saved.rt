@@ -1,11 +1,11 @@
-ghost use Rattle.std.specs.Prelude.{◌≡◌, ◌⊎◌, List, None, Some, ℕ, IfErr, IfOk, IsErrOf, OnOk};
+ghost use Rattle.std.specs.Prelude.{◌≡◌, ◌≤◌, ◌⊎◌, List, None, Some, ℕ, IfErr, IfOk, OnOk};
 ghost use Rattle.fsm_io.specs.Causes.{Rose};
 ghost use Rattle.fsm_io.specs.Folders.{Finds, HasAsked, Told};
 ghost use Rattle.saved_networks.specs.Faults.{IsWhyRefused, file_fault};
 ghost use Rattle.saved_networks.specs.Networks.{IsSavedFrom};
 ghost use Rattle.fsm_program.specs.Ends.{Ends, for_saved};
 ghost use Rattle.fsm_program.specs.Outside.{outside};
-ghost use Rattle.fsm_program.specs.Saved.{AskedForSaved, content_of};
+ghost use Rattle.fsm_program.specs.Saved.{AskedForSaved, IsFindError, content_of};
 
 use crate::answering::answered;
 use crate::look_up::{LookUp, Subject};
@@ -18,7 +18,8 @@ use std::alloc::Global;
 /// The most bytes that are read of a file of AT&T text: one more than it may have.
 const MOST_SAVED: usize = 67_108_865;
 
-/// What the folder has of a file, `most` bytes at most. It has failed too where its count of faults rose and the read went well.
+/// What the folder has of a file, `most` bytes at most. It has failed too where its count of faults rose and the file was read, or there
+/// was no memory.
 fn find<F: Folder>(
     alloc: Global,
     folder: &mut F,
@@ -27,15 +28,16 @@ fn find<F: Folder>(
 ) -> Result<Found, FolderError>
     ensures found { IfOk result (λ found. Told (F.files folder.old) (Finds file.now most found)) }
     ensures whole { OnOk result (¬ (Rose (F.faults folder.old) (F.faults folder.new))) }
-    ensures failed { IsErrOf result FolderError.Failed → Rose (F.faults folder.old) (F.faults folder.new) }
+    ensures error { IfErr result (λ error. IsFindError error (F.faults folder.old) (F.faults folder.new)) }
     ensures asked { HasAsked (F.asked folder.old) (F.asked folder.new) file.now most result }
+    ensures later { F.faults folder.old ≤ F.faults folder.new }
 {
     let before = folder.faults();
-    let found = folder.read(alloc, file, most)?;
+    let found = folder.read(alloc, file, most);
     if rose(before, folder.faults()) {
         return Err(FolderError::Failed);
     }
-    Ok(found)
+    found
 }
 
 /// The network that was found of a file of AT&T text, or why there is none. What was found is let go.
@@ -66,6 +68,7 @@ pub fn look_up_saved<F: Folder, I: Source, O: Sink>(
     ensures unread { (result ≡ 1) ⊎ (result ≡ 2) ⊎ (result ≡ 5) → input.new ≡ input.old }
     ensures unread_declined { result ≡ 7 → input.new ≡ input.old }
     ensures unwritten { result ≡ 5 → output.new ≡ output.old }
+    ensures folder_failed { Rose (F.faults folder.old) (F.faults folder.new) → (result ≡ 3) × (input.new ≡ input.old) × (output.new ≡ output.old) }
     ensures read { result ≡ 3 → Rose (F.faults folder.old) (F.faults folder.new) ⊎ Rose (I.faults input.old) (I.faults input.new) }
     ensures write { result ≡ 4 → Rose (O.faults output.old) (O.faults output.new) }
     ensures asked { AskedForSaved file (F.asked folder.old) (F.asked folder.new) }

@@ -67,6 +67,7 @@ pub fn not_loaded<O: Sink>(alloc: Global, error: LoadError, output: &mut O) -> u
     ensures status { (result ≡ 2) ⊎ (result ≡ 3) ⊎ (result ≡ 4) ⊎ (result ≡ 5) }
     ensures unwritten { result ≡ 5 → output.new ≡ output.old }
     ensures failed { result ≡ 3 → error ≡ LoadError.Failed }
+    ensures folder_failed { error ≡ LoadError.Failed → (result ≡ 3) × (output.new ≡ output.old) }
     ensures write { result ≡ 4 → Rose (O.faults output.old) (O.faults output.new) }
 {
     match error {

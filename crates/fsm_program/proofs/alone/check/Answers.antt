@@ -8,7 +8,7 @@ load-requires g c = most_read_is
 
 pub returns-in-Ok-clause-ends : goal.returns-in-Ok-clause-ends
 returns-in-Ok-clause-ends g c left input_faults =
-    ends_checked _ _ _ _ _ c.in-Ok.ensures.loaded refl (λ is. ap (λ o. g.O.Sink.held o) (c.say_names.ensures.unwritten is)) (rw c.project.ensures at c.say_names.ensures.said)
+    ends_checked _ _ _ _ _ c.in-Ok.ensures.loaded c.in-Ok.ensures.whole c.load.ensures.later refl (λ is. ap (λ o. g.O.Sink.held o) (c.say_names.ensures.unwritten is)) (rw c.project.ensures at c.say_names.ensures.said)
 
 pub returns-in-Err-clause-ends : goal.returns-in-Err-clause-ends
-returns-in-Err-clause-ends g c left input_faults = ends_unloaded _ for_check tt _ _ _ c.in-Err.error c.in-Err.ensures.error refl c.not_loaded.ensures.ends
+returns-in-Err-clause-ends g c left input_faults = ends_unloaded _ for_check tt _ _ _ c.in-Err.error c.in-Err.ensures.error c.load.ensures.later refl c.not_loaded.ensures.ends

@@ -12,7 +12,7 @@ returns-in-Check-clause-ends g c =
 pub returns-in-Gen-clause-ends : goal.returns-in-Gen-clause-ends
 returns-in-Gen-clause-ends g c =
     subst (λ command. Ends c.args.version (Some (asked_by command)) (outside (g.F.Folder.files c.args.folder.now) (g.F.Folder.faults c.args.folder.now) (g.I.Source.left c.args.input.now) (g.I.Source.faults c.args.input.now) (g.O.Sink.held c.args.output.now) (g.O.Sink.faults c.args.output.now)) (outside (g.F.Folder.files c.args.folder.now) (g.F.Folder.faults c.args.folder.now) (g.I.Source.left c.args.input.now) (g.I.Source.faults c.args.input.now) (g.O.Sink.held c.generate.new.output) (g.O.Sink.faults c.generate.new.output)) c.generate.result) (sym c.in-Gen.is)
-    (ends_generated c.args.version c.in-Gen.n _ _ c.generate.result refl (λ is. ap (λ o. g.O.Sink.held o) (c.generate.ensures.unwritten is)) c.generate.ensures.generated)
+    (ends_generated c.args.version c.in-Gen.n _ _ c.generate.result refl refl (λ is. ap (λ o. g.O.Sink.held o) (c.generate.ensures.unwritten is)) c.generate.ensures.generated)
 
 pub returns-in-Att-clause-ends : goal.returns-in-Att-clause-ends
 returns-in-Att-clause-ends g c =

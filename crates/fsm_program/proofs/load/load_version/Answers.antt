@@ -3,9 +3,8 @@ use Rattle.fsm_program.proofs.load.load_version.Goals as goal
 
 pub returns-in_err-load-clause-error : goal.returns-in_err-load-clause-error
 returns-in_err-load-clause-error g c =
-    let held = rw (c.faults-before.ensures, c.faults.ensures) at c.if-rose.ensures in
     fails_by _ _ c.in_err-load.field-0.0 c.from_residual-in_err-load.ensures.1
-    (why_from c.in_ok-sources.sources _ _ _ c.in_err-load.field-0.0 c.in_ok-sources.ensures.gathered (λ rises. let clash = held.1 rises in cc) c.in_err-load.ensures.error)
+    (why_from c.in_ok-sources.sources _ _ _ c.in_err-load.field-0.0 c.in_ok-sources.ensures.gathered c.in_ok-sources.ensures.whole c.in_err-load.ensures.error)
 
 pub returns-clause-loaded : goal.returns-clause-loaded
 returns-clause-loaded g c =

@@ -1,18 +1,18 @@
 use Rattle.std.proofs.Common.{ap, refl, inl, inr}
 use Rattle.named_networks.specs.Responses.{refusal}
 use Rattle.fsm_program.specs.Ends.{for_pairs, no_memory}
-use Rattle.fsm_program.proofs.Endings.{most_read_is, ends_paired, ends_told, ends_unloaded}
+use Rattle.fsm_program.proofs.Endings.{most_read_is, ends_paired, ends_told, ends_unloaded, same_count}
 use Rattle.fsm_program.proofs.pairing.pair.Goals as goal
 
 pub load-requires : goal.load-requires
 load-requires g c = most_read_is
 
 pub returns-in-Err-clause-ends : goal.returns-in-Err-clause-ends
-returns-in-Err-clause-ends g c = ends_unloaded _ (for_pairs _) tt _ _ _ c.in-Err.error c.in-Err.ensures.error refl c.not_loaded.ensures.ends
+returns-in-Err-clause-ends g c = ends_unloaded _ (for_pairs _) tt _ _ _ c.in-Err.error c.in-Err.ensures.error c.load.ensures.later refl c.not_loaded.ensures.ends
 
 pub returns-in-Ok-Rules-clause-ends : goal.returns-in-Ok-Rules-clause-ends
 returns-in-Ok-Rules-clause-ends g c =
-    ends_paired _ _ _ c.answered.result (λ is. let none = c.answered.ensures.none is in (ap (λ i. g.I.Source.left i) none.0, ap (λ o. g.O.Sink.held o) none.1))
+    ends_paired _ _ _ c.answered.result c.in-Ok.ensures.whole c.load.ensures.later (λ is. let none = c.answered.ensures.none is in (ap (λ i. g.I.Source.left i) none.0, ap (λ o. g.O.Sink.held o) none.1))
     c.in-Ok.ready _ c.in-Ok-Rules.rules c.in-Ok.ensures.loaded (rw c.in-Ok-Rules.field-0-is at c.in-Ok-Rules.ensures) c.answered.ensures.answered
 
 pub returns-in-Ok-Rules-clause-unread : goal.returns-in-Ok-Rules-clause-unread
@@ -37,4 +37,4 @@ returns-in-Ok-Refusal-clause-ends g c =
     (λ said from. (c.in-Ok-Refusal.line.items, refl, (rw c.in-Ok-Refusal.field-0-is at c.in-Ok-Refusal.ensures) said from)) refl (rw c.deref.ensures.value at c.said.ensures.said)
 
 pub returns-clause-ends : goal.returns-clause-ends
-returns-clause-ends g c = no_memory (for_pairs _) refl tt refl refl refl
+returns-clause-ends g c = no_memory (for_pairs _) refl tt (same_count _ _ c.load.ensures.later c.in-Ok.ensures.whole) refl refl refl

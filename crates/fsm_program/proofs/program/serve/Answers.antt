@@ -13,7 +13,7 @@ load_version-requires g c = most_read_is
 pub returns-in-Ok-clause-ends : goal.returns-in-Ok-clause-ends
 returns-in-Ok-clause-ends g c =
     let loads = c.in-Ok.ensures.loaded in
-    ends_served first_version _ _ _ _ c.served.result loads.0 loads.2 c.in-Ok.ensures.whole
+    ends_served first_version _ _ _ _ c.served.result loads.0 loads.2 c.in-Ok.ensures.whole c.load_version.ensures.later
     (λ is. let none = c.served.ensures.none is in (ap (λ i. g.I.Source.left i) none.0, ap (λ o. g.O.Sink.held o) none.1, none.2)) (c.served.ensures.served loads.0 loads.1)
 
 pub returns-in-Ok-clause-read : goal.returns-in-Ok-clause-read
@@ -33,4 +33,4 @@ returns-in-Ok-clause-write g c four =
     ]
 
 pub returns-in-Err-clause-ends : goal.returns-in-Err-clause-ends
-returns-in-Err-clause-ends g c = alone (ends_unloaded first_version for_serve tt _ _ _ c.in-Err.error c.in-Err.ensures.error refl c.not_loaded.ensures.ends) refl
+returns-in-Err-clause-ends g c = alone (ends_unloaded first_version for_serve tt _ _ _ c.in-Err.error c.in-Err.ensures.error c.load_version.ensures.later refl c.not_loaded.ensures.ends) refl
