@@ -34,6 +34,7 @@ use Rattle.grammar_pairs.specs.Tables.{HasSymbol, IsMember}
 use Rattle.grammar_pairs.specs.Texts.{HasOwnTexts, IsPairOver, in_text, in_texts, letter_in}
 use Rattle.grammar_pairs.proofs.Spelled.{feasible_same, written_same}
 use Rattle.network_grammars.specs.Built.{IsBuilt}
+use Rattle.network_algebra.specs.Networks.{all_letters}
 use Rattle.network_grammars.specs.PairMeaning.{IsScope, pair_at}
 use Rattle.network_grammars.specs.declared.scope.Scope.{Scope}
 use Rattle.network_grammars.specs.Rules.{IsContextOf, IsLanguageOf, IsRuleOf, Pairwise}
@@ -96,8 +97,8 @@ module _ (g : GrammarOf Atom) (scope : Scope) (built : IsBuilt g (reverse (map d
   context_over : (c : Context (PairPart Atom)) (context : PairContext) → IsContextOf scope c context → IsContextOver scope.pairs context
   context_over c context is = (among context.left is.left.over, among context.right is.right.over)
     where
-      among : (lang : Complete (Bound Pair)) → lang.letters ≡ all_letters scope.pairs → HasLettersOf scope.pairs lang
-      among lang over x h = subst (λ (z : List (Bound Pair)). Contains z x) over h
+      among : (lang : Complete (Bound Letter)) → lang.letters ≡ all_letters scope.pairs → HasLettersOf scope.pairs lang
+      among lang over x h = subst (λ (z : List (Bound Letter)). Contains z x) over h
 
   pub rule_over : (rule : LangRule) → Contains rules rule → IsRuleOver scope.pairs rule
   rule_over rule among =
