@@ -3,7 +3,7 @@ ghost use Rattle.lookup.specs.Answering.{IsOverAlphabet};
 
 use crate::answers::{answer_of, told};
 use crate::grammar_rules::rules_of;
-use crate::grammar_symbols::{pairs_among, pairs_of};
+use crate::grammar_symbols::pairs_of;
 use crate::symbols::{Symbols, symbols_of};
 use lookup::Net;
 use std::alloc::{AllocError, Global};
@@ -25,14 +25,12 @@ pub fn said_of_row(alloc: Global, row: &str) -> Result<Option<String>, AllocErro
     }
 }
 
-/// The network of a grammar: its feasible pairs, and its rules, behind which may stand the pairs that are letters of contexts.
+/// The network of a grammar: its feasible pairs, and its rules.
 fn network(alloc: Global, symbols: &Symbols, pairs: &str, rules: &str) -> Result<Net, AllocError>
     ensures { IfOk result (IsOverAlphabet symbols.now.alphabet) }
 {
-    let (rules, letters) = rules.split_once('|').unwrap_or((rules, pairs));
     let pairs = pairs_of(alloc, symbols, pairs)?;
-    let letters = pairs_among(alloc, symbols, &pairs, letters)?;
-    let rules = rules_of(alloc, symbols, &pairs, &letters, rules)?;
+    let rules = rules_of(alloc, symbols, &pairs, rules)?;
     let fsa = grammar(alloc, &pairs, &rules)?;
     let net = Net::of(alloc, &fsa)?;
     Ok(net)

@@ -14,22 +14,19 @@ use lang_algebra::Lang;
 use std::alloc::{AllocError, Global};
 use two_level::{LangRule, PairContext, RuleKind, every_letter};
 
-/// The rules of a text. One that is about another pair than these is left out. The letters of contexts are the edge and the letters
-/// given, which are some or all of the pairs.
+/// The rules of a text. One that is about another pair than these is left out.
 pub fn rules_of(
     alloc: Global,
     symbols: &Symbols,
     pairs: &[Pair],
-    letters: &[Pair],
     text: &str,
 ) -> Result<Vec<LangRule>, AllocError>
-    requires distinct { IsDistinct letters.now }
-    requires among { (x : Pair) → Contains letters.now x → Contains pairs.now x }
+    requires { IsDistinct pairs.now }
     ensures { IfOk result (λ rules. (r : LangRule) → Contains rules.items r → IsRuleOver pairs.now r) }
 {
     let mut rules = Vec::new(alloc);
     'rules: for text in text.split(';') {
-        if let Some(rule) = rule_of(alloc, symbols, pairs, letters, text)? {
+        if let Some(rule) = rule_of(alloc, symbols, pairs, text)? {
             rules.push(rule)?;
         }
     }
@@ -52,11 +49,9 @@ fn rule_of(
     alloc: Global,
     symbols: &Symbols,
     pairs: &[Pair],
-    letters: &[Pair],
     text: &str,
 ) -> Result<Option<LangRule>, AllocError>
-    requires distinct { IsDistinct letters.now }
-    requires among { (x : Pair) → Contains letters.now x → Contains pairs.now x }
+    requires { IsDistinct pairs.now }
     ensures { IfOk result (λ found. IfSome found (IsRuleOver pairs.now)) }
 {
     let (centre, rest) = text.trim_ascii().split_once(' ').unwrap_or((text, ""));
@@ -68,7 +63,7 @@ fn rule_of(
     if place_of(pairs, pair).is_none() {
         return Ok(None);
     }
-    let contexts = contexts_of(alloc, symbols, letters, contexts)?;
+    let contexts = contexts_of(alloc, symbols, pairs, contexts)?;
     Ok(Some(LangRule {
         pair,
         kind,

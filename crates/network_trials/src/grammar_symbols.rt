@@ -32,14 +32,6 @@ fn is_new(pairs: &[Pair], pair: Pair) -> bool
     place_of(pairs, pair).is_none()
 }
 
-/// Whether a pair is among those of the first list and not among those of the second.
-fn is_other_of(pairs: &[Pair], taken: &[Pair], pair: Pair) -> bool
-    ensures among { IsTrue result → Contains pairs.now pair }
-    ensures new { IsTrue result → ¬ Contains taken.now pair }
-{
-    place_of(pairs, pair).is_some() && is_new(taken, pair)
-}
-
 /// Whether a pair is over the alphabet and not among these.
 fn is_wanted(alphabet: &Alphabet, pairs: &[Pair], pair: Pair) -> bool
     ensures over { IsTrue result → IsPairOver alphabet.now pair }
@@ -61,24 +53,4 @@ pub fn pairs_of(alloc: Global, symbols: &Symbols, text: &str) -> Result<Vec<Pair
         }
     }
     Ok(pairs)
-}
-
-/// Those of the different pairs of a text that are among these.
-pub fn pairs_among(
-    alloc: Global,
-    symbols: &Symbols,
-    pairs: &[Pair],
-    text: &str,
-) -> Result<Vec<Pair>, AllocError>
-    ensures distinct { IfOk result (λ found. IsDistinct found.items) }
-    ensures among { IfOk result (λ found. (x : Pair) → Contains found.items x → Contains pairs.now x) }
-{
-    let mut found = Vec::new(alloc);
-    'found: for text in text.split_ascii_whitespace() {
-        let pair = pair_of(symbols, text);
-        if is_other_of(pairs, &found, pair) {
-            found.push(pair)?;
-        }
-    }
-    Ok(found)
 }

@@ -12,9 +12,8 @@
 //! `## grammar`, two-level grammars: `up SYMBOL .. | PAIR .. | RULE ; ..` or `down SYMBOL .. | PAIR .. | RULE ; ..`: a word,
 //! the feasible pairs and the rules of a grammar. A pair is `X`, which is `X:X`, or `X:Y`. A rule is a pair, `=>`, `<=`, `<=>`
 //! or `/<=`, and contexts with `,` between them. A context is atoms, `_` and atoms. An atom is a pair, `X:` or `:Y`, any pair
-//! with that side, `?`, any pair, or `.#.`, the edge of the word. Behind the rules may stand another `|` and pairs: of the feasible
-//! pairs those alone, in their order, are then letters of contexts. The symbols are `a`, `b`, `c`, `d`, `e`, `k`, `m`, `n`, `p`, `t`
-//! and `N`.
+//! with that side, `?`, any pair, or `.#.`, the edge of the word. The symbols are `a`, `b`, `c`, `d`, `e`, `k`, `m`, `n`,
+//! `p`, `t` and `N`.
 //!
 //! `## lexicon`, lexicons with flags: the lexicons, the root first, with `/` between them. A lexicon is its entries, with `,`
 //! between them. An entry is `FORM NEXT`: NEXT is a lexicon, counted from 0, or `#`. FORM is `UPPER:LOWER`, or one text for
