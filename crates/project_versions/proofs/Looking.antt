@@ -1,7 +1,6 @@
 -- What a line is answered is a reply at each version that a version stands for.
 use Rattle.std.proofs.Common.{◌≡◌, ◌≢◌, ℕ, List, Some, Result, Ok, Err, IfOk, MatchResult, Vec, Global, codes, ap, sym, subst, refl}
 use Rattle.std.specs.declared.alloc.AllocError.{AllocError}
-use Rattle.fsm_base.specs.Normal.{nfc_of}
 use Rattle.edit_script.specs.Commands.{IsLook}
 use Rattle.edit_script.specs.declared.looks.Look.{Look}
 use Rattle.edit_script.specs.declared.looks.Look.TheVariants as looks
@@ -37,18 +36,18 @@ module _ (shown : VersionView) where
   -- the reply to a word
   pub word_made : (meant : Version) → Stands shown meant → (direction : Direction) (net word : List ℕ) (found : Result (Vec ℕ Global) AllocError) (reply : Reply)
       → MatchResult found (λ bytes. reply ≡ Bytes bytes) (λ refused. reply ≡ Short Memory)
-      → IfOk found (λ bytes. RepliesToWord meant.project direction meant.number (nfc_of net) (nfc_of word) bytes.items)
-      → RepliesToWord meant.project direction meant.number (nfc_of net) (nfc_of word) (bytes_of shown.number reply)
+      → IfOk found (λ bytes. RepliesToWord meant.project direction meant.number net word bytes.items)
+      → RepliesToWord meant.project direction meant.number net word (bytes_of shown.number reply)
   word_made meant stands direction net word found reply is told =
-      reply_made (RepliesToWord meant.project direction meant.number (nfc_of net) (nfc_of word)) shown.number found reply is told (no_memory (same meant stands (codes "memory")))
+      reply_made (RepliesToWord meant.project direction meant.number net word) shown.number found reply is told (no_memory (same meant stands (codes "memory")))
 
   -- and to a text
   pub text_made : (meant : Version) → Stands shown meant → (table : List Entry) (net text : List ℕ) (found : Result (Vec ℕ Global) AllocError) (reply : Reply)
       → MatchResult found (λ bytes. reply ≡ Bytes bytes) (λ refused. reply ≡ Short Memory)
-      → IfOk found (λ bytes. GlossesText meant.project table meant.number (nfc_of net) (nfc_of text) bytes.items)
-      → GlossesText meant.project table meant.number (nfc_of net) (nfc_of text) (bytes_of shown.number reply)
+      → IfOk found (λ bytes. GlossesText meant.project table meant.number net text bytes.items)
+      → GlossesText meant.project table meant.number net text (bytes_of shown.number reply)
   text_made meant stands table net text found reply is told =
-      reply_made (GlossesText meant.project table meant.number (nfc_of net) (nfc_of text)) shown.number found reply is told (no_memory_for_text (same meant stands (codes "memory")))
+      reply_made (GlossesText meant.project table meant.number net text) shown.number found reply is told (no_memory_for_text (same meant stands (codes "memory")))
 
   -- that there was no memory, where a line asks for words or glosses
   memory_asked : (meant : Version) → Stands shown meant → (table : List Entry) (look : Look) → look ≢ looks.Rest → RepliesToAsked meant table look (headed shown.number (codes "memory"))
