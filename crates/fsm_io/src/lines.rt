@@ -172,6 +172,13 @@ impl Lines {
         has_newline(self.held.as_slice())
     }
 
+    /// The bytes that were read of the source and of which no line was told: whole lines, and the front of one.
+    pub fn ahead(&self) -> &[u8]
+        ensures { result.now ≡ self.now.ahead }
+    {
+        self.held.as_slice()
+    }
+
     /// The last line, where the last event was [`LineEvent::Line`].
     pub fn text(&self) -> &[u8]
         ensures { result.now ≡ self.now.text }
