@@ -12,6 +12,7 @@ pub mod Runs
 pub mod Saving
 pub mod Sending
 pub mod Stems
+pub mod Taken
 pub mod Tasks
 pub mod Unread
 pub mod Unique
