@@ -23,7 +23,7 @@ use Rattle.editor_meaning.proofs.InOrder.{same_list}
 same_files : (files others : Files) → held_in files ≡ held_in others → AreSame files others
 same_files files others same name = ap (λ (held : Holding). held name) same
 
-ok_one : {T E : Type 0} (a b : T) (r : Result T E) → r ≡ Ok a → r ≡ Ok b → a ≡ b
+pub ok_one : {T E : Type 0} (a b : T) (r : Result T E) → r ≡ Ok a → r ≡ Ok b → a ≡ b
 ok_one a b r e f = let both = sym e ∙ f in cc
 
 err_one : {T E : Type 0} (a b : E) (r : Result T E) → r ≡ Err a → r ≡ Err b → a ≡ b
@@ -52,7 +52,7 @@ module _ (readers : Readers) (told : List Row) (exact : AreExact readers) (old :
       err_one a b (Err a) refl (one_answer readers exact others told (Err a) (Err b) (same_answer readers files others (same_files files others held) told (Err a) says) says2)
 
 -- names of one set are one list
-one_names : (T : List ℕ → Type 0) (names others : List (List ℕ)) → AreNames T names → AreNames T others → names ≡ others
+pub one_names : (T : List ℕ → Type 0) (names others : List (List ℕ)) → AreNames T names → AreNames T others → names ≡ others
 one_names T names others p q = same_list names others p.in_order q.in_order (λ name h. (q.all name).0 ((p.all name).1 h)) (λ name h. (p.all name).0 ((q.all name).1 h))
 
 module _ (readers : Readers) (told : List Row) (exact : AreExact readers) (present : Version) where

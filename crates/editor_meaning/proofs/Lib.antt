@@ -1,3 +1,4 @@
 mod Changing
+mod Together
 mod InOrder
 mod Reading

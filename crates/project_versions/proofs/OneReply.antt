@@ -11,16 +11,15 @@ use Rattle.edit_script.proofs.Unique.{one_look}
 use Rattle.interlinear.specs.Glosses.{Entry}
 use Rattle.interlinear.specs.Replies.{GlossesText, glossed_line}
 use Rattle.interlinear.proofs.One.{one_block}
-use Rattle.lookup_answers.specs.declared.direction.Direction.{Direction}
 use Rattle.lookup_answers.specs.declared.direction.Direction.TheVariants.{Up, Down}
 use Rattle.project_meaning.specs.Projects.{Project}
 use Rattle.project_sources.specs.Edits.{Version}
 use Rattle.project_sources.specs.Laws.{all_readers}
 use Rattle.project_sources.proofs.Glossing.{one_table}
 use Rattle.project_sources.proofs.Once.{all_exact}
-use Rattle.reply_meaning.specs.OneReply.{AreLoops, IsMemory}
-use Rattle.reply_meaning.specs.Replies.{IsWord, RepliesToWord, without_return, word as replies_to_word}
-use Rattle.reply_meaning.proofs.Replies.{replies}
+use Rattle.reply_meaning.specs.OneReply.{IsMemory}
+use Rattle.reply_meaning.specs.Replies.{IsWord, without_return}
+use Rattle.reply_meaning.proofs.Replies.{word_replies}
 use Rattle.project_versions.specs.Laws.{AsksFor, MayDiffer}
 use Rattle.project_versions.specs.Looks.{RepliesToAsked, RepliesToLook, asked, long, no_look}
 
@@ -67,13 +66,6 @@ returned (b ∷ c ∷ word) = ap (λ w. b ∷ w) (returned (c ∷ word))
 is_word : (word : List ℕ) → IsUtf8 word → IsWord (word ++ 13 ∷ [])
 is_word word utf8 = subst (λ w. is_utf8 w ≡ true) (sym (returned word)) (is_utf8-from_IsUtf8 word utf8)
 
-one_word : (project : Project) (direction : Direction) (version : ℕ) (net text a b : List ℕ) → IsUtf8 text → RepliesToWord project direction version net (nfc_of text) a → RepliesToWord project direction version net (nfc_of text) b
-    → (a ≡ b) ⊎ ((IsMemory version a ⊎ IsMemory version b) ⊎ AreLoops version a b)
-one_word project direction version net text a b utf8 p q =
-    let own = sym (ap nfc_of (returned text)) in
-    let is = is_word text utf8 in
-    replies project direction version net (Some (text ++ 13 ∷ [])) a b (replies_to_word is (subst (λ w. RepliesToWord project direction version net w a) own p)) (replies_to_word is (subst (λ w. RepliesToWord project direction version net w b) own q))
-
 one_text : (project : Project) (table : List Entry) (version : ℕ) (net text a b : List ℕ) → IsUtf8 text → GlossesText project table version net (nfc_of text) a → GlossesText project table version net (nfc_of text) b
     → (a ≡ b) ⊎ (IsMemory version a ⊎ IsMemory version b)
 one_text project table version net text a b utf8 p q =
@@ -83,8 +75,8 @@ one_text project table version net text a b utf8 p q =
 
 module _ (version : Version) (a b : List ℕ) where
   one_asked : (table : List Entry) (look : Look) → AsksForText look → RepliesToAsked version table look a → RepliesToAsked version table look b → (a ≡ b) ⊎ MayDiffer version.number look a b
-  one_asked table (looks.Up net word) utf8 p q = one_word version.project Up version.number (nfc_of net) word a b utf8 p q
-  one_asked table (looks.Down net word) utf8 p q = one_word version.project Down version.number (nfc_of net) word a b utf8 p q
+  one_asked table (looks.Up net word) utf8 p q = word_replies version.project Up version.number (nfc_of net) (nfc_of word) a b p q
+  one_asked table (looks.Down net word) utf8 p q = word_replies version.project Down version.number (nfc_of net) (nfc_of word) a b p q
   one_asked table (looks.Gloss net text) utf8 p q = one_text version.project table version.number (nfc_of net) text a b utf8 p q
   one_asked table looks.Rest utf8 p q = inl (p ∙ sym q)
 

@@ -5,7 +5,7 @@ use Rattle.edit_script.specs.declared.looks.Look.{Look}
 use Rattle.edit_script.specs.declared.looks.Look.TheVariants as looks
 use Rattle.project_sources.specs.Edits.{Version}
 use Rattle.project_versions.specs.Looks.{RepliesToLook}
-use Rattle.reply_meaning.specs.OneReply.{AreLoops, IsMemory}
+use Rattle.reply_meaning.specs.OneReply.{IsMemory, MayDiffer as WordsMayDiffer}
 
 -- the line asks for this
 abbrev pub AsksFor : Option (List ℕ) → Look → Type 0
@@ -15,8 +15,8 @@ AsksFor (Some line) look = IsLook line look
 -- How two replies to what is asked for may differ: one of them says that there was no memory, which is always said for the whole line;
 -- or both show a loop of one word. Glosses don't show which loop a word has, so there is one block
 abbrev pub MayDiffer : ℕ → Look → List ℕ → List ℕ → Type 0
-MayDiffer version (looks.Up net word) a b = (IsMemory version a ⊎ IsMemory version b) ⊎ AreLoops version a b
-MayDiffer version (looks.Down net word) a b = (IsMemory version a ⊎ IsMemory version b) ⊎ AreLoops version a b
+MayDiffer version (looks.Up net word) a b = WordsMayDiffer version a b
+MayDiffer version (looks.Down net word) a b = WordsMayDiffer version a b
 MayDiffer version (looks.Gloss net text) a b = IsMemory version a ⊎ IsMemory version b
 MayDiffer version looks.Rest a b = ⊥
 
