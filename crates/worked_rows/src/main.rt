@@ -19,7 +19,7 @@
 //! `trials NAME` makes the calls of the crates that are tried on rows of their own, by the library of this name (`groups`): its rows stand in the file
 //! trials/NAME, where the program runs.
 //!
-//! `waits TRIAL` serves lanes whose sources and sinks wait for what others do (`trials`), and prints what came of it.
+//! `waits TRIAL` runs the program with sources and sinks that wait for what others do (`trials`), and prints what came of it.
 #![tactic(auto)]
 
 mod commands;

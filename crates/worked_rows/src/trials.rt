@@ -42,6 +42,38 @@ const LOOK_BESIDE: &[Piece] = &[Piece {
     after: 1,
 }];
 
+/// Words, each of which waits for the two lines of the reply to the one before.
+const WORDS_IN_TURN: &[Piece] = &[
+    Piece {
+        text: "a\n",
+        after: 0,
+    },
+    Piece {
+        text: "a\n",
+        after: 2,
+    },
+    Piece {
+        text: "a\n",
+        after: 4,
+    },
+];
+
+/// Texts, each of which waits for the four lines of the reply to the one before.
+const TEXTS_IN_TURN: &[Piece] = &[
+    Piece {
+        text: "a\n",
+        after: 0,
+    },
+    Piece {
+        text: "a\n",
+        after: 4,
+    },
+    Piece {
+        text: "a\n",
+        after: 8,
+    },
+];
+
 /// A count of 0 that threads share.
 fn sign(alloc: Global) -> Result<Arc<Sign>, AllocError> {
     Ok(Arc::new(alloc, Sign::new())?)
@@ -66,6 +98,15 @@ fn serve_words(alloc: Global) -> Result<Vec<String>, AllocError> {
     let mut words = Vec::new(alloc);
     words.push(String::from_str(alloc, "serve")?)?;
     words.push(String::from_str(alloc, "d")?)?;
+    Ok(words)
+}
+
+/// The words `COMMAND d N`.
+fn look_words(alloc: Global, command: &str) -> Result<Vec<String>, AllocError> {
+    let mut words = Vec::new(alloc);
+    words.push(String::from_str(alloc, command)?)?;
+    words.push(String::from_str(alloc, "d")?)?;
+    words.push(String::from_str(alloc, "N")?)?;
     Ok(words)
 }
 
@@ -145,8 +186,31 @@ fn lanes_go_beside_lanes<R: Threads + Wait + Sync>(
     )
 }
 
+/// The input gives each line when the reply to the one before was written.
+fn replies_come_in_turn<R: Threads + Wait + Sync>(
+    rt: &R,
+    alloc: Global,
+    command: &str,
+    lines: &'static [Piece],
+) -> Result<String, AllocError> {
+    let (begun, replies) = (sign(alloc)?, sign(alloc)?);
+    let mut input = WaitingSource::new(lines, &begun, &replies)?;
+    let mut output = WaitingSink::new(alloc, &begun, &begun, 0, &replies)?;
+    let mut lanes: [WaitingLane; 0] = [];
+    let status = run(
+        rt,
+        alloc,
+        &look_words(alloc, command)?,
+        &mut folder(alloc)?,
+        &mut input,
+        &mut output,
+        &mut lanes,
+    );
+    format!(in alloc; "status {status}\n    {}", shown(alloc, output.bytes())?.as_str())
+}
+
 /// What came of the trial of this name. A wait ends after a number of turns, and the call fails then, so that a program whose lanes wait for the end of
-/// the edits, or for one another, or for a lock that is held while a line is read, tells another status.
+/// the edits, or for one another, or for a lock that is held while a line is read, or that reads on before it writes a reply, tells another status.
 pub fn waited<R: Threads + Wait + Sync>(
     rt: &R,
     alloc: Global,
@@ -155,6 +219,9 @@ pub fn waited<R: Threads + Wait + Sync>(
     match trial {
         "lanes_go_beside_edits" => lanes_go_beside_edits(rt, alloc),
         "lanes_go_beside_lanes" => lanes_go_beside_lanes(rt, alloc),
+        "up_replies_in_turn" => replies_come_in_turn(rt, alloc, "up", WORDS_IN_TURN),
+        "down_replies_in_turn" => replies_come_in_turn(rt, alloc, "down", WORDS_IN_TURN),
+        "gloss_replies_in_turn" => replies_come_in_turn(rt, alloc, "gloss", TEXTS_IN_TURN),
         _ => String::from_str(alloc, "no such trial"),
     }
 }
