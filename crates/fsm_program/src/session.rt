@@ -75,8 +75,7 @@ impl Session {
     {
         match self.lines.next(input) {
             LineEvent::Line => ending_of(
-                self.look_up
-                    .reply(alloc, foreseen, self.lines.text(), &mut self.outbox, output),
+                self.look_up.reply(alloc, foreseen, self.lines.text(), &mut self.outbox, output),
             ),
             LineEvent::Long => ending_of(self.look_up.reply_long(&mut self.outbox, output)),
             LineEvent::End => Some(Ending::Finished),

@@ -65,11 +65,7 @@ fn counts_of<R: Threads + Sync>(
 /// # Errors
 ///
 /// `Refused` with the first fault of the generated files, and `Memory` where there was no memory.
-pub fn report<R: Threads + Sync>(
-    rt: &R,
-    alloc: Global,
-    stems: u32,
-) -> Result<Vec<u8>, StoreError>
+pub fn report<R: Threads + Sync>(rt: &R, alloc: Global, stems: u32) -> Result<Vec<u8>, StoreError>
     requires some { 1 ≤ stems }
     requires few { stems ≤ most_stems }
     ensures report { IfOk result (λ bytes. IsReport stems bytes.items) }

@@ -206,7 +206,10 @@ fn replies_come_in_turn<R: Threads + Wait + Sync>(
         &mut output,
         &mut lanes,
     );
-    format!(in alloc; "status {status}\n    {}", shown(alloc, output.bytes())?.as_str())
+    format!(in alloc;
+        "status {status}\n    {}",
+        shown(alloc, output.bytes())?.as_str()
+    )
 }
 
 /// What came of the trial of this name. A wait ends after a number of turns, and the call fails then, so that a program whose lanes wait for the end of

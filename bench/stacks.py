@@ -1,0 +1,110 @@
+#!/usr/bin/env python3
+"""The deepest of each kind of source, with less and less room for the stack (`ulimit -s`), and `serve` with lanes in less and less memory for
+addresses (`ulimit -v`). Prints of each the least stack with which it is answered as with the system's, and of `serve` how many runs ended with 0, with 5
+and nothing written, and otherwise; and says of each run that isn't lawful what came of it.
+
+What is deepest: 64 brackets open round a symbol, in each place where an expression may stand, with an operator behind each; 512 names, each the name
+of the next; a megabyte of one prefix or of operands without brackets, which walks go over without depth.
+
+usage: bench/stacks.py [PROGRAM]
+"""
+import os
+import resource
+import subprocess
+import sys
+import tempfile
+
+from measure import program
+
+SIZES = (8192, 4096, 2048, 1024, 768, 512, 384, 256, 192, 128)
+OPENED, CLOSED = '[' * 64, ']' * 64
+ENOUGH = 1024
+
+
+def xfst(text):
+    return {'project': 'xfst r.xfst\n', 'r.xfst': text}
+
+
+CASES = {
+    'brackets': (xfst('define N %sa%s ;\n' % (OPENED, CLOSED)), 'up', 'a'),
+    'brackets with a choice in each': (xfst('define N %s ;\n' % ('[a | ' * 64 + 'a' + ']' * 64)), 'up', 'a'),
+    'brackets with a complement in each': (xfst('define N %s ;\n' % ('~[' * 64 + 'a' + ']' * 64)), 'up', 'a'),
+    'brackets with all operators': (xfst('define N %s ;\n' % ('~[\\b & ' * 16 + '$[a - ' * 16 + '(a .o. ' * 16 + '[b+ | a ' * 16 + 'a' + ']' * 16 + ')' * 16 + ']' * 32)), 'check', ''),
+    'brackets in a context': (xfst('define N a -> b || %sc%s _ ;\n' % (OPENED, CLOSED)), 'down', 'ca'),
+    'brackets in a centre': (xfst('define N %sa%s -> b ;\n' % (OPENED, CLOSED)), 'down', 'a'),
+    'rules in rules': (xfst('define N %s ;\n' % ('[[a -> b] .o. ' * 32 + '[a -> b]' + ']' * 32)), 'down', 'a'),
+    'brackets in a lexicon': ({'project': 'lexc N f.lexc\n', 'f.lexc': 'LEXICON Root\n< %sa%s > # ;\n' % (OPENED, CLOSED)}, 'up', 'a'),
+    'brackets in a two-level rule': ({'project': 'twolc N t.twolc\n', 't.twolc': 'Alphabet a b a:b ;\nRules\n"1" a:b <=> %sb%s _ ;\n' % (OPENED, CLOSED)}, 'down', 'ba'),
+    '512 names in a chain': (xfst(''.join('define D%d D%d ;\n' % (i, i + 1) for i in range(511)) + 'define D511 a ;\n').copy(), 'up D0', 'a'),
+    'prefixes': (xfst('define N %sa ;\n' % ('~' * 60000)), 'up', 'a'),
+    'suffixes': (xfst('define N a%s ;\n' % ('*' * 60000)), 'down', 'a'),
+    'operands': (xfst('define N %s ;\n' % ' | '.join('a' * 20000)), 'up', 'a'),
+    'symbols side by side': (xfst('define N {%s} ;\n' % ('a' * 20000)), 'check', ''),
+    'a long word': (xfst('define N [a | a:b]* ;\n'), 'up', 'a' * 4000),
+}
+
+
+def run(morph, words, stdin, cwd, **limits):
+    """The status and the output, under the limits of so many KiB; the status is below 0 where a signal ended it."""
+    def limit():
+        for which, kib in limits.items():
+            what = getattr(resource, which)
+            resource.setrlimit(what, (kib * 1024, kib * 1024))
+    done = subprocess.run([morph, *words], input=stdin.encode(), cwd=cwd, stdout=subprocess.PIPE, stderr=subprocess.DEVNULL, timeout=120, preexec_fn=limit)
+    return done.returncode, done.stdout
+
+
+def written(folder, files):
+    for name, text in files.items():
+        with open(os.path.join(folder, name), 'w') as file:
+            file.write(text)
+
+
+def least(morph, files, words, stdin):
+    """The least of the sizes with which it is answered as with the system's stack, and what comes of the next one."""
+    with tempfile.TemporaryDirectory() as folder:
+        written(folder, files)
+        command = words.split()
+        command = [command[0], '.', *(command[1:] or ([] if command[0] == 'check' else ['N']))]
+        wanted = run(morph, command, stdin + '\n', folder)
+        enough = None
+        for size in SIZES:
+            found = run(morph, command, stdin + '\n', folder, RLIMIT_STACK=size)
+            if found != wanted:
+                return wanted[0], enough, found[0]
+            enough = size
+        return wanted[0], enough, None
+
+
+def served(morph):
+    """`serve` with two lanes, with less and less memory for addresses: how many runs ended how."""
+    counts, odd = {}, []
+    with tempfile.TemporaryDirectory() as folder:
+        written(folder, {**xfst('define N %sa%s ;\n' % (OPENED, CLOSED)), 'c': 'up N a\n', 'd': 'down N a\n'})
+        for kib in range(3000, 40000, 100):
+            for lane in 'cd':
+                if os.path.exists(os.path.join(folder, lane + '.out')):
+                    os.remove(os.path.join(folder, lane + '.out'))
+            status, output = run(morph, ['serve', '.', '--', 'c', 'd'], 'up N a\nend\n', folder, RLIMIT_AS=kib)
+            kind = {0: '0', 5: '5 and nothing written' if not output else '5 with output'}.get(status, 'otherwise')
+            counts[kind] = counts.get(kind, 0) + 1
+            if kind not in ('0', '5 and nothing written'):
+                odd.append('%d KiB: status %d, %d bytes' % (kib, status, len(output)))
+    return counts, odd
+
+
+def main():
+    morph = os.path.abspath(program(sys.argv[1:2]))
+    bad = 0
+    for name, (files, words, stdin) in CASES.items():
+        status, enough, then = least(morph, files, words, stdin)
+        print('%-40s status %d, %s KiB are enough%s' % (name, status, enough, '' if then is None else '; with less: %d' % then))
+        bad += status != 0 or enough is None or enough > ENOUGH
+    counts, odd = served(morph)
+    print('serve with two lanes, from 3,000 to 40,000 KiB of addresses: ' + ', '.join('%d runs %s' % (count, kind) for kind, count in sorted(counts.items())))
+    print('\n'.join(odd[:20]))
+    return bad > 0
+
+
+if __name__ == '__main__':
+    sys.exit(main())
