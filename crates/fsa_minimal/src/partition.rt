@@ -90,7 +90,9 @@ impl Partition {
         let mut touched = Vec::new(alloc);
         for state in marked.found() {
             let class = self.class_of[*state];
-            touched.push(class)?;
+            if self.groups[class].is_empty() {
+                touched.push(class)?;
+            }
             self.groups[class].push(*state)?;
         }
         Ok(touched)

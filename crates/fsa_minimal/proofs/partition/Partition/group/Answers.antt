@@ -6,6 +6,7 @@ use Rattle.std.proofs.lemmas.Option.{slice_get_within, slice_get-get_or, slice_g
 use Rattle.fsa_minimal.specs.Splitting.{HoldThese}
 use Rattle.fsa_minimal.proofs.Moving.{classes_same, group_more}
 use Rattle.fsa_minimal.proofs.partition.Partition.group.Goals as goal
+use Rattle.fsa_minimal.proofs.partition.Partition.group.Goals.{then-is_empty+in_ok-push, else-is_empty}
 
 pub loop-state-preserved : goal.loop-state-preserved
 loop-state-preserved c =
@@ -31,8 +32,12 @@ loop-state-preserved c =
       members = c.loop-state.invariant.members;
       sizes = c.loop-state.invariant.sizes;
       count = length-set b.groups.items k c.push-in-loop-state.new.self ∙ c.loop-state.invariant.count;
-      touched = All-same (λ class. class < length a.members.items) c.push.new.self.items (c.loop-state.touched.items ++ k ∷ []) c.in_ok-push.ensures.items
-          (All-push (λ class. class < length a.members.items) c.loop-state.touched.items k c.loop-state.invariant.touched class_there);
+      touched = elim c.if-is_empty.branch [
+        | then-is_empty+in_ok-push w ↦
+            rw w.touched-is (All-same (λ class. class < length a.members.items) w.push.new.self.items (c.loop-state.touched.items ++ k ∷ []) w.in_ok-push.ensures.items
+            (All-push (λ class. class < length a.members.items) c.loop-state.touched.items k c.loop-state.invariant.touched class_there))
+        | else-is_empty w ↦ rw w.touched-is c.loop-state.invariant.touched
+      ];
       groups = group_more b.groups.items a.class_of.items found (length a.members.items) i x k old c.push-in-loop-state.new.self at of_x
           (slice_get_read b.groups.items (length b.groups.items) k old refl group_there c.index_mut.ensures.value) c.in_ok-push-2.ensures.items c.loop-state.invariant.groups;
     }
