@@ -1,2 +1,7 @@
 pub mod Chains
 pub mod Images
+pub mod Fewest
+pub mod Kept
+pub mod Moving
+pub mod Chained
+pub mod Apart

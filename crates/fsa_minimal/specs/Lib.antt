@@ -1,2 +1,5 @@
 pub mod Images
 pub mod Folding
+pub mod Fewest
+pub mod Splitting
+pub mod Inverses

@@ -1,5 +1,6 @@
-ghost use Rattle.std.specs.Prelude.{◌≡◌, ◌<◌, ℕ, Some, IfSome, IsTrue, length, slice_get};
+ghost use Rattle.std.specs.Prelude.{◌≡◌, ◌<◌, ◌≤◌, ◌+◌, ◌⊎◌, ℕ, Some, IfSome, IsTrue, length, slice_get};
 ghost use Rattle.fsa_minimal.specs.Images.{GoesOnAs, AreImages};
+ghost use Rattle.fsa_minimal.specs.Fewest.{AreReachedBelow};
 
 use fsa::Dfa;
 use fsm_base::Letter;
@@ -70,4 +71,45 @@ fn image_of(images: &[Option<usize>], state: usize) -> Option<usize>
     ensures { IfSome result (λ image. slice_get images.now state ≡ Some (Some image)) }
 {
     *images.get(state)?
+}
+
+/// Whether the start reaches each state, where each state but the start is first entered from one before it, and the
+/// states are numbered in the order in which that happens. Looks at each state and letter once.
+pub fn are_reached<L: Letter>(a: &Dfa<L>) -> bool
+    ensures { IsTrue result → AreReachedBelow a.now (length a.now.finals) }
+{
+    let mut reached = 1;
+    for state in 0..a.states() {
+        if state >= reached {
+            return false;
+        }
+        reached = reached_from(a, state, reached);
+    }
+    reached >= a.states()
+}
+
+/// Below which number the start reaches each state, once the letters are read in this state, which it reaches.
+fn reached_from<L: Letter>(a: &Dfa<L>, state: usize, reached: usize) -> usize
+    requires state { state < reached }
+    requires there { reached ≤ length a.now.finals }
+    requires before { AreReachedBelow a.now reached }
+    ensures there { result ≤ length a.now.finals }
+    ensures after { AreReachedBelow a.now result }
+{
+    let mut below = reached;
+    for place in 0..a.letters().len() {
+        below = more_reached(a, a.next(state, place), below);
+    }
+    below
+}
+
+/// One more where the state is the first one that wasn't reached before.
+fn more_reached<L: Letter>(a: &Dfa<L>, to: usize, below: usize) -> usize
+    requires { to < length a.now.finals }
+    ensures { (result ≡ below) ⊎ ((result ≡ below + 1) × (to ≡ below)) }
+{
+    if to == below && below < a.states() {
+        return below + 1;
+    }
+    below
 }

@@ -1,5 +1,6 @@
 ghost use Rattle.std.specs.Prelude.{◌≡◌, ◌<◌, ◌≤◌, ◌+◌, ◌*◌, ◌++◌, ◌⊎◌, ◌∷◌, [], ℕ, All, IfOk, OnOk, Some, length, slice_get};
-ghost use Rattle.fsa_minimal.specs.Folding.{IsFolding};
+ghost use Rattle.fsa_minimal.specs.Folding.{IsFolding, AreByClass};
+ghost use Rattle.fsa_minimal.specs.Splitting.{AreClasses};
 
 use crate::partition::Partition;
 use fsa::Dfa;
@@ -49,8 +50,10 @@ pub fn folded<L: Letter>(
     a: &Dfa<L>,
     partition: &Partition,
 ) -> Result<Small<L>, AllocError>
-    requires { length partition.now.states.items ≡ length a.now.finals }
-    ensures { IfOk result (λ small. small.automaton.letters ≡ a.now.letters) }
+    requires count { length partition.now.class_of.items ≡ length a.now.finals }
+    requires classes { AreClasses partition.now.members.items partition.now.groups.items partition.now.sizes.items partition.now.class_of.items }
+    ensures letters { IfOk result (λ small. small.automaton.letters ≡ a.now.letters) }
+    ensures images { IfOk result (λ small. AreByClass partition.now.class_of.items small.images.items) }
 {
     let letters = Vec::from_slice(alloc, a.letters())?;
     let classes = partition.class_of();
@@ -103,6 +106,7 @@ fn images_of(
     numbers: &[Option<usize>],
 ) -> Result<Vec<Option<usize>>, AllocError>
     requires { All (λ class. class < length numbers.now) classes.now }
+    ensures { IfOk result (λ images. AreByClass classes.now images.items) }
 {
     let mut images = Vec::with_capacity(alloc, classes.len())?;
     for class in classes {

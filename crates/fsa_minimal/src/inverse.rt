@@ -1,4 +1,5 @@
-ghost use Rattle.std.specs.Prelude.{◌≡◌, ◌<◌, ℕ, All, IfOk, Some, length, slice_get};
+ghost use Rattle.std.specs.Prelude.{◌≡◌, ◌<◌, ℕ, All, IfOk, length};
+ghost use Rattle.fsa_minimal.specs.Inverses.{IsInverse, AreInverses};
 
 use fsa::Dfa;
 use fsa_explore::columns_alike;
@@ -8,17 +9,17 @@ use std::alloc::{AllocError, Global};
 /// Which states lead to a state at one letter, as a chain from the last one back.
 #[derive(Debug, Drop)]
 pub struct Inverse {
+    /// The place of the letter.
+    pub place: usize,
     /// For each state, the last state that leads to it.
     pub last: Vec<Option<usize>>,
     /// For each state, the one before it that leads to the same state.
     pub before: Vec<Option<usize>>,
-    ghost last_within: { (t s : ℕ) → slice_get last.items t ≡ Some (Some s) → s < length before.items },
-    ghost descending: { (t s : ℕ) → slice_get before.items t ≡ Some (Some s) → s < t },
 }
 
 /// An inverse for each class of letters that act alike.
 pub fn inverses_of<L: Letter>(alloc: Global, a: &Dfa<L>) -> Result<Vec<Inverse>, AllocError>
-    ensures { IfOk result (λ inverses. All (λ inverse. (length inverse.last.items ≡ length a.now.finals) × (length inverse.before.items ≡ length a.now.finals)) inverses.items) }
+    ensures { IfOk result (λ inverses. AreInverses a.now inverses.items) }
 {
     let mut inverses = Vec::new(alloc);
     for place in &columns_alike(alloc, a)?.firsts {
@@ -30,8 +31,8 @@ pub fn inverses_of<L: Letter>(alloc: Global, a: &Dfa<L>) -> Result<Vec<Inverse>,
 /// The inverse at the letter at a place.
 fn inverse_at<L: Letter>(alloc: Global, a: &Dfa<L>, place: usize) -> Result<Inverse, AllocError>
     requires { place < length a.now.letters }
-    ensures last { IfOk result (λ inverse. length inverse.last.items ≡ length a.now.finals) }
-    ensures before { IfOk result (λ inverse. length inverse.before.items ≡ length a.now.finals) }
+    ensures place { IfOk result (λ inverse. inverse.place ≡ place) }
+    ensures inverse { IfOk result (λ inverse. IsInverse a.now place (length a.now.finals) inverse.last.items inverse.before.items) }
 {
     let mut last = vec![in alloc; None; a.states()]?;
     let mut before = Vec::with_capacity(alloc, a.states())?;
@@ -40,5 +41,9 @@ fn inverse_at<L: Letter>(alloc: Global, a: &Dfa<L>, place: usize) -> Result<Inve
         before.push(last[to])?;
         last[to] = Some(state);
     }
-    Ok(Inverse { last, before })
+    Ok(Inverse {
+        place,
+        last,
+        before,
+    })
 }

@@ -1,7 +1,8 @@
 ghost use Rattle.std.specs.Prelude.{◌≡◌, ◌≤◌, ◌↔◌, List, IfOk, length};
 ghost use Rattle.fsa.specs.Complete.{Accepts};
+ghost use Rattle.fsa_minimal.specs.Fewest.{HasFewest};
 
-use crate::checking::are_images;
+use crate::checking::{are_images, are_reached};
 use crate::folding::folded;
 use crate::refining::refined;
 use fsa::Dfa;
@@ -16,22 +17,18 @@ pub fn minimal<L: Letter>(alloc: Global, a: &Dfa<L>) -> Result<Dfa<L>, AllocErro
     ensures letters { IfOk result (λ d. d.letters ≡ a.now.letters) }
     ensures states { IfOk result (λ d. length d.finals ≤ length a.now.finals) }
     ensures language { IfOk result (λ d. (w : List L) → Accepts d w ↔ Accepts a.now w) }
+    ensures fewest { IfOk result HasFewest }
 {
-    let small = folded(alloc, a, &refined(alloc, a)?)?;
+    let partition = refined(alloc, a)?;
+    let small = folded(alloc, a, &partition)?;
     let is_smaller = small.automaton.states() <= a.states();
-    if is_smaller && are_images(a, &small.automaton, &small.images) {
+    if is_smaller
+        && are_images(a, &small.automaton, &small.images)
+        && are_reached(&small.automaton)
+    {
         Ok(small.automaton)
     } else {
-        copy(alloc, a)
+        // Not met, but not ruled out by a proof either.
+        Err(AllocError)
     }
-}
-
-/// The same automaton.
-fn copy<L: Letter>(alloc: Global, a: &Dfa<L>) -> Result<Dfa<L>, AllocError>
-    ensures { IfOk result (λ d. d ≡ a.now) }
-{
-    let letters = Vec::from_slice(alloc, a.letters())?;
-    let next = Vec::from_slice(alloc, a.table())?;
-    let finals = Vec::from_slice(alloc, a.finals())?;
-    Ok(Dfa::of(letters, next, finals))
 }

@@ -1,4 +1,4 @@
-ghost use Rattle.std.specs.Prelude.{◌≡◌, ◌↔◌, List, IfOk, map, not};
+ghost use Rattle.std.specs.Prelude.{◌≡◌, ◌↔◌, List, IfOk, length, map, not};
 ghost use Rattle.word_relations.specs.Words.{IsOver};
 ghost use Rattle.fsa.specs.Complete.{Complete, Accepts};
 
@@ -10,6 +10,7 @@ use std::alloc::{AllocError, Global};
 /// made not final, and the other way round.
 pub fn complement<L: Letter>(alloc: Global, a: &Dfa<L>) -> Result<Dfa<L>, AllocError>
     ensures letters { IfOk result (λ d. d.letters ≡ a.now.letters) }
+    ensures states { IfOk result (λ d. length d.finals ≡ length a.now.finals) }
     ensures language { IfOk result (λ d. (w : List L) → Accepts d w ↔ (IsOver a.now.letters w × ¬ Accepts a.now w)) }
 {
     let letters = Vec::from_slice(alloc, a.letters())?;

@@ -3,3 +3,4 @@ pub mod OneLetter
 pub mod Inserting
 pub mod Made
 pub mod Small
+pub mod Counted

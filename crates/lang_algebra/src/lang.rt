@@ -3,7 +3,8 @@ ghost use Rattle.word_relations.specs.Words.{IsDistinct, IsOver, IsConcatenation
 ghost use Rattle.fsa.specs.Automaton.{UsesLetter, HasNoEpsilonEdge};
 ghost use Rattle.fsa.specs.Complete.{Accepts, IsComplete};
 ghost use Rattle.fsa.specs.Language as language;
-ghost use Rattle.lang_algebra.specs.Languages.{IsLang};
+ghost use Rattle.lang_algebra.specs.Languages.{IsLang, IsFewestCount};
+ghost use Rattle.fsa_minimal.specs.Fewest.{HasFewest};
 ghost use Rattle.word_relations.specs.Operations.{IsOneLetter, HasPart, IsIgnoring};
 
 use crate::letters::one_letter;
@@ -16,22 +17,23 @@ use std::alloc::{AllocError, Global};
 use std::marker::Model;
 
 /// A language over a list of letters, each of which stands once. Contracts see a complete deterministic automaton
-/// over the letters, in their order, whose words are those of the language. Each operation makes it small again, so
-/// that useless states don't add up.
+/// over the letters, in their order, whose words are those of the language. Each operation makes it the smallest one
+/// again, so that useless states don't add up.
 #[derive(Debug, Drop)]
 pub struct Lang<L> {
-    /// The automaton of the language. It is small but not always the smallest: no call promises how many states it has.
+    /// The automaton of the language, with the fewest states.
     dfa: Dfa<L>,
 }
 
 impl<L> Model for Lang<L> {
     ghost use Rattle.fsa.specs.Complete.{Complete, IsComplete};
+    ghost use Rattle.fsa_minimal.specs.Fewest.{HasFewest};
 
     ghost Value = { Complete L };
 
     ghost view = { λ lang. lang.dfa };
 
-    ghost invariant = { λ lang. IsComplete lang.dfa };
+    ghost invariant = { λ lang. IsComplete lang.dfa × HasFewest lang.dfa };
 }
 
 impl<L: Letter> Lang<L> {
@@ -53,8 +55,9 @@ impl<L: Letter> Lang<L> {
         Ok(Lang::of_dfa(small))
     }
 
-    /// The language of a complete automaton.
+    /// The language of a complete automaton that has the fewest states.
     fn of_dfa(dfa: Dfa<L>) -> Lang<L>
+        requires { HasFewest dfa }
         ensures same { result ≡ dfa }
         ensures complete { IsComplete result }
     {
@@ -68,6 +71,13 @@ impl<L: Letter> Lang<L> {
         ensures complete { IsComplete self.now }
     {
         self.dfa.letters()
+    }
+
+    /// The number of states of the smallest complete automaton of the language over its letters.
+    pub fn states(&self) -> usize
+        ensures { IsFewestCount self.now.letters (Accepts self.now) result }
+    {
+        self.dfa.states()
     }
 
     /// Whether the empty word is in the language.

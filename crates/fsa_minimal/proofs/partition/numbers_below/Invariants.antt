@@ -1,5 +1,6 @@
-use Rattle.std.proofs.Common.{◌≡◌, ◌<◌, All, length}
+use Rattle.std.proofs.Common.{◌<◌, ℕ}
+use Rattle.std.specs.List.{Contains}
 use Rattle.fsa_minimal.proofs.partition.numbers_below.Given as goal
 
 abbrev pub invariant-loop-number : goal.invariant-loop-number
-invariant-loop-number l = (length l.numbers.items ≡ l.number) × All (λ number. number < l.bound) l.numbers.items
+invariant-loop-number l = (k : ℕ) → k < l.number → Contains l.numbers.items k

@@ -4,7 +4,7 @@ use Rattle.fsa.proofs.Paths.{stop_back}
 use Rattle.lang_algebra.proofs.lang.Lang.has_empty.Goals as goal
 
 pub is_final-requires : goal.is_final-requires
-is_final-requires g c = c.self.invariant.start
+is_final-requires g c = c.self.invariant.0.start
 
 pub returns : goal.returns
 returns g c = (
