@@ -1,7 +1,8 @@
 //! The process of the program: it hands its words, its folder, its standard input and output, and the lanes of the paths behind
 //! `--` to [`run`], and ends with the status that this answers. More lanes than there may be are answered as words in no form, and so are
 //! lanes whose outputs would overwrite a file of the project or what a lane reads or writes (`outputs`). The files of a lane are opened when
-//! it is first read (`late`).
+//! it is first read (`late`). All of it goes on in a thread, whose stack has room for the deepest sources, or which isn't made: then the status is 5, and nothing was
+//! read or written.
 #![tactic(auto)]
 
 mod late;
@@ -20,7 +21,7 @@ use std::io::{self, ErrorKind};
 use std::process::ExitCode;
 use std::rt::Env;
 use std::sync::Wait;
-use std::thread::Threads;
+use std::thread::{self, Builder, Threads};
 
 /// A lane over files that are opened when it is first read.
 type FileLane<'a> = Lane<ReadSource<LateInput<'a>>, WriteSink<LateOutput<'a>>>;
@@ -28,8 +29,11 @@ type FileLane<'a> = Lane<ReadSource<LateInput<'a>>, WriteSink<LateOutput<'a>>>;
 /// The most lanes.
 const MOST_LANES: usize = 16;
 
-/// The status where there is no memory for the words.
+/// The status where there is no memory for the words, or for the stack.
 const NO_MEMORY: u8 = 5;
+
+/// The room of the stack, in bytes: many times what the deepest sources take (bench/stacks.py).
+const STACK: usize = 16 << 20;
 
 /// Whether there is no argument at this place. They are counted from 0, where the program's name stands.
 fn is_behind(rt: &HostRuntime, place: usize) -> bool {
@@ -212,9 +216,24 @@ fn answer<T: Threads + Wait + Sync>(threads: &T, rt: &HostRuntime) -> io::Result
     Ok(answer_to(threads, rt, &words, &mut lanes)?)
 }
 
-fn main(rt: HostRuntime) -> ExitCode {
-    match answer(&rt, &rt) {
-        Ok(status) => ExitCode::from(status),
-        Err(_) => ExitCode::from(NO_MEMORY),
+/// The status of the process.
+fn status(rt: &HostRuntime) -> u8 {
+    match answer(rt, rt) {
+        Ok(status) => status,
+        Err(_) => NO_MEMORY,
     }
+}
+
+fn main(rt: HostRuntime) -> ExitCode {
+    // A thread has the room of its stack from its start on, or isn't made. That of the main thread is the caller's choice, and might end in the midst of a line.
+    let status = thread::scope(thread::scope_env(), &rt, |scope| {
+        match Builder::new()
+            .stack_size(STACK)
+            .spawn_scoped(scope, || status(&rt))
+        {
+            Ok(thread) => thread.join(&rt),
+            Err(_) => NO_MEMORY,
+        }
+    });
+    ExitCode::from(status)
 }
