@@ -217,8 +217,8 @@ fn answer<T: Threads + Wait + Sync>(threads: &T, rt: &HostRuntime) -> io::Result
 }
 
 /// The status of the process.
-fn status(rt: &HostRuntime) -> u8 {
-    match answer(rt, rt) {
+fn status<T: Threads + Wait + Sync>(threads: &T, rt: &HostRuntime) -> u8 {
+    match answer(threads, rt) {
         Ok(status) => status,
         Err(_) => NO_MEMORY,
     }
@@ -229,7 +229,7 @@ fn main(rt: HostRuntime) -> ExitCode {
     let status = thread::scope(thread::scope_env(), &rt, |scope| {
         match Builder::new()
             .stack_size(STACK)
-            .spawn_scoped(scope, || status(&rt))
+            .spawn_scoped(scope, || status(&rt, &rt))
         {
             Ok(thread) => thread.join(&rt),
             Err(_) => NO_MEMORY,
