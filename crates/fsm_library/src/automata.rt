@@ -6,4 +6,4 @@ pub use fsa_product::{both, complement, is_empty, minus, shortest};
 pub use fsa_rational::{concat, image, preimage, reverse, star, union, without_empty};
 pub use fsa_subset::determine;
 pub use fsm_base::{Bound, Letter, Sym};
-pub use lang_algebra::Lang;
+pub use lang_algebra::{Lang, one_letter};

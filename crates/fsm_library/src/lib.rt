@@ -3,8 +3,8 @@
 //! both uses.
 //!
 //! - [`automata`]: automata over letters of any kind (`fsa::Fsa`), complete ones (`Dfa`), and languages over a list of letters
-//!   (`Lang`); their union, concatenation, repetition, intersection, difference, complement, a shortest word, an automaton with fewer
-//!   states.
+//!   (`Lang`); their union, concatenation, repetition, intersection, difference, complement, a shortest word, the automaton with the
+//!   fewest states.
 //! - [`transducers`]: relations between words of symbols: composition, cross product, inverse, the two sides; and look-up in them, once
 //!   they are made ready as a `Net`.
 //! - [`projects`]: the files of a project (`Sources`), its first version (`load`), edits (`edit`), and the replies to words.

@@ -2,7 +2,7 @@
 //! program worked_rows prints what comes of it.
 #![tactic(auto)]
 
-use fsm_library::automata::{Dfa, Sym, minimal, shortest};
+use fsm_library::automata::{Dfa, Lang, Sym, minimal, one_letter, shortest};
 use fsm_library::projects::{Direction, Sources, StoreError, load, reply_to_word};
 use std::alloc::{AllocError, Global};
 
@@ -14,7 +14,7 @@ const NOUNS: &str =
     "Multichar_Symbols +N +Sg +Pl\nLEXICON Root\ncat Number ;\ndog Number ;\nmouse+N+Pl:mice # ;\nLEXICON Number\n+N+Sg:0 # ;\n+N+Pl:s # ;\n";
 
 /// How many symbols a shortest word has in which two symbols `a` stand, over `a` and `b`, and how many states the smallest automaton
-/// has that the crate makes of one with two states too many.
+/// has, made of one with two states too many.
 fn automata(alloc: Global) -> Result<String, AllocError> {
     let letters = vec![in alloc; Sym(0), Sym(1)]?;
     let next = vec![in alloc; 1, 0, 2, 1, 3, 4, 4, 3, 3, 4]?;
@@ -25,6 +25,15 @@ fn automata(alloc: Global) -> Result<String, AllocError> {
         Some(word) => format!(in alloc; "{} symbols, {} states", word.len(), small.states()),
         None => String::from_str(alloc, "no word"),
     }
+}
+
+/// How many states the smallest automata over `a` have: that of all words, that of none, and that of the word `a` alone.
+fn languages(alloc: Global) -> Result<String, AllocError> {
+    let letters = [Sym(0)];
+    let word = Lang::of(alloc, &letters, &one_letter(alloc, &letters)?)?;
+    let all = word.star(alloc)?;
+    let none = all.complement(alloc)?;
+    format!(in alloc; "{} state, {} state, {} states", all.states(), none.states(), word.states())
 }
 
 /// The replies to two words, one looked up upwards and one downwards.
@@ -39,13 +48,15 @@ fn replies(alloc: Global) -> Result<Vec<u8>, StoreError> {
     Ok(bytes)
 }
 
-/// What came of the automata, and of the look-ups in the project, line by line.
+/// What came of the automata and the languages, and of the look-ups in the project, line by line.
 ///
 /// # Errors
 ///
 /// Where there was no memory.
 pub fn examples(alloc: Global) -> Result<String, AllocError> {
     let mut told = automata(alloc)?;
+    told.push('\n')?;
+    told.push_str(languages(alloc)?.as_str())?;
     told.push('\n')?;
     match replies(alloc) {
         Ok(bytes) => told.push_str(std::str::from_utf8(&bytes).unwrap_or(""))?,
