@@ -196,7 +196,7 @@ fn replies_come_in_turn<R: Threads + Wait + Sync>(
     let (begun, replies) = (sign(alloc)?, sign(alloc)?);
     let mut input = WaitingSource::new(lines, &begun, &replies)?;
     let mut output = WaitingSink::new(alloc, &begun, &begun, 0, &replies)?;
-    let mut lanes: [WaitingLane; 0] = [];
+    let mut lanes: Vec<WaitingLane> = Vec::new(alloc);
     let status = run(
         rt,
         alloc,
