@@ -111,7 +111,7 @@ fn generate<R: Threads + Sync, O: Sink>(rt: &R, alloc: Global, stems: u32, outpu
     ensures unwritten { result ≡ 5 → output.new ≡ output.old }
     ensures write { result ≡ 4 → Rose (O.faults output.old) (O.faults output.new) }
 {
-    match report(rt, alloc, stems) {
+    match report(alloc, stems) {
         Ok(report) => said(output, &report, 0),
         // A project that is made has no fault, as rows show, so there was no memory.
         Err(_) => 5,
@@ -164,7 +164,7 @@ fn obey<R: Threads + Sync, F: Folder, I: Source, O: Sink>(
             )
         }
         Command::Serve => unreachable!(),
-        Command::Gen { n } => generate(rt, alloc, n, output),
+        Command::Gen { n } => generate(alloc, n, output),
         Command::Att { net } => tell(alloc, version, Request::Att { net }, folder, output),
         Command::AttUp { file } => look_up_saved(rt, alloc, version, file, folder, input, output),
         Command::Pairs { net } => pair(rt, alloc, version, net, folder, input, output),

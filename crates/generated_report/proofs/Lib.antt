@@ -1,5 +1,4 @@
 mod Counting
-mod Each
 mod Found
 mod Lines
 mod Made
