@@ -103,7 +103,7 @@ fn look_up<R: Threads + Sync, F: Folder, I: Source, O: Sink>(
 }
 
 /// Makes a project of so many stems, and writes what is answered of it.
-fn generate<R: Threads + Sync, O: Sink>(rt: &R, alloc: Global, stems: u32, output: &mut O) -> u8
+fn generate<O: Sink>(alloc: Global, stems: u32, output: &mut O) -> u8
     requires some { 1 ≤ stems }
     requires few { stems ≤ most_stems }
     ensures generated { ((report : List ℕ) × IsReport stems report × IsSaid (O.held output.old) (O.held output.new) report 0 result) ⊎ (result ≡ 5) }
