@@ -12,7 +12,6 @@ pub mod Runs
 pub mod Saving
 pub mod Sending
 pub mod Stems
-pub mod Taken
 pub mod Tasks
 pub mod Unread
 pub mod Unique

@@ -12,11 +12,9 @@ use fsm_base::Text;
 use fsm_io::{Folder, Sink, Source};
 use pair_lines::Opened;
 use std::alloc::Global;
-use std::thread::Threads;
 
 /// Answers the lines of the input, strings of pairs, by the rules of a name of the folder's project.
-pub fn pair<R: Threads + Sync, F: Folder, I: Source, O: Sink>(
-    rt: &R,
+pub fn pair<F: Folder, I: Source, O: Sink>(
     alloc: Global,
     version: u64,
     net: Text,
@@ -43,7 +41,7 @@ pub fn pair<R: Threads + Sync, F: Folder, I: Source, O: Sink>(
                 subject: Subject::Rules(rules),
                 version,
             };
-            answered(rt, alloc, look_up, input, output)
+            answered(alloc, look_up, input, output)
         }
         Ok(Opened::Refusal(line)) => said(output, &line, 7),
         Err(_) => 5,
