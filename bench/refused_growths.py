@@ -1,6 +1,6 @@
 #!/usr/bin/env python3
 """Runs the program again and again, each time refusing it one growth of its memory, the first, the second and so on (where there are more than RUNS, so many of
-them, evenly spread), in a gloss, in words that are looked up together, in `serve` with edits, batches and lanes, in `gen`, in lexicons with flags, two-level rules, a cascade of rules, and in AT&T text, pairs and
+them, evenly spread), in a gloss, in many words, in `serve` with edits, batches and lanes, in `gen`, in lexicons with flags, two-level rules, a cascade of rules, and in AT&T text, pairs and
 equality. Each run must end with status 5 and nothing written, or with status 0 where each reply is the one of a run with memory or says `memory`, and an
 edit that says so has changed nothing. Prints how many runs ended how, and what isn't lawful.
 
@@ -75,7 +75,7 @@ def cases():
     yield Case('pairs', {'project': 'twolc N k.twolc\n', 'k.twolc': GRAMMAR}, ['pairs', 'D', 'N'], ['k a N:m p:m a t\n', 'a p:m\n', 'k x\n', '\n'])
     yield Case('cascade of rules', {'project': 'xfst r.xfst\n', 'r.xfst': RULES}, ['down', 'D', 'N'], words_of('fly^s cat^s fly'))
     yield Case('loops and many', {'project': 'xfst r.xfst\n', 'r.xfst': 'define N [{a} ["+X":0]*] | {b} ["+A":0 | "+B":0]^13 | {c} ["+A":0 | "+B":0]^5 ;\n'}, ['up', 'D', 'N'], words_of('a b c'))
-    yield Case('words together', {'project': 'xfst r.xfst\n', 'r.xfst': 'define N {a} ["+X":0 | "+Y":0] | {bb} ;\n'}, ['up', 'D', 'N'], words_of(' '.join(['a', 'bb', 'c'] * 30)))
+    yield Case('many words', {'project': 'xfst r.xfst\n', 'r.xfst': 'define N {a} ["+X":0 | "+Y":0] | {bb} ;\n'}, ['up', 'D', 'N'], words_of(' '.join(['a', 'bb', 'c'] * 30)))
     yield Case('AT&T text', with_lexicon, ['att', 'D', 'Net'], [])
     yield Case('words of AT&T text', {'n.att': '0\t1\ta\tb\n1\t1\tc\t@0@\n1\n'}, ['attup', 'D', 'n.att'], words_of('b bb'))
     yield Case('equality', {'project': 'xfst r.xfst\n', 'r.xfst': 'define A a* ;\ndefine B [a a]* | a a a a a ;\n'}, ['equal', 'D', 'A', 'B'], [])
