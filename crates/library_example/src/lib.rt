@@ -33,7 +33,12 @@ fn languages(alloc: Global) -> Result<String, AllocError> {
     let word = Lang::of(alloc, &letters, &one_letter(alloc, &letters)?)?;
     let all = word.star(alloc)?;
     let none = all.complement(alloc)?;
-    format!(in alloc; "{} state, {} state, {} states", all.states(), none.states(), word.states())
+    format!(in alloc;
+        "{} state, {} state, {} states",
+        all.states(),
+        none.states(),
+        word.states()
+    )
 }
 
 /// The replies to two words, one looked up upwards and one downwards.
