@@ -1,7 +1,7 @@
 #!/usr/bin/env python3
-"""The deepest of each kind of source, with less and less room for the stack (`ulimit -s`), and `serve` with lanes in less and less memory for
-addresses (`ulimit -v`). Prints of each the least stack with which it is answered as with the system's, and of `serve` how many runs ended with 0, with 5
-and nothing written, and otherwise; and says of each run that isn't lawful what came of it.
+"""The deepest of each kind of source, with less and less room for the main thread's stack (`ulimit -s`), and `serve` with lanes in less and less memory for
+addresses (`ulimit -v`). Prints of each source the least stack with which it is answered as with the system's, and how much of its own stack the program has taken
+when it has answered; and of `serve` how many runs ended with 0, with 5 and nothing written, and otherwise, and what came of each run that isn't lawful.
 
 What is deepest: 64 brackets open round a symbol, in each place where an expression may stand, with an operator behind each; 512 names, each the name
 of the next; a megabyte of one prefix or of operands without brackets, which walks go over without depth.
@@ -16,6 +16,7 @@ import tempfile
 
 from measure import program
 
+STACK = 16 << 10
 SIZES = (8192, 4096, 2048, 1024, 768, 512, 384, 256, 192, 128)
 OPENED, CLOSED = '[' * 64, ']' * 64
 ENOUGH = 1024
@@ -76,19 +77,42 @@ def least(morph, files, words, stdin):
         return wanted[0], enough, None
 
 
+def taken(morph, files, words, stdin):
+    """How many KiB of its stack the program has touched when it has answered a line, or None where that isn't told."""
+    with tempfile.TemporaryDirectory() as folder:
+        written(folder, files)
+        command = words.split()
+        net = command[1:] or ['N']
+        child = subprocess.Popen([morph, 'up' if command[0] == 'check' else command[0], '.', *net], cwd=folder, stdin=subprocess.PIPE, stdout=subprocess.PIPE)
+        child.stdin.write((stdin + '\n').encode())
+        child.stdin.flush()
+        child.stdout.readline()
+        size, found = 0, None
+        with open('/proc/%d/smaps' % child.pid) as text:
+            for line in text:
+                fields = line.split()
+                if fields[0] == 'Size:':
+                    size = int(fields[1])
+                elif fields[0] == 'Rss:' and STACK <= size <= STACK + 512:
+                    found = max(found or 0, int(fields[1]))
+        child.kill()
+        child.wait()
+        return found
+
+
 def served(morph):
     """`serve` with two lanes, with less and less memory for addresses: how many runs ended how."""
     counts, odd = {}, []
     with tempfile.TemporaryDirectory() as folder:
         written(folder, {**xfst('define N %sa%s ;\n' % (OPENED, CLOSED)), 'c': 'up N a\n', 'd': 'down N a\n'})
-        for kib in range(3000, 40000, 100):
+        for kib in range(3000, 40000, 20):
             for lane in 'cd':
                 if os.path.exists(os.path.join(folder, lane + '.out')):
                     os.remove(os.path.join(folder, lane + '.out'))
             status, output = run(morph, ['serve', '.', '--', 'c', 'd'], 'up N a\nend\n', folder, RLIMIT_AS=kib)
-            kind = {0: '0', 5: '5 and nothing written' if not output else '5 with output'}.get(status, 'otherwise')
+            kind = {0: '0', 5: '5 and nothing written' if not output else '5 with output', 127: '127, since the system had no room for the program' if not output else '127 with output'}.get(status, 'otherwise')
             counts[kind] = counts.get(kind, 0) + 1
-            if kind not in ('0', '5 and nothing written'):
+            if kind not in ('0', '5 and nothing written', '127, since the system had no room for the program'):
                 odd.append('%d KiB: status %d, %d bytes' % (kib, status, len(output)))
     return counts, odd
 
@@ -98,10 +122,10 @@ def main():
     bad = 0
     for name, (files, words, stdin) in CASES.items():
         status, enough, then = least(morph, files, words, stdin)
-        print('%-40s status %d, %s KiB are enough%s' % (name, status, enough, '' if then is None else '; with less: %d' % then))
+        print('%-40s status %d, %s KiB are enough%s; of its own stack %s KiB were taken' % (name, status, enough, '' if then is None else ' (with less: %d)' % then, taken(morph, files, words, stdin)))
         bad += status != 0 or enough is None or enough > ENOUGH
     counts, odd = served(morph)
-    print('serve with two lanes, from 3,000 to 40,000 KiB of addresses: ' + ', '.join('%d runs %s' % (count, kind) for kind, count in sorted(counts.items())))
+    print('serve with two lanes, from 3,000 to 40,000 KiB of addresses: ' + ', '.join('%d runs ended with %s' % (count, kind) for kind, count in sorted(counts.items())))
     print('\n'.join(odd[:20]))
     return bad > 0
 
