@@ -1,7 +1,8 @@
 #!/usr/bin/env python3
-"""The deepest of each kind of source, with less and less room for the main thread's stack (`ulimit -s`), and `serve` with lanes in less and less memory for
-addresses (`ulimit -v`). Prints of each source the least stack with which it is answered as with the system's, and how much of its own stack the program has taken
-when it has answered; and of `serve` how many runs ended with 0, with 5 and nothing written, and otherwise, and what came of each run that isn't lawful.
+"""The deepest of each kind of source, with less and less room for the main thread's stack (`ulimit -s`), each as a source of the project and as an edit of `serve`
+with a lane beside it; and `serve` with lanes in less and less memory for addresses (`ulimit -v`). Prints of each source the least stack with which it is answered as
+with the system's, as a source and as an edit, and how much of its own stack the program has taken when it has answered; and of `serve` how many runs ended with 0,
+with 5 and nothing written, and otherwise, and what came of each run that isn't lawful.
 
 What is deepest: 64 brackets open round a symbol, in each place where an expression may stand, with an operator behind each; 512 names, each the name
 of the next; a megabyte of one prefix or of operands without brackets, which walks go over without depth.
@@ -61,20 +62,38 @@ def written(folder, files):
             file.write(text)
 
 
-def least(morph, files, words, stdin):
-    """The least of the sizes with which it is answered as with the system's stack, and what comes of the next one."""
+def least(morph, folder, command, stdin):
+    """The status, the least of the sizes with which it is answered as with the system's stack, and what comes of the next one."""
+    wanted = run(morph, command, stdin, folder)
+    enough = None
+    for size in SIZES:
+        found = run(morph, command, stdin, folder, RLIMIT_STACK=size)
+        if found != wanted:
+            return wanted[0], enough, found[0]
+        enough = size
+    return wanted[0], enough, None
+
+
+def least_of_source(morph, files, words, stdin):
+    """The least where it is a source."""
     with tempfile.TemporaryDirectory() as folder:
         written(folder, files)
         command = words.split()
-        command = [command[0], '.', *(command[1:] or ([] if command[0] == 'check' else ['N']))]
-        wanted = run(morph, command, stdin + '\n', folder)
-        enough = None
-        for size in SIZES:
-            found = run(morph, command, stdin + '\n', folder, RLIMIT_STACK=size)
-            if found != wanted:
-                return wanted[0], enough, found[0]
-            enough = size
-        return wanted[0], enough, None
+        return least(morph, folder, [command[0], '.', *(command[1:] or ([] if command[0] == 'check' else ['N']))], stdin + '\n')
+
+
+def least_of_edit(morph, files, words, stdin):
+    """The least where it is an edit of `serve`, which has a lane, or None where the edit isn't accepted."""
+    with tempfile.TemporaryDirectory() as folder:
+        written(folder, {**xfst('define M b ;\n'), 'c': 'up M b\n'})
+        puts = ''.join('put %s %d\n%s' % (name, text.count('\n'), text) for name, text in files.items())
+        command = words.split()
+        asked = 'up' if command[0] == 'check' else command[0]
+        script = 'begin\n%scommit\n%s %s %s\nend\n' % (puts, asked, (command[1:] or ['N'])[0], stdin or 'a')
+        serve = ['serve', '.', '--', 'c']
+        if not any(line.startswith(b'ok 2') for line in run(morph, serve, script, folder)[1].splitlines()):
+            return None
+        return least(morph, folder, serve, script)
 
 
 def taken(morph, files, words, stdin):
@@ -121,9 +140,10 @@ def main():
     morph = os.path.abspath(program(sys.argv[1:2]))
     bad = 0
     for name, (files, words, stdin) in CASES.items():
-        status, enough, then = least(morph, files, words, stdin)
-        print('%-40s status %d, %s KiB are enough%s; of its own stack %s KiB were taken' % (name, status, enough, '' if then is None else ' (with less: %d)' % then, taken(morph, files, words, stdin)))
-        bad += status != 0 or enough is None or enough > ENOUGH
+        tried = [least_of_source(morph, files, words, stdin), least_of_edit(morph, files, words, stdin)]
+        told = ['not accepted' if one is None else 'status %d, %s KiB are enough%s' % (one[0], one[1], '' if one[2] is None else ' (with less: %d)' % one[2]) for one in tried]
+        print('%-40s %s; as an edit %s; of its own stack %s KiB were taken' % (name, *told, taken(morph, files, words, stdin)))
+        bad += any(one is None or one[0] != 0 or one[1] is None or one[1] > ENOUGH for one in tried)
     counts, odd = served(morph)
     print('serve with two lanes, from 3,000 to 40,000 KiB of addresses: ' + ', '.join('%d runs ended with %s' % (count, kind) for kind, count in sorted(counts.items())))
     print('\n'.join(odd[:20]))

@@ -28,7 +28,8 @@ use std::alloc::Global;
 use std::sync::Wait;
 use std::thread::{Threads, join_mut};
 
-/// Answers the commands of the input while the lines of each lane up to its mark are answered.
+/// Answers the commands of the input while the lines of each lane up to its mark are answered. The editor goes on in the thread of the caller, whose
+/// stack the deepest source that an edit may bring needs.
 fn work<
     R: Threads + Wait + Sync,
     I: Source + Send,
@@ -55,8 +56,9 @@ fn work<
     ensures lanes { (i : ℕ) (d : _) (before : Work VersionView) → i < length lanes.old → (slice_index_or lanes.old i d).work ≡ Some before → GoesBeside RepliesAt before (slice_index_or lanes.old i d) (slice_index_or lanes.new i d) }
 {
     let of_lanes = alloc;
-    let (ending, ()) = join_mut(
+    let ((), ending) = join_mut(
         rt,
+        &mut || answer_beside(rt, of_lanes, lanes),
         &mut ||
             requires start { session.now.lines ≡ at_start session.now.lines.budget }
             requires batch { batch_of session.now.batch ≡ no_batch }
@@ -66,7 +68,6 @@ fn work<
             ensures causes { HasCauses (I.faults input.entry.now) (I.faults input.exit.now) (O.faults output.entry.now) (O.faults output.exit.now) result }
             ensures board { editor.exit.now.board ≡ editor.entry.now.board }
         { session.answer(rt, alloc, line, editor, input, output) },
-        &mut || answer_beside(rt, of_lanes, lanes),
     );
     ending
 }

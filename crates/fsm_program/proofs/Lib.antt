@@ -1,5 +1,6 @@
 pub mod Asking
 pub mod Beside
+pub mod Crossing
 pub mod Endings
 pub mod FileNames
 pub mod LastByte
@@ -12,6 +13,7 @@ pub mod Runs
 pub mod Saving
 pub mod Sending
 pub mod Stems
+pub mod Taken
 pub mod Tasks
 pub mod Unread
 pub mod Unique

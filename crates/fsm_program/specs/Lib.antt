@@ -2,6 +2,7 @@ pub mod Sending
 pub mod Running
 pub mod Steps
 pub mod Tasks
+pub mod Foreseen
 pub mod Files
 pub mod Gathered
 pub mod Outside

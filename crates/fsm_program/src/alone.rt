@@ -46,6 +46,7 @@ use generated_report::report;
 use lookup_answers::Direction;
 use project_store::Network;
 use std::alloc::Global;
+use std::thread::Threads;
 
 /// The number of the version that is loaded.
 const FIRST_VERSION: u64 = 1;
@@ -66,7 +67,8 @@ fn check<F: Folder, O: Sink>(alloc: Global, version: u64, folder: &mut F, output
 }
 
 /// Answers the lines of the input in the folder's project.
-fn look_up<F: Folder, I: Source, O: Sink>(
+fn look_up<R: Threads + Sync, F: Folder, I: Source, O: Sink>(
+    rt: &R,
     alloc: Global,
     version: u64,
     task: Task,
@@ -94,14 +96,14 @@ fn look_up<F: Folder, I: Source, O: Sink>(
                 subject: Subject::Named { network, task },
                 version,
             };
-            answered(alloc, look_up, input, output)
+            answered(rt, alloc, look_up, input, output)
         }
         Err(_) => 5,
     }
 }
 
 /// Makes a project of so many stems, and writes what is answered of it.
-fn generate<O: Sink>(alloc: Global, stems: u32, output: &mut O) -> u8
+fn generate<R: Threads + Sync, O: Sink>(rt: &R, alloc: Global, stems: u32, output: &mut O) -> u8
     requires some { 1 ≤ stems }
     requires few { stems ≤ most_stems }
     ensures generated { ((report : List ℕ) × IsReport stems report × IsSaid (O.held output.old) (O.held output.new) report 0 result) ⊎ (result ≡ 5) }
@@ -109,7 +111,7 @@ fn generate<O: Sink>(alloc: Global, stems: u32, output: &mut O) -> u8
     ensures unwritten { result ≡ 5 → output.new ≡ output.old }
     ensures write { result ≡ 4 → Rose (O.faults output.old) (O.faults output.new) }
 {
-    match report(alloc, stems) {
+    match report(rt, alloc, stems) {
         Ok(report) => said(output, &report, 0),
         // A project that is made has no fault, as rows show, so there was no memory.
         Err(_) => 5,
@@ -117,7 +119,8 @@ fn generate<O: Sink>(alloc: Global, stems: u32, output: &mut O) -> u8
 }
 
 /// Does what a command asks for that isn't `serve`.
-fn obey<F: Folder, I: Source, O: Sink>(
+fn obey<R: Threads + Sync, F: Folder, I: Source, O: Sink>(
+    rt: &R,
     alloc: Global,
     version: u64,
     command: Command,
@@ -142,20 +145,29 @@ fn obey<F: Folder, I: Source, O: Sink>(
         Command::Check => check(alloc, version, folder, output),
         Command::Up { net } => {
             let task = Task::Words(Direction::Up);
-            look_up(alloc, version, task, net, folder, input, output)
+            look_up(rt, alloc, version, task, net, folder, input, output)
         }
         Command::Down { net } => {
             let task = Task::Words(Direction::Down);
-            look_up(alloc, version, task, net, folder, input, output)
+            look_up(rt, alloc, version, task, net, folder, input, output)
         }
         Command::Gloss { net } => {
-            look_up(alloc, version, Task::Glosses, net, folder, input, output)
+            look_up(
+                rt,
+                alloc,
+                version,
+                Task::Glosses,
+                net,
+                folder,
+                input,
+                output,
+            )
         }
         Command::Serve => unreachable!(),
-        Command::Gen { n } => generate(alloc, n, output),
+        Command::Gen { n } => generate(rt, alloc, n, output),
         Command::Att { net } => tell(alloc, version, Request::Att { net }, folder, output),
-        Command::AttUp { file } => look_up_saved(alloc, version, file, folder, input, output),
-        Command::Pairs { net } => pair(alloc, version, net, folder, input, output),
+        Command::AttUp { file } => look_up_saved(rt, alloc, version, file, folder, input, output),
+        Command::Pairs { net } => pair(rt, alloc, version, net, folder, input, output),
         Command::Compare {
             question,
             first,
@@ -173,7 +185,8 @@ fn obey<F: Folder, I: Source, O: Sink>(
 }
 
 /// Does what the words ask for that aren't `serve DIR`.
-fn ended<F: Folder, I: Source, O: Sink>(
+fn ended<R: Threads + Sync, F: Folder, I: Source, O: Sink>(
+    rt: &R,
     alloc: Global,
     words: &[String],
     folder: &mut F,
@@ -193,13 +206,14 @@ fn ended<F: Folder, I: Source, O: Sink>(
     ensures asked { AskedFor (asked_of (map string_bytes words.now)) (F.files folder.old) (F.asked folder.old) (F.asked folder.new) }
 {
     match read_words(alloc, words) {
-        Ok(command) => obey(alloc, FIRST_VERSION, command, folder, input, output),
+        Ok(command) => obey(rt, alloc, FIRST_VERSION, command, folder, input, output),
         Err(error) => not_read(error, output),
     }
 }
 
 /// Does what words other than `serve DIR` ask for, as [`crate::run`] does. It always returns.
-pub fn run_alone<F: Folder, I: Source, O: Sink>(
+pub fn run_alone<R: Threads + Sync, F: Folder, I: Source, O: Sink>(
+    rt: &R,
     alloc: Global,
     words: &[String],
     folder: &mut F,
@@ -247,5 +261,5 @@ pub fn run_alone<F: Folder, I: Source, O: Sink>(
     ensures write { result ≡ 4 → Rose (O.faults output.old) (O.faults output.new) }
     ensures asked { AskedFor (asked_of (map string_bytes words.now)) (F.files folder.old) (F.asked folder.old) (F.asked folder.new) }
 {
-    ended(alloc, words, folder, input, output)
+    ended(rt, alloc, words, folder, input, output)
 }

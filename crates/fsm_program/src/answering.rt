@@ -12,12 +12,14 @@ use crate::saying::status;
 use crate::session::Session;
 use fsm_io::{Lines, MOST_GATHERED, Outbox, Sink, Source};
 use std::alloc::Global;
+use std::thread::Threads;
 
 /// The greatest number of bytes taken from one input.
 pub const MOST_TAKEN: u64 = 1 << 40;
 
 /// Answers the lines of the input in a session, or finds no memory for one.
-pub fn answered<I: Source, O: Sink>(
+pub fn answered<R: Threads + Sync, I: Source, O: Sink>(
+    rt: &R,
     alloc: Global,
     look_up: LookUp,
     input: &mut I,
@@ -40,5 +42,5 @@ pub fn answered<I: Source, O: Sink>(
         lines,
         outbox,
     };
-    status(session.answer_all(alloc, input, output))
+    status(session.answer_all(rt, alloc, input, output))
 }

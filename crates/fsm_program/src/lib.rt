@@ -6,9 +6,10 @@
 //!
 //! Inside, `words` reads the command line, and `alone` does what it asks for, as `naming`, `pairing` and `saved` do for names, strings of pairs and saved
 //! networks. `load` reads the files of the folder's project, whose networks project_store builds, `look_up` answers one line of the input, `session` all of
-//! them (`answering`), and `saying` writes what ends a run.
+//! them (`answering`), those that were read already together (`ahead`), and `saying` writes what ends a run.
 #![tactic(auto)]
 
+mod ahead;
 mod alone;
 mod answering;
 mod load;

@@ -1,4 +1,4 @@
-ghost use Rattle.std.specs.Prelude.{◌<◌, ◌≤◌, ◌-◌, ◌^◌, Some, codes, length, IfOk};
+ghost use Rattle.std.specs.Prelude.{◌<◌, ◌≤◌, ◌-◌, ◌^◌, Some, codes, length, IfOk, IfSome};
 ghost use Rattle.fsm_base.specs.Normal.{nfc_of};
 ghost use Rattle.fsm_io.specs.Buffers.{most_gathered};
 ghost use Rattle.fsm_io.specs.Causes.{HasCause};
@@ -7,12 +7,14 @@ ghost use Rattle.fsm_io.specs.Sinks.{Gathers};
 ghost use Rattle.project_meaning.specs.Projects.{Project};
 ghost use Rattle.reply_meaning.specs.Replies.{headed};
 ghost use Rattle.reply_text.specs.Heads.{head_word};
+ghost use Rattle.fsm_program.specs.Foreseen.{IsForeseen};
 ghost use Rattle.project_store.specs.Networks.{Shows};
 ghost use Rattle.fsm_program.specs.Sending.{Sends};
 ghost use Rattle.fsm_program.specs.Tasks.{RepliesToLineIn, RepliesToText, RepliesToTextIn};
 
+use crate::ahead::Foreseen;
 use fsm_base::nfc;
-use fsm_io::{Failed, Outbox, Sink};
+use fsm_io::{Failed, MOST_LINE, Outbox, Sink};
 use lookup_answers::Direction;
 use pair_lines::PairRules;
 use project_store::Network;
@@ -105,8 +107,44 @@ impl LookUp {
         }
     }
 
-    /// Gathers the reply to a line that isn't long.
+    /// A line with its reply, or None where it is long or no text, where the reply has more than so many bytes, or where there was no memory.
+    pub fn foresee(&self, alloc: Global, line: &[u8], most: usize) -> Option<Foreseen>
+        ensures { IfSome result (IsForeseen self.now) }
+    {
+        if line.len() > MOST_LINE {
+            return None;
+        }
+        let Ok(text) = str::from_utf8(without_return(line)) else {
+            return None;
+        };
+        match self.reply_to_text(alloc, text) {
+            Ok(reply) if reply.len() <= most => Foreseen::of(alloc, line, reply),
+            _ => None,
+        }
+    }
+
+    /// Gathers the reply to a line that isn't long: the foreseen one, where it is that line's.
     pub fn reply<O: Sink>(
+        &self,
+        alloc: Global,
+        foreseen: Option<&Foreseen>,
+        line: &[u8],
+        outbox: &mut Outbox,
+        output: &mut O,
+    ) -> Result<(), Failed>
+        requires short { length line.now ≤ most_line }
+        requires foreseen { IfSome foreseen (λ one. IsForeseen self.now one.now) }
+        ensures sends { Sends (RepliesToLineIn self.now.subject self.now.version (Some line.now)) (O.held output.old) (O.held output.new) outbox.old outbox.new result }
+        ensures cause { HasCause (O.faults output.old) (O.faults output.new) result }
+    {
+        match foreseen {
+            Some(one) if one.line.as_slice() == line => outbox.put(output, &one.reply),
+            _ => self.reply_now(alloc, line, outbox, output),
+        }
+    }
+
+    /// Makes and gathers the reply to a line that isn't long.
+    fn reply_now<O: Sink>(
         &self,
         alloc: Global,
         line: &[u8],

@@ -12,9 +12,11 @@ use fsm_base::Text;
 use fsm_io::{Folder, Sink, Source};
 use pair_lines::Opened;
 use std::alloc::Global;
+use std::thread::Threads;
 
 /// Answers the lines of the input, strings of pairs, by the rules of a name of the folder's project.
-pub fn pair<F: Folder, I: Source, O: Sink>(
+pub fn pair<R: Threads + Sync, F: Folder, I: Source, O: Sink>(
+    rt: &R,
     alloc: Global,
     version: u64,
     net: Text,
@@ -41,7 +43,7 @@ pub fn pair<F: Folder, I: Source, O: Sink>(
                 subject: Subject::Rules(rules),
                 version,
             };
-            answered(alloc, look_up, input, output)
+            answered(rt, alloc, look_up, input, output)
         }
         Ok(Opened::Refusal(line)) => said(output, &line, 7),
         Err(_) => 5,

@@ -149,7 +149,7 @@ fn ended<
     if is_serve(words) {
         serve(rt, alloc, folder, input, output, lanes)
     } else {
-        run_alone(alloc, words, folder, input, output)
+        run_alone(rt, alloc, words, folder, input, output)
     }
 }
 

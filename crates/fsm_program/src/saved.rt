@@ -14,6 +14,7 @@ use fsm_base::Text;
 use fsm_io::{Folder, FolderError, Found, Sink, Source, rose};
 use saved_networks::{SavedError, SavedNetwork, SavedWhy, open};
 use std::alloc::Global;
+use std::thread::Threads;
 
 /// The most bytes that are read of a file of AT&T text: one more than it may have.
 const MOST_SAVED: usize = 67_108_865;
@@ -56,7 +57,8 @@ fn network_of(alloc: Global, found: Found) -> Result<SavedNetwork, SavedError>
 }
 
 /// Answers the lines of the input, words whose upper words are told, in a file of AT&T text. Of the folder this file alone is read.
-pub fn look_up_saved<F: Folder, I: Source, O: Sink>(
+pub fn look_up_saved<R: Threads + Sync, F: Folder, I: Source, O: Sink>(
+    rt: &R,
     alloc: Global,
     version: u64,
     file: Text,
@@ -84,7 +86,7 @@ pub fn look_up_saved<F: Folder, I: Source, O: Sink>(
                 subject: Subject::Saved(network),
                 version,
             };
-            answered(alloc, look_up, input, output)
+            answered(rt, alloc, look_up, input, output)
         }
         Err(error) => not_opened(alloc, file.as_str(), error, output),
     }

@@ -1,16 +1,19 @@
-ghost use Rattle.std.specs.Prelude.{◌≡◌, ◌<◌, ◌≤◌, ℕ, [], List, Option, Some, None, IfNone, OnOk, is_ok, if◌then◌else◌};
+ghost use Rattle.std.specs.Prelude.{◌≡◌, ◌<◌, ◌≤◌, ℕ, [], All, List, Option, Some, None, IfNone, IfSome, OnOk, is_ok, if◌then◌else◌};
 ghost use Rattle.fsm_io.specs.Buffers.{most_gathered};
 ghost use Rattle.fsm_io.specs.Causes.{HasCause, Rose};
 ghost use Rattle.fsm_io.specs.Reading.{at_start, size_of};
 ghost use Rattle.fsm_io.specs.Sinks.{Gathers};
 ghost use Rattle.reply_meaning.specs.Transcripts.{HasAnswered};
+ghost use Rattle.fsm_program.specs.Foreseen.{IsForeseen};
 ghost use Rattle.fsm_program.specs.Steps.{steps};
 ghost use Rattle.fsm_program.specs.Running.{MayRead, Sofar, Turns, flushed, most_taken};
 
+use crate::ahead::{Foreseen, replies_ahead};
 use crate::look_up::LookUp;
 use fsm_io::{Failed, LineEvent, Lines, Outbox, Sink, Source};
 use reply_meaning::Ending;
 use std::alloc::Global;
+use std::thread::Threads;
 
 /// Whether a reply was written or gathered, or how that ends the answering.
 fn ending_of(sent: Result<(), Failed>) -> Option<Ending>
@@ -50,14 +53,16 @@ impl Session {
         }
     }
 
-    /// Reads a line and gathers its reply, or says how the answering ended.
+    /// Reads a line and gathers its reply, which is the foreseen one where that is this line's, or says how the answering ended.
     fn answer_line<I: Source, O: Sink>(
         &mut self,
         alloc: Global,
+        foreseen: Option<&Foreseen>,
         input: &mut I,
         output: &mut O,
     ) -> Option<Ending>
-        requires { MayRead self.old.lines self.old.outbox }
+        requires may { MayRead self.old.lines self.old.outbox }
+        requires foreseen { IfSome foreseen (λ one. IsForeseen self.old.look_up one.now) }
         ensures turns { (budget : ℕ) (left0 held0 : Option (List ℕ))
             → Sofar (steps self.old.look_up) tt budget left0 (I.left input.old) held0 (O.held output.old) self.old.lines self.old.outbox
             → Turns (steps self.old.look_up) tt budget left0 (I.left input.new) held0 (O.held output.new) self.new.lines self.new.outbox result }
@@ -70,8 +75,7 @@ impl Session {
     {
         match self.lines.next(input) {
             LineEvent::Line => ending_of(
-                self.look_up
-                    .reply(alloc, self.lines.text(), &mut self.outbox, output),
+                self.look_up.reply(alloc, foreseen, self.lines.text(), &mut self.outbox, output),
             ),
             LineEvent::Long => ending_of(self.look_up.reply_long(&mut self.outbox, output)),
             LineEvent::End => Some(Ending::Finished),
@@ -85,6 +89,59 @@ impl Session {
     fn turn<I: Source, O: Sink>(
         &mut self,
         alloc: Global,
+        foreseen: Option<&Foreseen>,
+        input: &mut I,
+        output: &mut O,
+    ) -> Option<Ending>
+        requires { IfSome foreseen (λ one. IsForeseen self.old.look_up one.now) }
+        ensures turns { (budget : ℕ) (left0 held0 : Option (List ℕ))
+            → Sofar (steps self.old.look_up) tt budget left0 (I.left input.old) held0 (O.held output.old) self.old.lines self.old.outbox
+            → Turns (steps self.old.look_up) tt budget left0 (I.left input.new) held0 (O.held output.new) self.new.lines self.new.outbox result }
+        ensures same { self.new.look_up ≡ self.old.look_up }
+        ensures progress { IfNone result (size_of self.new.lines < size_of self.old.lines) }
+        ensures read { result ≡ Some Ending.ReadFailed → Rose (I.faults input.old) (I.faults input.new) }
+        ensures write { result ≡ Some Ending.WriteFailed → Rose (O.faults output.old) (O.faults output.new) }
+        ensures later_input { I.faults input.old ≤ I.faults input.new }
+        ensures later_output { O.faults output.old ≤ O.faults output.new }
+    {
+        match self.write_before_read(output) {
+            Ok(()) => self.answer_line(alloc, foreseen, input, output),
+            Err(Failed) => Some(Ending::WriteFailed),
+        }
+    }
+
+    /// Answers one line after another, each of which has a foreseen reply or none.
+    fn turns<I: Source, O: Sink>(
+        &mut self,
+        alloc: Global,
+        lines: &[Option<Foreseen>],
+        input: &mut I,
+        output: &mut O,
+    ) -> Option<Ending>
+        requires { All (λ line. IfSome line (IsForeseen self.old.look_up)) lines.now }
+        ensures turns { (budget : ℕ) (left0 held0 : Option (List ℕ))
+            → Sofar (steps self.old.look_up) tt budget left0 (I.left input.old) held0 (O.held output.old) self.old.lines self.old.outbox
+            → Turns (steps self.old.look_up) tt budget left0 (I.left input.new) held0 (O.held output.new) self.new.lines self.new.outbox result }
+        ensures same { self.new.look_up ≡ self.old.look_up }
+        ensures progress { IfNone result (size_of self.new.lines ≤ size_of self.old.lines) }
+        ensures read { result ≡ Some Ending.ReadFailed → Rose (I.faults input.old) (I.faults input.new) }
+        ensures write { result ≡ Some Ending.WriteFailed → Rose (O.faults output.old) (O.faults output.new) }
+        ensures later_input { I.faults input.old ≤ I.faults input.new }
+        ensures later_output { O.faults output.old ≤ O.faults output.new }
+    {
+        'lines: for line in lines {
+            if let Some(ending) = self.turn(alloc, line.as_ref(), input, output) {
+                return Some(ending);
+            }
+        }
+        None
+    }
+
+    /// Answers the next line, and with it those that were read already: their replies are made together.
+    fn turns_ahead<R: Threads + Sync, I: Source, O: Sink>(
+        &mut self,
+        rt: &R,
+        alloc: Global,
         input: &mut I,
         output: &mut O,
     ) -> Option<Ending>
@@ -98,9 +155,16 @@ impl Session {
         ensures later_input { I.faults input.old ≤ I.faults input.new }
         ensures later_output { O.faults output.old ≤ O.faults output.new }
     {
-        match self.write_before_read(output) {
-            Ok(()) => self.answer_line(alloc, input, output),
-            Err(Failed) => Some(Ending::WriteFailed),
+        // Where there is no memory for them together, each is answered in its turn.
+        let Ok(lines) = replies_ahead(rt, alloc, &self.look_up, self.lines.ahead()) else {
+            return self.turn(alloc, None, input, output);
+        };
+        let Some((first, others)) = lines.split_first() else {
+            return self.turn(alloc, None, input, output);
+        };
+        match self.turn(alloc, first.as_ref(), input, output) {
+            None => self.turns(alloc, others, input, output),
+            ending => ending,
         }
     }
 
@@ -123,9 +187,10 @@ impl Session {
     }
 
     /// Answers all lines of the input, each by its reply, in their order. The replies are gathered while
-    /// whole lines were read already, and written before the next read and at the end.
-    pub fn answer_all<I: Source, O: Sink>(
+    /// whole lines were read already, made together where these are many, and written before the next read and at the end.
+    pub fn answer_all<R: Threads + Sync, I: Source, O: Sink>(
         mut self,
+        rt: &R,
         alloc: Global,
         input: &mut I,
         output: &mut O,
@@ -139,7 +204,7 @@ impl Session {
         ensures later_output { O.faults output.old ≤ O.faults output.new }
     {
         'lines: loop {
-            if let Some(ending) = self.turn(alloc, input, output) {
+            if let Some(ending) = self.turns_ahead(rt, alloc, input, output) {
                 return self.finish(ending, output);
             }
         }

@@ -1,4 +1,5 @@
 mod Counting
+mod Each
 mod Found
 mod Lines
 mod Made

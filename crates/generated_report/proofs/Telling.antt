@@ -1,7 +1,5 @@
--- What is told of a word that was looked up, and of words in a row.
-use Rattle.std.proofs.Common.{◌≡◌, ◌+◌, ◌<◌, ◌++◌, ℕ, List, [], ◌∷◌, length, take, get_or, codes, Ok, Err, sym, ap, subst, ◌∙◌}
-use Rattle.std.specs.List.{AllZip}
-use Rattle.std.proofs.lemmas.List.{take_more}
+-- What is told of a word that was looked up.
+use Rattle.std.proofs.Common.{◌≡◌, ℕ, List, codes, Ok, Err, ap, ◌∙◌}
 use Rattle.fsm_base.specs.Alphabet.{spelled, symbols_of, texts_of}
 use Rattle.fsm_base.specs.Cut.{cut}
 use Rattle.fsm_base.specs.declared.letters.Sym.{Sym}
@@ -50,18 +48,3 @@ module _ (project : Project) (glosses : List Entry) (name word : List ℕ) (alph
         word_is = same;
         columns_are = columns;
       }
-
--- with one more at the end
-push : {X Y : Type 0} (R : X → Y → Type 0) (xs : List X) (ys : List Y) (x : X) (y : Y) → AllZip R xs ys → R x y → AllZip R (xs ++ x ∷ []) (ys ++ y ∷ [])
-push R [] [] x y h r = (r, tt)
-push R [] (z ∷ ys) x y h r = absurd h
-push R (z ∷ xs) [] x y h r = absurd h
-push R (w ∷ xs) (z ∷ ys) x y h r = (h.0, push R xs ys x y h.1 r)
-
--- a loop over words, of which this one is told
-pub told_more : (project : Project) (glosses : List Entry) (name : List ℕ) (words : List (List ℕ)) (i : ℕ) (word : List ℕ) (told new : List Told) (one : Told) → i < length words → word ≡ get_or words i word
-    → AllZip (IsTold project glosses name) (take i words) told → IsTold project glosses name word one → new ≡ told ++ one ∷ [] → AllZip (IsTold project glosses name) (take (i + 1) words) new
-told_more project glosses name words i word told new one below is so_far here new_is =
-    let R = IsTold project glosses name in
-    let words_are : take (i + 1) words ≡ take i words ++ word ∷ [] = take_more words i word below ∙ ap (λ (w : List ℕ). take i words ++ w ∷ []) (sym is) in
-    subst (λ (ws : List (List ℕ)). AllZip R ws new) (sym words_are) (subst (AllZip R (take i words ++ word ∷ [])) (sym new_is) (push R (take i words) told word one so_far here))

@@ -17,6 +17,7 @@ use crate::words::words_in;
 use project_store::{Ready, StoreError, project_of};
 use std::alloc::{AllocError, Global};
 use std::str;
+use std::thread::Threads;
 
 /// The name in which the words are looked up.
 const NET: &str = "Net";
@@ -33,7 +34,12 @@ fn text_of(bytes: &[u8]) -> &str
 }
 
 /// The counts of a project and of the words of a text.
-fn counts_of(alloc: Global, ready: Ready, text: &str) -> Result<Counts, AllocError>
+fn counts_of<R: Threads + Sync>(
+    rt: &R,
+    alloc: Global,
+    ready: Ready,
+    text: &str,
+) -> Result<Counts, AllocError>
     requires { length text.now < 2 ^ 32 - 1 }
     ensures { (said : Said) → IsLoadedFrom said ready → IfOk result (AreCounts (project_in said) ready.glosses (codes "Net") (words_in text.now)) }
 {
@@ -41,6 +47,7 @@ fn counts_of(alloc: Global, ready: Ready, text: &str) -> Result<Counts, AllocErr
     let compiled = net_of(alloc, &project, built, NET)?;
     let words = words_in(alloc, text)?;
     let told = told_of_words(
+        rt,
         alloc,
         project.alphabet(),
         compiled.net(),
@@ -58,7 +65,7 @@ fn counts_of(alloc: Global, ready: Ready, text: &str) -> Result<Counts, AllocErr
 /// # Errors
 ///
 /// `Refused` with the first fault of the generated files, and `Memory` where there was no memory.
-pub fn report(alloc: Global, stems: u32) -> Result<Vec<u8>, StoreError>
+pub fn report<R: Threads + Sync>(rt: &R, alloc: Global, stems: u32) -> Result<Vec<u8>, StoreError>
     requires some { 1 ≤ stems }
     requires few { stems ≤ most_stems }
     ensures report { IfOk result (λ bytes. IsReport stems bytes.items) }
@@ -67,6 +74,6 @@ pub fn report(alloc: Global, stems: u32) -> Result<Vec<u8>, StoreError>
     let sources = made_project(alloc, stems)?;
     let ready = project_of(alloc, &sources)?;
     let text = made_text(alloc, stems)?;
-    let counts = counts_of(alloc, ready, text_of(&text))?;
+    let counts = counts_of(rt, alloc, ready, text_of(&text))?;
     Ok(counts.lines(alloc)?)
 }

@@ -11,7 +11,9 @@ ghost use Rattle.generated_report.specs.Told.{FindsUpper, IsTold};
 use fsm_base::{Alphabet, Text, TokensError};
 use interlinear::{Cell, GlossTable};
 use lookup::{Answer, Net, up};
+use rayon::prelude::*;
 use std::alloc::{AllocError, Global};
+use std::thread::Threads;
 use unicode_width::UnicodeWidthStr;
 
 /// How many strings are found of a word.
@@ -89,8 +91,9 @@ fn told_of(
     }
 }
 
-/// What is told of words, in order.
-pub fn told_of_words(
+/// What is told of words, in order, by as many threads as there are processors.
+pub fn told_of_words<R: Threads + Sync>(
+    rt: &R,
     alloc: Global,
     alphabet: &Alphabet,
     net: &Net,
@@ -101,10 +104,14 @@ pub fn told_of_words(
     requires short { All (λ word. length word < 2 ^ 32 - 1) words.now }
     ensures { (project : Project) (name : List ℕ) → FindsUpper alphabet.now net.now project name → IfOk result (λ told. AllZip (IsTold project table.now name) words.now told.items) }
 {
-    let mut told = Vec::new(alloc);
-    'words: for word in words {
-        let one = told_of(alloc, alphabet, net, table, word)?;
-        told.push(one)?;
-    }
-    Ok(told)
+    words
+        .par_iter()
+        .map(
+            |word: &Text| -> Result<Told, AllocError>
+                requires over { IsOverAlphabet alphabet.now net.now }
+                requires short { length word.now < 2 ^ 32 - 1 }
+                ensures { (project : Project) (name : List ℕ) → FindsUpper alphabet.entry.now net.entry.now project name → IfOk result (IsTold project table.entry.now name word.now) }
+            { told_of(alloc, alphabet, net, table, word) },
+        )
+        .collect::<Result<Vec<_>, AllocError>>(rt, alloc)?
 }

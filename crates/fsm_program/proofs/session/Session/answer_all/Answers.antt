@@ -28,4 +28,4 @@ returns-in-Some-clause-answered g c =
     (subst (λ (l : LookUp). Sofar (steps l) tt most_taken (g.I.Source.left c.args.input.now) (g.I.Source.left c.lines.input) (g.O.Sink.held c.args.output.now) (g.O.Sink.held c.lines.output) c.lines.self.lines c.lines.self.outbox) (sym same) c.lines.invariant.sofar) in
     finished (steps c.args.self.look_up) tt most_taken _ _ _ _ _ _ _ _ _ _
     (λ is. let same = c.finish.ensures.failed is in (same.0, ap (λ o. g.O.Sink.held o) same.1)) c.finish.ensures.written c.finish.ensures.bytes
-    (subst (λ (l : LookUp). Turns (steps l) tt most_taken (g.I.Source.left c.args.input.now) (g.I.Source.left c.turn.new.input) (g.O.Sink.held c.args.output.now) (g.O.Sink.held c.turn.new.output) c.turn.new.self.lines c.turn.new.self.outbox (Some c.in-Some.ending)) same turned)
+    (subst (λ (l : LookUp). Turns (steps l) tt most_taken (g.I.Source.left c.args.input.now) (g.I.Source.left c.turns_ahead.new.input) (g.O.Sink.held c.args.output.now) (g.O.Sink.held c.turns_ahead.new.output) c.turns_ahead.new.self.lines c.turns_ahead.new.self.outbox (Some c.in-Some.ending)) same turned)

@@ -1,6 +1,6 @@
 use denote.Param.Send.{sendable}
 use Rattle.editor_session.proofs.Crossing.{version_send, version_sync}
-use Rattle.editor_session.proofs.working.fn.work.join_mut+arg3.Goals as goal
+use Rattle.editor_session.proofs.working.fn.work.join_mut+arg2.Goals as goal
 
 pub answer_beside-requires-send-V : goal.answer_beside-requires-send-V
 answer_beside-requires-send-V g c κs o = let s = version_send in search sendable depth 20

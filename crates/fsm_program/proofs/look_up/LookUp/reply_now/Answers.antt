@@ -7,7 +7,7 @@ use Rattle.fsm_program.specs.Tasks.{RepliesToTextIn}
 use Rattle.fsm_program.proofs.LastByte.{length-without_last}
 use Rattle.fsm_program.proofs.Sending.{sends_as}
 use Rattle.fsm_program.proofs.Tasks.{in_line, in_memory, in_text}
-use Rattle.fsm_program.proofs.look_up.LookUp.reply.Goals as goal
+use Rattle.fsm_program.proofs.look_up.LookUp.reply_now.Goals as goal
 
 pub reply_to_text-requires : goal.reply_to_text-requires
 reply_to_text-requires g c =
