@@ -14,12 +14,12 @@ use Rattle.generated_report.proofs.Nets.{as_many}
 use Rattle.generated_report.proofs.reporting.counts_of.Goals as goal
 
 pub told_of_words-requires-clause-over : goal.told_of_words-requires-clause-over
-told_of_words-requires-clause-over g c =
+told_of_words-requires-clause-over g c κs o =
     subst (λ (net : NetView). IsOverAlphabet c.alphabet.result.now net) (sym c.net.ensures)
     (subst (λ (alphabet : List (Sym × List ℕ)). IsOverAlphabet alphabet c.in_ok-compiled.compiled.net) (sym c.alphabet.ensures) c.in_ok-compiled.ensures.over)
 
 pub told_of_words-requires-clause-short : goal.told_of_words-requires-clause-short
-told_of_words-requires-clause-short g c =
+told_of_words-requires-clause-short g c κs o =
     let few = c.requires in
     subst (λ (words : List (List ℕ)). All (λ word. length word < 2 ^ 32 - 1) words) (sym c.deref.ensures.value)
     (All-weaker (λ word. length word ≤ length c.args.text.now) (λ word. length word < 2 ^ 32 - 1) (λ word h. omega (arith, h, few)) c.in_ok-words.words.items c.in_ok-words.ensures.within)

@@ -12,7 +12,7 @@ pub text_of-requires : goal.text_of-requires
 text_of-requires g c = subst IsUtf8 (sym (c.deref.ensures.value ∙ c.in_ok-text.ensures)) (text_utf8 c.args.stems)
 
 pub counts_of-requires : goal.counts_of-requires
-counts_of-requires g c =
+counts_of-requires g c o =
     subst (λ (text : List ℕ). length text < 2 ^ 32 - 1) (sym (c.text_of.ensures ∙ c.deref.ensures.value ∙ c.in_ok-text.ensures)) (text_short c.args.stems c.requires.few)
 
 pub returns-in_err-ready-clause-error : goal.returns-in_err-ready-clause-error
