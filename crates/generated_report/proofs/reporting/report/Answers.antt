@@ -1,3 +1,4 @@
+use denote.Param.Send.{sendable}
 use Rattle.std.proofs.Common.{◌<◌, ◌-◌, ◌^◌, ℕ, List, length, codes, sym, subst, ◌∙◌}
 use Rattle.std.specs.Str.{IsUtf8}
 use Rattle.project_sources.specs.Sources.{project_in}
@@ -12,8 +13,12 @@ pub text_of-requires : goal.text_of-requires
 text_of-requires g c = subst IsUtf8 (sym (c.deref.ensures.value ∙ c.in_ok-text.ensures)) (text_utf8 c.args.stems)
 
 pub counts_of-requires : goal.counts_of-requires
-counts_of-requires g c o =
-    subst (λ (text : List ℕ). length text < 2 ^ 32 - 1) (sym (c.text_of.ensures ∙ c.deref.ensures.value ∙ c.in_ok-text.ensures)) (text_short c.args.stems c.requires.few)
+counts_of-requires g c =
+    let shared = c.type_bounds.sync-R in
+    (
+      search sendable depth 20,
+      subst (λ (text : List ℕ). length text < 2 ^ 32 - 1) (sym (c.text_of.ensures ∙ c.deref.ensures.value ∙ c.in_ok-text.ensures)) (text_short c.args.stems c.requires.few),
+    )
 
 pub returns-in_err-ready-clause-error : goal.returns-in_err-ready-clause-error
 returns-in_err-ready-clause-error g c =
