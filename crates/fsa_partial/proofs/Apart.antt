@@ -98,10 +98,7 @@ ends_apart {L} m ok classes is s t there_s there_t ne =
     ends k (skip {q = q} h rest) = absurd (no_skip m ok k q h)
 
     never : (k : ℕ) → slice_get m.finals k ≡ Some false → AcceptsFrom m k [] → ⊥
-    never k at h = let clash : Some false ≡ Some true = sym at ∙ ends k h in false≢true (same_bool false true clash)
-
-    same_bool : (x y : Bool) → Some x ≡ Some y → x ≡ y
-    same_bool x y e = same_Some x y e
+    never k at h = let clash : Some false ≡ Some true = sym at ∙ ends k h in false≢true (same_Some false true clash)
 
     by : (x y : Bool) → slice_get m.finals s ≡ Some x → slice_get m.finals t ≡ Some y → AreApart m s t
     by true true at_s at_t = absurd (ne (class_at s true at_s ∙ sym (class_at t true at_t)))

@@ -19,13 +19,20 @@ use std::alloc::{AllocError, Global};
 pub fn is_minimal<L: Letter>(alloc: Global, m: &Fsa<L>, passes: usize) -> Result<bool, AllocError>
     ensures { IfOk result (λ is. IsTrue is → IsMinimal m.now) }
 {
-    let Some(groups) = by_letter(alloc, m.edges())? else {
+    let grouped = by_letter(alloc, m.edges())?;
+    let Some(groups) = grouped else {
         return Ok(false);
     };
     let is_deterministic = leave_apart(alloc, &groups)?;
     let is_reached = are_reached(alloc, m)?;
     let leads_on = lead_on(alloc, m)?;
-    if !is_deterministic || !is_reached || !leads_on {
+    if !is_deterministic {
+        return Ok(false);
+    }
+    if !is_reached {
+        return Ok(false);
+    }
+    if !leads_on {
         return Ok(false);
     }
     are_apart(alloc, m, &groups, passes)
@@ -56,19 +63,21 @@ fn sources_of(alloc: Global, arcs: &[Arc]) -> Result<Vec<usize>, AllocError>
 fn are_reached<L: Letter>(alloc: Global, m: &Fsa<L>) -> Result<bool, AllocError>
     ensures { IfOk result (λ are. IsTrue are → HasNoEpsilonEdge m.now → (s : ℕ) → s < length m.now.finals → (w : List L) × Leads m.now 0 w s) }
 {
+    let count = m.states();
     let reached = reached_states(alloc, m)?;
-    Ok(has_all(&reached, m.states()))
+    Ok(has_all(&reached, count))
 }
 
 /// Whether each state leads to a final one, or there is but one state.
 fn lead_on<L: Letter>(alloc: Global, m: &Fsa<L>) -> Result<bool, AllocError>
     ensures { IfOk result (λ lead. IsTrue lead → (length m.now.finals ≡ 1) ⊎ AreLive m.now) }
 {
-    if m.states() == 1 {
+    let count = m.states();
+    if count == 1 {
         return Ok(true);
     }
     let leading = leading_states(alloc, m)?;
-    Ok(has_all(&leading, m.states()))
+    Ok(has_all(&leading, count))
 }
 
 /// Whether any two states are apart, as far as so many passes find it.
@@ -81,8 +90,9 @@ fn are_apart<L: Letter>(
     requires { AreGroups m.now.edges groups.now }
     ensures { IfOk result (λ are. IsTrue are → IsDeterministic m.now → AreLive m.now → (s t : ℕ) → s < length m.now.finals → t < length m.now.finals → s ≢ t → AreApart m.now s t) }
 {
-    match refined(alloc, m, groups, passes)? {
-        Some(classes) => are_distinct(alloc, &classes),
-        None => Ok(false),
-    }
+    let found = refined(alloc, m, groups, passes)?;
+    let Some(classes) = found else {
+        return Ok(false);
+    };
+    are_distinct(alloc, &classes)
 }

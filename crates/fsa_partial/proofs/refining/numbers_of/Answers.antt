@@ -1,4 +1,4 @@
-use Rattle.std.proofs.Common.{◌≡◌, ◌<◌, ◌+◌, ◌++◌, [], ◌∷◌, Some, length, get_or, take, sym, subst, arith}
+use Rattle.std.proofs.Common.{◌≡◌, ◌<◌, ◌+◌, ◌%◌, ◌^◌, refl, ◌++◌, [], ◌∷◌, Some, length, get_or, take, sym, subst, arith}
 use Rattle.std.specs.List.{slice_get}
 use Rattle.std.proofs.lemmas.List.{take_all}
 use Rattle.std.proofs.lemmas.List.Elements.{Contains-get_or}
@@ -34,8 +34,8 @@ loop-arc-preserved c =
     let new = c.number_of.new.self in
     let more = c.push.new.self.items in
     subst (λ xs. AreNumbered classes targets first xs new more) (sym front)
-    (numbered_more classes targets first (take i arcs) c.loop-arc.pairs new c.loop-arc.numbers.items more a c.pair_of.result c.in_ok-number.number _ c.loop-arc.invariant
-    c.in_ok-number.ensures.kept c.in_ok-number.ensures.once c.in_ok-number.ensures.number c.pair_of.ensures.from c.pair_of.ensures.to c.wrapping_add.ensures c.in_ok-push.ensures.items)
+    (numbered_more classes targets first (take i arcs) c.loop-arc.pairs new c.loop-arc.numbers.items more a c.pair_of.result c.in_ok-number.number ((first + c.in_ok-number.number) % 2 ^ 64) c.loop-arc.invariant
+    c.in_ok-number.ensures.kept c.in_ok-number.ensures.once c.in_ok-number.ensures.number c.pair_of.ensures.from c.pair_of.ensures.to refl c.in_ok-push.ensures.items)
 
 pub returns : goal.returns
 returns c =
@@ -44,4 +44,4 @@ returns c =
     (subst (λ xs. AreNumbered c.args.classes.now c.args.targets.now c.args.first xs c.loop-arc.pairs c.loop-arc.numbers.items) (take_all c.loop-arc.arc-index arcs c.loop-arc-test.false) c.loop-arc.invariant)
 
 pub loop-arc-init : goal.loop-arc-init
-loop-arc-init c = numbered_none c.args.classes.now c.args.targets.now c.args.first c.args.arcs.now c.args.pairs.now c.requires.empty
+loop-arc-init c = rw c.in_ok-numbers.ensures.items (numbered_none c.args.classes.now c.args.targets.now c.args.first c.args.arcs.now c.args.pairs.now c.requires.empty)

@@ -22,7 +22,7 @@ loop-arcs-preserved c =
     let front : take (i + 1) groups ≡ take i groups ++ v ∷ [] = take_more groups i v c.loop-arcs-test.true ∙ ap (λ z. take i groups ++ z ∷ []) (sym c.arcs-item.is) in
     let now = c.loop-arcs.classes.items in
     let new = c.split_by.new.classes.items in
-    let r = rw c.deref.ensures.value at c.in_ok-split_by.ensures in
+    let r = rw c.deref.ensures.value at c.in_ok-next.ensures.numbers in
     record {
       count = r.2.count ∙ c.loop-arcs.invariant.count;
       split = subst (λ gs. IsSplit c.args.targets.now gs c.args.start.now new) (sym front)
