@@ -1,5 +1,5 @@
 -- States that are apart, since a letter tells them.
-use Rattle.std.proofs.Common.{◌≡◌, ◌≢◌, ℕ, zero, suc, ◌<◌, ◌⊎◌, ◌↔◌, List, [], ◌∷◌, Bool, true, false, Option, None, Some, length, map, refl, sym, subst, ap, inl, inr, arith, ◌∙◌, if◌then◌else◌}
+use Rattle.std.proofs.Common.{◌≡◌, ◌≢◌, ℕ, zero, suc, ◌<◌, List, [], ◌∷◌, Bool, true, false, Some, length, map, refl, sym, subst, ap, inl, inr, arith, ◌∙◌, if◌then◌else◌}
 use Rattle.std.specs.Prelude.{Vec}
 use Rattle.std.specs.Global.{Global}
 use Rattle.std.specs.List.{slice_get, Contains}
@@ -13,7 +13,7 @@ use Rattle.fsa.specs.declared.automaton.Edge.{Edge}
 use Rattle.fsa_partial.specs.declared.grouping.Arc.{Arc}
 use Rattle.fsa_partial.specs.Groups.{AreGroups}
 use Rattle.fsa_partial.specs.Minimal.{IsDeterministic, AreApart}
-use Rattle.fsa_partial.specs.Splitting.{AreBelow, Leaves, AreTold, IsSplit, AreLive, ClassesAreApart}
+use Rattle.fsa_partial.specs.Splitting.{AreBelow, AreTold, IsSplit, AreLive, ClassesAreApart}
 use Rattle.fsa_partial.proofs.Fewest.{no_skip, read_back}
 
 pub apart_back : {L : Type 0} (m : Automaton L) (s t : ℕ) → AreApart m s t → AreApart m t s

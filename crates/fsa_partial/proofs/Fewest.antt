@@ -1,13 +1,12 @@
 -- A minimal automaton has the fewest states: the words by which its states are reached lead to different states of
 -- each deterministic automaton of the language.
-use Rattle.std.proofs.Common.{◌≡◌, ◌≢◌, ℕ, zero, suc, ◌+◌, ◌<◌, ◌≤◌, ◌⊎◌, ◌↔◌, List, [], ◌∷◌, ◌++◌, Some, None, true, length, cond, eqb, refl, sym, subst, inl, inr, arith}
+use Rattle.std.proofs.Common.{◌≡◌, ◌≢◌, ℕ, zero, suc, ◌<◌, ◌≤◌, ◌⊎◌, ◌↔◌, List, [], ◌∷◌, ◌++◌, Some, None, length, cond, eqb, sym, subst, inl, inr, arith}
 use Rattle.std.specs.List.{Contains}
 use Rattle.std.proofs.lemmas.Bool.{cases_lt}
 use Rattle.std.proofs.lemmas.Bool.Decides.{nat_tests}
 use Rattle.std.proofs.lemmas.Option.{none-some}
 use Rattle.fsa.specs.Automaton.{Automaton, IsWellFormed}
-use Rattle.fsa.specs.Language.{Accepts, AcceptsFrom, stop, read, skip}
-use Rattle.fsa.specs.declared.automaton.Edge.{Edge}
+use Rattle.fsa.specs.Language.{Accepts, AcceptsFrom, read, skip}
 use Rattle.fsa_rational.proofs.Walks.{AcceptsFrom-within}
 use Rattle.fsa_partial.specs.Minimal.{IsDeterministic, Leads, here, along, AreApart, IsMinimal, HasFewest}
 

@@ -1,5 +1,5 @@
 -- What a search finds, forwards from the start and backwards from the final states, and what is minimal then.
-use Rattle.std.proofs.Common.{◌≡◌, ◌≢◌, ℕ, ◌+◌, ◌<◌, ◌≤◌, ◌⊎◌, List, [], ◌∷◌, ◌++◌, Bool, true, false, Option, None, Some, length, map, refl, sym, subst, ap, inl, inr, zero, suc, arith, ◌∙◌}
+use Rattle.std.proofs.Common.{◌≡◌, ◌≢◌, ℕ, ◌<◌, ◌⊎◌, List, [], ◌∷◌, ◌++◌, Option, None, Some, length, map, refl, sym, subst, ap, inl, inr, zero, suc, arith, ◌∙◌}
 use Rattle.std.specs.Prelude.{Vec}
 use Rattle.std.specs.Global.{Global}
 use Rattle.std.specs.List.{slice_get, Contains}
@@ -12,7 +12,7 @@ use Rattle.word_relations.proofs.Places.{slice_get_from_Contains, same_at, Conta
 use Rattle.fsa.specs.Automaton.{Automaton, IsWellFormed, IsFinal, HasNoEpsilonEdge}
 use Rattle.fsa.specs.Language.{AcceptsFrom, stop, read, skip}
 use Rattle.fsa.specs.declared.automaton.Edge.{Edge}
-use Rattle.fsa_explore.specs.Marks.{Marks, Adds, Grows}
+use Rattle.fsa_explore.specs.Marks.{Marks, Grows}
 use Rattle.fsa_explore.specs.Reaches.{Reaches, IsReached, here, along}
 use Rattle.fsa_rational.proofs.Walks.{same_elements}
 use Rattle.fsa_partial.specs.declared.grouping.Arc.{Arc}

@@ -1,17 +1,16 @@
 -- Classes that are split by the edges of a letter.
-use Rattle.std.proofs.Common.{◌≡◌, ◌≢◌, ℕ, zero, suc, ◌+◌, ◌<◌, ◌≤◌, ◌%◌, ◌^◌, ◌⊎◌, ◌↔◌, List, [], ◌∷◌, ◌++◌, Bool, true, false, Option, None, Some, length, set, take, refl, sym, subst, ap, inl, inr, arith, eq-eqb, ◌∙◌}
+use Rattle.std.proofs.Common.{◌≡◌, ◌≢◌, ℕ, zero, suc, ◌+◌, ◌<◌, ◌%◌, ◌^◌, ◌⊎◌, List, [], ◌∷◌, ◌++◌, Bool, true, Option, None, Some, length, set, take, refl, sym, subst, ap, inl, inr, arith, eq-eqb, ◌∙◌}
 use Rattle.std.specs.Prelude.{Vec, nat_eq, ◌&&◌}
 use Rattle.std.specs.Global.{Global}
 use Rattle.std.specs.List.{slice_get, Contains}
-use Rattle.std.proofs.lemmas.List.{length-set, length_push, take_all}
+use Rattle.std.proofs.lemmas.List.{length-set, length_push}
 use Rattle.std.proofs.lemmas.List.Elements.{Contains-push, Contains-push_cases, Contains-append_left}
 use Rattle.std.proofs.lemmas.Option.{same_Some, slice_get_within, none-some}
 use Rattle.word_relations.specs.Words.{IsDistinct}
-use Rattle.word_relations.proofs.Places.{slice_get-append_left, slice_get-append_cases, slice_get-push, slice_get-set_same, slice_get-set_other, same_at, Contains-from_slice_get, slice_get_from_Contains, take_more-slice_get}
-use Rattle.word_relations.proofs.Members.{Contains-nil_cases}
+use Rattle.word_relations.proofs.Places.{slice_get-append_left, slice_get-append_cases, slice_get-push, slice_get-set_same, slice_get-set_other, Contains-from_slice_get}
 use Rattle.fsa_partial.specs.declared.grouping.Arc.{Arc}
 use Rattle.fsa_partial.specs.declared.pairs.ClassPair.{ClassPair}
-use Rattle.fsa_partial.specs.Splitting.{AreByClasses, Leaves, IsMoved, AreTold, IsSplit}
+use Rattle.fsa_partial.specs.Splitting.{AreByClasses, IsMoved, AreTold, IsSplit}
 use Rattle.fsa_partial.proofs.Fewest.{same_or_not}
 use Rattle.fsa_partial.proofs.Grouped.{same_arc, none_taken}
 
@@ -83,9 +82,11 @@ module _ (classes targets : List ℕ) (first : ℕ) where
       one : (i j : ℕ) (b : Arc) → i ≡ j + length arcs → slice_get (a ∷ []) j ≡ Some b → (m : ℕ) × (slice_get more i ≡ Some m) × HasPair classes targets first new b m
       one i zero b e last =
           let this : length numbers ≡ i = let c = are.count in omega arith in
-          let is_b : a ≡ b = same_Some a b last in
-          (n, subst (λ ps. slice_get ps i ≡ Some n) (sym pushed) (subst (λ l. slice_get (numbers ++ n ∷ []) l ≡ Some n) this (slice_get-push numbers n)),
-          subst (λ d. HasPair classes targets first new d n) is_b (record { pair = p; place = k; at = at; from = from; to = to; is = is }))
+          let is_b : a ≡ b = same_Some a b last in (
+            n,
+            subst (λ ps. slice_get ps i ≡ Some n) (sym pushed) (subst (λ l. slice_get (numbers ++ n ∷ []) l ≡ Some n) this (slice_get-push numbers n)),
+            subst (λ d. HasPair classes targets first new d n) is_b (record { pair = p; place = k; at = at; from = from; to = to; is = is }),
+          )
       one i (suc j) b e last = absurd (none-some b last)
 
   pub numbered_all : (arcs : List Arc) (pairs : List ClassPair) (numbers : List ℕ) → AreNumbered classes targets first arcs pairs numbers → AreByClasses classes targets arcs numbers

@@ -1,5 +1,5 @@
 -- The edges of an automaton by their letters.
-use Rattle.std.specs.Prelude.{◌≡◌, ◌<◌, ◌↔◌, ℕ, List, Option, Some, None, Contains, slice_get, length}
+use Rattle.std.specs.Prelude.{◌≡◌, ◌<◌, ◌↔◌, ℕ, List, Option, Some, Contains, slice_get, length}
 use Rattle.std.specs.Prelude.{Vec}
 use Rattle.std.specs.Global.{Global}
 use Rattle.fsa.specs.declared.automaton.Edge.{Edge}

@@ -4,7 +4,6 @@
 use Rattle.std.specs.Prelude.{◌≡◌, ◌≢◌, ◌<◌, ◌≤◌, ◌↔◌, ◌⊎◌, ℕ, List, [], ◌∷◌, Some, Contains, length}
 use Rattle.fsa.specs.Automaton.{Automaton, IsWellFormed, HasNoEpsilonEdge}
 use Rattle.fsa.specs.Language.{Accepts, AcceptsFrom}
-use Rattle.fsa.specs.declared.automaton.Edge.{Edge}
 
 -- each edge reads a letter, and a letter leads from a state to one state at most
 pub record IsDeterministic {L : Type 0} (m : Automaton L) : Type 0 where

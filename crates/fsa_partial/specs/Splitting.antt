@@ -6,7 +6,7 @@ use Rattle.std.specs.Global.{Global}
 use Rattle.fsa.specs.Automaton.{Automaton}
 use Rattle.fsa.specs.Language.{AcceptsFrom}
 use Rattle.fsa_partial.specs.declared.grouping.Arc.{Arc}
-use Rattle.fsa_partial.specs.Minimal.{AreApart, IsDeterministic}
+use Rattle.fsa_partial.specs.Minimal.{AreApart}
 
 -- each leaves and enters a state below the bound
 abbrev pub AreBelow : List Arc → ℕ → Type 0

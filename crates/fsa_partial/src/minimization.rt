@@ -17,7 +17,10 @@ const STEPS_FOR_AN_EDGE: usize = 16;
 /// How many steps may be taken at least.
 const STEPS: usize = 262_144;
 
-/// The automaton of the same language with the fewest states of all deterministic ones.
+/// The automaton of the same language with the fewest states of all deterministic ones. None where it takes many steps
+/// to make the given one deterministic, which a deterministic one never does, or more than so many passes to tell the states
+/// apart, or where not all states that go on alike were merged. Takes time in proportion to the edges for each pass,
+/// times the logarithm of their number.
 pub fn fewest_states<L: Letter>(
     alloc: Global,
     a: &Fsa<L>,

@@ -6,9 +6,8 @@ use Rattle.fsa_partial.specs.declared.grouping.Arc.{Arc}
 use Rattle.std.specs.BTreeMap.{get}
 use Rattle.std.proofs.lemmas.List.{take_more, take_all}
 use Rattle.std.proofs.lemmas.Option.{slice_get_read}
-use Rattle.fsa.specs.declared.automaton.Edge.{Edge}
 use Rattle.fsa_partial.specs.Groups.{IsGrouping}
-use Rattle.fsa_partial.proofs.Grouped.{grouping_none, grouping_push, groups_all}
+use Rattle.fsa_partial.proofs.Grouped.{grouping_push, groups_all}
 use Rattle.fsa_partial.proofs.grouping.by_letter.Goals as goal
 
 pub loop-edge-preserved : goal.loop-edge-preserved

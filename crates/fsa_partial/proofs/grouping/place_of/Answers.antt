@@ -4,7 +4,6 @@ use Rattle.std.specs.Option.{option_copied}
 use Rattle.std.specs.Ordering.{is_eq}
 use Rattle.std.proofs.lemmas.Cmp.{tied_itself}
 use Rattle.fsa_partial.proofs.Grouped.{grouping_new, is_equal}
-use Rattle.fsa_partial.specs.Groups.{IsGrouping}
 use Rattle.fsa_partial.proofs.grouping.place_of.Goals as goal
 
 pub returns-clause-groups : goal.returns-clause-groups

@@ -1,6 +1,5 @@
-use Rattle.std.proofs.Common.{◌≡◌, length, map, ap, sym, subst, if◌then◌else◌, ◌∙◌}
+use Rattle.std.proofs.Common.{length, ap, ◌∙◌}
 use Rattle.std.proofs.lemmas.List.{length-map}
-use Rattle.fsa_partial.specs.Splitting.{IsSplit, ClassesAreApart}
 use Rattle.fsa_partial.proofs.Apart.{split_apart, groups_below, ends_apart}
 use Rattle.fsa_partial.proofs.refining.refined.Goals as goal
 

@@ -1,7 +1,7 @@
 use Rattle.std.proofs.Common.{◌≡◌, ℕ, Some, false, true, ap, sym, subst, ◌∙◌}
 use Rattle.std.specs.List.{slice_get}
 use Rattle.std.proofs.lemmas.Option.{slice_get-get_or}
-use Rattle.fsa_explore.proofs.Added.{Grows-none, Grows-weaker, Grows-then}
+use Rattle.fsa_explore.proofs.Added.{Grows-none, Grows-then}
 use Rattle.fsa_partial.proofs.search.add_finals.Goals as goal
 use Rattle.fsa_partial.proofs.search.add_finals.Goals.{then-is_final+in_ok-add, else-is_final}
 

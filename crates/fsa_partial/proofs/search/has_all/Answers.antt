@@ -1,4 +1,4 @@
-use Rattle.std.proofs.Common.{◌≡◌, ◌<◌, Contains, sym, subst, inl, inr, arith}
+use Rattle.std.proofs.Common.{◌≡◌, Contains, sym, subst, inl, inr, arith}
 use Rattle.std.proofs.lemmas.Bool.{cases_lt}
 use Rattle.fsa_partial.proofs.search.has_all.Goals as goal
 

@@ -1,4 +1,4 @@
-use Rattle.std.proofs.Common.{◌≡◌, ◌∷◌, [], length, map, ap, sym, subst, ◌∙◌}
+use Rattle.std.proofs.Common.{◌≡◌, length, ap, ◌∙◌}
 use Rattle.fsa_partial.proofs.Searched.{turned_within, leads}
 use Rattle.fsa_partial.proofs.search.leading_states.Goals as goal
 

@@ -1,4 +1,4 @@
-use Rattle.std.proofs.Common.{◌≡◌, ◌++◌, ◌∷◌, [], Contains, length, map, ap, sym, subst, ◌∙◌}
+use Rattle.std.proofs.Common.{◌≡◌, ◌++◌, ◌∷◌, [], Contains, length, ap, subst, ◌∙◌}
 use Rattle.word_relations.proofs.Members.{Contains-nil_cases}
 use Rattle.fsa_partial.proofs.Searched.{bare_within, led}
 use Rattle.fsa_partial.proofs.search.reached_states.Goals as goal

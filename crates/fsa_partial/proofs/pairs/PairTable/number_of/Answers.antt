@@ -1,4 +1,4 @@
-use Rattle.std.proofs.Common.{◌≡◌, List, true, subst}
+use Rattle.std.proofs.Common.{List, subst}
 use Rattle.std.proofs.lemmas.List.{map-id}
 use Rattle.word_relations.specs.Words.{IsDistinct}
 use Rattle.fsm_base.proofs.TableLemmas.{IsDistinct-map}
