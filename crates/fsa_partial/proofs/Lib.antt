@@ -1,0 +1,5 @@
+pub mod Fewest
+pub mod Grouped
+pub mod Splits
+pub mod Apart
+pub mod Searched

@@ -1,0 +1,4 @@
+pub mod Minimal
+pub mod Groups
+pub mod Splitting
+pub mod Search
