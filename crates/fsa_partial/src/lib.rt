@@ -3,7 +3,7 @@
 //! 4.4; Sakarovitch, Elements of Automata Theory, 2009, section I.1).
 //!
 //! - [`fewest_states`]: the same language, by the fewest states.
-//! - `checking`: whether an automaton is minimal. A minimal one has the fewest states, since the words by which its
+//! - [`is_minimal`]: whether an automaton is minimal. A minimal one has the fewest states, since the words by which its
 //!   states are reached lead to different states of each deterministic automaton of the language
 //!   (`specs/Minimal.antt`).
 //! - `refining`: splits the states into classes, as long as a letter tells two states of a class apart. `pairs`:
@@ -23,4 +23,5 @@ mod pairs;
 mod refining;
 mod search;
 
+pub use checking::is_minimal;
 pub use minimization::fewest_states;

@@ -4,7 +4,7 @@
 //!
 //! - [`automata`]: automata over letters of any kind (`fsa::Fsa`), complete ones (`Dfa`), and languages over a list of letters
 //!   (`Lang`); their union, concatenation, repetition, intersection, difference, complement, a shortest word, the automaton with the
-//!   fewest states.
+//!   fewest states, complete (`minimal`) or without states that lead nowhere (`fewest_states`).
 //! - [`transducers`]: relations between words of symbols: composition, cross product, inverse, the two sides; and look-up in them, once
 //!   they are made ready as a `Net`.
 //! - [`projects`]: the files of a project (`Sources`), its first version (`load`), edits (`edit`), and the replies to words.

@@ -2,7 +2,11 @@
 //! program worked_rows prints what comes of it.
 #![tactic(auto)]
 
-use fsm_library::automata::{Dfa, Lang, Sym, minimal, one_letter, shortest};
+ghost use Rattle.std.specs.Prelude.{◌≡◌};
+
+use fsm_library::automata::{
+    Dfa, Edge, Fsa, Lang, Sym, fewest_states, minimal, one_letter, shortest,
+};
 use fsm_library::projects::{Direction, Sources, StoreError, load, reply_to_word};
 use std::alloc::{AllocError, Global};
 
@@ -41,6 +45,28 @@ fn languages(alloc: Global) -> Result<String, AllocError> {
     )
 }
 
+/// The edge between two states that reads the symbol with this number.
+fn edge(from: usize, symbol: u32, to: usize) -> Edge<Sym>
+    ensures { (result.from ≡ from) × (result.to ≡ to) }
+{
+    Edge {
+        from,
+        letter: Some(Sym(symbol)),
+        to,
+    }
+}
+
+/// How many states the smallest automaton has of two words that end alike, of which each was given a path of its own.
+fn common_ends(alloc: Global) -> Result<String, AllocError> {
+    let finals = vec![in alloc; false, false, true, false, true]?;
+    let edges = vec![in alloc; edge(0, 0, 1), edge(1, 2, 2), edge(0, 1, 3), edge(3, 2, 4)]?;
+    let paths = Fsa::of(finals, edges);
+    match fewest_states(alloc, &paths, 10)? {
+        Some(small) => format!(in alloc; "{} states of {}", small.states(), paths.states()),
+        None => String::from_str(alloc, "not told"),
+    }
+}
+
 /// The replies to two words, one looked up upwards and one downwards.
 fn replies(alloc: Global) -> Result<Vec<u8>, StoreError> {
     let mut sources = Sources::new(alloc);
@@ -62,6 +88,8 @@ pub fn examples(alloc: Global) -> Result<String, AllocError> {
     let mut told = automata(alloc)?;
     told.push('\n')?;
     told.push_str(languages(alloc)?.as_str())?;
+    told.push('\n')?;
+    told.push_str(common_ends(alloc)?.as_str())?;
     told.push('\n')?;
     match replies(alloc) {
         Ok(bytes) => told.push_str(std::str::from_utf8(&bytes).unwrap_or(""))?,

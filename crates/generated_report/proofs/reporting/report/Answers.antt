@@ -14,8 +14,7 @@ text_of-requires g c = subst IsUtf8 (sym (c.deref.ensures.value ∙ c.in_ok-text
 
 pub counts_of-requires : goal.counts_of-requires
 counts_of-requires g c =
-    let shared = c.type_bounds.sync-R in
-    (
+    let shared = c.type_bounds.sync-R in (
       search sendable depth 20,
       subst (λ (text : List ℕ). length text < 2 ^ 32 - 1) (sym (c.text_of.ensures ∙ c.deref.ensures.value ∙ c.in_ok-text.ensures)) (text_short c.args.stems c.requires.few),
     )
